@@ -1,0 +1,250 @@
+-- Demand 1 and the numbers: a refusal leaves what was lent, and carries a number of its table. By cases on each reply's tests.
+use Prim.Native.Nat.{ℕ, _<_, _≤_}
+use mathlib.Core.Bool.{Bool, false, true, _||_, not, _&&_}
+use mathlib.Core.List.{List, _∷_, [], _++_}
+use mathlib.Core.Path.{_≡_, sym, _∙_, ap, refl, subst}
+use native.Mathlib.Nat.{suc-ne-zero, lt-irrefl}
+use lib.Dec.{ltb, eqb, leb}
+use lib.Ieee.{Float}
+use lib.ListN.{length, drop, getD}
+use lib.Seq.{length-front, length-take-le, drop-append-seam}
+use Rattle.rules.specs.Limits.{Limits}
+use Rattle.rules.specs.Lists.{member, if_then_else_, all}
+use Rattle.rules.specs.Table.{elementCount, Table, rank, boundary}
+use Rattle.rules.specs.Memory.{Memory, soundMemory, decode, encode, rightSize}
+use Rattle.rules.specs.Cube.{cube, radiusFits}
+use Rattle.rules.specs.Cut.{cut, refused, Outcome, done}
+use Rattle.rules.specs.Questions.{Asked, no-answer, answer, subElements, withRank, vertexSet, greatestCommon, edgesInOrder, eachOnce, walk, firstEdge, pairs, primordialFacet}
+use Rattle.rules.specs.Replies.{cutReply, dividerFits, dividerOf, cutNumber, cubeReply, listed, listNumber, asked, inNumbers, subElementsReply, withRankReply, vertexSetReply, greatestCommonReply, edgesInOrderReply, primordialFacetReply, facetAnswer, isSoundReply}
+use Rattle.rules.specs.Promises.{RefusedCutLeaves, CutNumbers, RefusedCubeLeaves, CubeNumbers, ListQuestion, subElementsOf, subElementsWithRank, vertexSetOf, greatestCommonOf, edgesInOrderOf, listReply, RefusedListLeaves, ListFillsFront, listRefusals, ListNumbers, FacetNumbers, SoundNumbers}
+use Rattle.rules.specs.declared.CutReply.{CutReply}
+use Rattle.rules.specs.declared.CutReply.the-variants.{Refused, Answered}
+use Rattle.rules.specs.declared.ElementCutOutput.{ElementCutOutput}
+use Rattle.rules.specs.declared.FacetReply.the-variants.{Refused as FacetRefused}
+use Rattle.rules.specs.declared.Hyperplane.{Hyperplane}
+use Rattle.rules.specs.declared.ListReply.{ListReply}
+use Rattle.rules.specs.declared.ListReply.the-variants.{Listed, Refused as ListRefused}
+use Rattle.rules.proofs.Built.{RuleNumber, refused-number}
+use Rattle.rules.proofs.Laws.{holds, le-test, either}
+use Rattle.rules.proofs.OneCall.{reply-by, replyBy}
+
+-- ---- the cut
+
+module _ (L : Limits) (h : Hyperplane) (i o : Bool) (root : ℕ) (m : Memory) where
+  pub refused-leaves : (m′ : Memory) (n : ℕ) → cutReply L h i o root m ≡ (Refused n, m′) → m′ ≡ m
+  refused-leaves m′ n e =
+      go (soundMemory L m) (ltb root (elementCount (decode L m))) (dividerFits L (decode L m .dimension) h)
+      (cut L (dividerOf (decode L m .dimension) h) i o root (decode L m)) (sym (reply-by L h i o root m) ∙ e)
+    where
+      go : (s u f : Bool) (r : Outcome ElementCutOutput) → replyBy L h i o root m s u f r ≡ (Refused n, m′) → m′ ≡ m
+      go false u f r q = sym (ap (λ (x : CutReply × Memory). x .1) q)
+      go true false f r q = sym (ap (λ (x : CutReply × Memory). x .1) q)
+      go true true false r q = sym (ap (λ (x : CutReply × Memory). x .1) q)
+      go true true true (refused k) q = sym (ap (λ (x : CutReply × Memory). x .1) q)
+      go true true true (done b t) q = let p : Answered b ≡ Refused n = ap (λ (x : CutReply × Memory). x .0) q in let z : _≡_ {A = ℕ} 0 1 = cc in absurd (suc-ne-zero 0 (sym z))
+
+pub refused-cut-leaves : (L : Limits) → RefusedCutLeaves L
+refused-cut-leaves L h i o root m = go (cutReply L h i o root m .0) (cutReply L h i o root m .1) refl
+  where
+    go : (r : CutReply) (m′ : Memory) → cutReply L h i o root m ≡ (r, m′) → 0 < cutNumber r → m′ ≡ m
+    go (Refused n) m′ e k = refused-leaves L h i o root m m′ n e
+    go (Answered a) m′ e k = absurd (lt-irrefl 0 k)
+
+pub cut-numbers : (L : Limits) → CutNumbers L
+cut-numbers L h i o root m n e =
+    go (soundMemory L m) (ltb root (elementCount (decode L m))) (dividerFits L (decode L m .dimension) h)
+    (cut L (dividerOf (decode L m .dimension) h) i o root (decode L m)) refl (ap (λ (x : CutReply × Memory). x .0) (sym (reply-by L h i o root m)) ∙ e)
+  where
+    numbers : List ℕ
+    numbers = 3 ∷ 4 ∷ 5 ∷ 7 ∷ 8 ∷ 9 ∷ 10 ∷ 11 ∷ []
+
+    is : (k : ℕ) → member k numbers ≡ true → Refused k ≡ Refused n → member n numbers ≡ true
+    is k h q = let p : k ≡ n = cc in subst (λ (j : ℕ). member j numbers ≡ true) p h
+
+    rule : (a b c : Bool) (k : ℕ) → RuleNumber k → (a || (b || (c || member k (7 ∷ 8 ∷ 9 ∷ 10 ∷ 11 ∷ [])))) ≡ true
+    rule true b c k h = refl
+    rule false true c k h = refl
+    rule false false true k h = refl
+    rule false false false k h = holds (member k (7 ∷ 8 ∷ 9 ∷ 10 ∷ 11 ∷ [])) h
+
+    go : (s u f : Bool) (r : Outcome ElementCutOutput) → cut L (dividerOf (decode L m .dimension) h) i o root (decode L m) ≡ r
+        → replyBy L h i o root m s u f r .0 ≡ Refused n → member n numbers ≡ true
+    go false u f r p q = is 3 refl q
+    go true false f r p q = is 4 refl q
+    go true true false r p q = is 5 refl q
+    go true true true (refused k) p q =
+        is k (rule (eqb k 3) (eqb k 4) (eqb k 5) k (refused-number L (dividerOf (decode L m .dimension) h) i o root (decode L m) k p)) q
+    go true true true (done b t) p q = let z : _≡_ {A = ℕ} 0 1 = cc in absurd (suc-ne-zero 0 (sym z))
+
+-- ---- the cube
+
+module _ (L : Limits) (d : ℕ) (radius : Float) (m : Memory) where
+  abbrev pub cubeBy : Bool → Bool → Bool → ℕ × Memory
+  cubeBy p q s = if not p then (1, m) else if not q then (2, m) else if not s then (3, m) else (0, encode L (cube d radius))
+
+  pub cube-by : cubeReply L d radius m ≡ cubeBy (leb 1 d && leb d (L .dimensions)) (radiusFits radius) (rightSize L m)
+  unfolding cubeReply
+  cube-by = refl
+
+pub refused-cube-leaves : (L : Limits) → RefusedCubeLeaves L
+refused-cube-leaves L d radius m k =
+    ap (λ (x : ℕ × Memory). x .1) (cube-by L d radius m)
+    ∙ go (leb 1 d && leb d (L .dimensions)) (radiusFits radius) (rightSize L m) (subst (λ (x : ℕ × Memory). 0 < x .0) (cube-by L d radius m) k)
+  where
+    go : (p q s : Bool) → 0 < cubeBy L d radius m p q s .0 → cubeBy L d radius m p q s .1 ≡ m
+    go false q s l = refl
+    go true false s l = refl
+    go true true false l = refl
+    go true true true l = absurd (lt-irrefl 0 l)
+
+pub cube-numbers : (L : Limits) → CubeNumbers L
+cube-numbers L d radius m =
+    subst (λ (x : ℕ × Memory). member (x .0) (0 ∷ 1 ∷ 2 ∷ 3 ∷ []) ≡ true) (sym (cube-by L d radius m))
+    (go (leb 1 d && leb d (L .dimensions)) (radiusFits radius) (rightSize L m))
+  where
+    go : (p q s : Bool) → member (cubeBy L d radius m p q s .0) (0 ∷ 1 ∷ 2 ∷ 3 ∷ []) ≡ true
+    go false q s = refl
+    go true false s = refl
+    go true true false = refl
+    go true true true = refl
+
+-- ---- the questions
+
+-- a list and its room, by whether it fits
+abbrev listedBy : List ℕ → List ℕ → Bool → ListReply × List ℕ
+listedBy xs room b = if b then (Listed (length xs), xs ++ drop (length xs) room) else (ListRefused 12, room)
+
+-- a refused question leaves the list room
+pub listed-refused : (a : Asked (List ℕ)) (room : List ℕ) → 0 < listNumber (listed a room .0) → listed a room .1 ≡ room
+listed-refused (no-answer n) room k = refl
+listed-refused (answer xs) room k = go (leb (length xs) (length room)) k
+  where
+    go : (b : Bool) → 0 < listNumber (listedBy xs room b .0) → listedBy xs room b .1 ≡ room
+    go true l = absurd (lt-irrefl 0 l)
+    go false l = refl
+
+same-rest : (xs room : List ℕ) → length xs ≤ length room
+    → (length (xs ++ drop (length xs) room) ≡ length room) × (drop (length xs) (xs ++ drop (length xs) room) ≡ drop (length xs) room)
+same-rest xs room h = (length-front room xs (length xs) (sym (length-take-le (length xs) room h)), drop-append-seam xs (drop (length xs) room))
+
+-- a list done fills the front
+pub listed-fills : (a : Asked (List ℕ)) (room filled : List ℕ) (n : ℕ) → listed a room ≡ (Listed n, filled)
+    → (n ≤ length room) × (length filled ≡ length room) × (drop n filled ≡ drop n room)
+listed-fills (no-answer k) room filled n e =
+    let p : ListRefused k ≡ Listed n = ap (λ (x : ListReply × List ℕ). x .0) e in let z : _≡_ {A = ℕ} 0 1 = cc in absurd (suc-ne-zero 0 (sym z))
+listed-fills (answer xs) room filled n e = go (leb (length xs) (length room)) refl e
+  where
+    Filled : ℕ → List ℕ → Type 0
+    Filled k out = (k ≤ length room) × (length out ≡ length room) × (drop k out ≡ drop k room)
+
+    go : (b : Bool) → leb (length xs) (length room) ≡ b → listedBy xs room b ≡ (Listed n, filled) → Filled n filled
+    go true t q =
+        let l = le-test (length xs) (length room) t in
+        let p : Listed (length xs) ≡ Listed n = ap (λ (x : ListReply × List ℕ). x .0) q in
+        let k : length xs ≡ n = cc in
+        subst (λ (j : ℕ). Filled j filled) k
+        (subst (Filled (length xs)) (ap (λ (x : ListReply × List ℕ). x .1) q) (l, same-rest xs room l .0, same-rest xs room l .1))
+    go false t q =
+        let p : ListRefused 12 ≡ Listed n = ap (λ (x : ListReply × List ℕ). x .0) q in let z : _≡_ {A = ℕ} 0 1 = cc in absurd (suc-ne-zero 0 (sym z))
+
+-- every such reply is what `listed` makes of an answer
+pub list-answer : Limits → ListQuestion → Memory → Asked (List ℕ)
+list-answer L (subElementsOf e) m = asked L m (e ∷ []) (answer (subElements (decode L m) e))
+list-answer L (subElementsWithRank k e) m = asked L m (e ∷ []) (answer (withRank (decode L m) k e))
+list-answer L (vertexSetOf e) m = asked L m (e ∷ []) (answer (vertexSet (decode L m) e))
+list-answer L (greatestCommonOf es) m = asked L m es (greatestCommon (decode L m) es)
+list-answer L (edgesInOrderOf e) m = asked L m (e ∷ []) (inNumbers (edgesInOrder (decode L m) e))
+
+list-by : (L : Limits) (q : ListQuestion) (m : Memory) (room : List ℕ) → listReply L q m room ≡ listed (list-answer L q m) room
+unfolding list-answer subElementsReply withRankReply vertexSetReply greatestCommonReply edgesInOrderReply
+list-by L (subElementsOf e) m room = refl
+list-by L (subElementsWithRank k e) m room = refl
+list-by L (vertexSetOf e) m room = refl
+list-by L (greatestCommonOf es) m room = refl
+list-by L (edgesInOrderOf e) m room = refl
+
+pub refused-list-leaves : (L : Limits) → RefusedListLeaves L
+refused-list-leaves L q m room k =
+    ap (λ (x : ListReply × List ℕ). x .1) (list-by L q m room)
+    ∙ listed-refused (list-answer L q m) room (subst (λ (x : ListReply × List ℕ). 0 < listNumber (x .0)) (list-by L q m room) k)
+
+pub list-fills-front : (L : Limits) → ListFillsFront L
+list-fills-front L q m room filled n e = listed-fills (list-answer L q m) room filled n (sym (list-by L q m room) ∙ e)
+
+-- ---- the numbers of the questions
+
+-- an answer, or a refusal with one of some numbers
+abbrev RefusedIn : {A : Type 0} → List ℕ → Asked A → Type 0
+RefusedIn ns (no-answer n) = member n ns ≡ true
+RefusedIn ns (answer x) = Unit {0}
+
+asked-in : {A : Type 0} (L : Limits) (m : Memory) (es ns : List ℕ) (q : Asked A) → member 3 ns ≡ true → member 4 ns ≡ true → RefusedIn ns q → RefusedIn ns (asked L m es q)
+asked-in {A} L m es ns q h₃ h₄ h = go (soundMemory L m) (all (λ e. ltb e (elementCount (decode L m))) es)
+  where
+    go : (s u : Bool) → RefusedIn {A = A} ns (if not s then no-answer 3 else if not u then no-answer 4 else q)
+    go false u = h₃
+    go true false = h₄
+    go true true = h
+
+greatest-in : (t : Table) (es : List ℕ) → RefusedIn (3 ∷ 4 ∷ 6 ∷ 12 ∷ []) (greatestCommon t es)
+unfolding greatestCommon
+greatest-in t [] = refl
+greatest-in t (e ∷ es) = either (RefusedIn (3 ∷ 4 ∷ 6 ∷ 12 ∷ [])) (all (λ x. eqb (rank t x) (rank t e)) es) _ _ tt refl
+
+edges-in : (t : Table) (f : ℕ) → RefusedIn (3 ∷ 4 ∷ 6 ∷ 7 ∷ 12 ∷ []) (inNumbers (edgesInOrder t f))
+unfolding edgesInOrder
+edges-in t f = go (not (eqb (rank t f) 2)) (eachOnce (boundary t f) steps)
+  where
+    start : ℕ
+    start = getD (withRank t 0 f) 0 0
+
+    steps : List (ℕ × ℕ)
+    steps = walk (length (boundary t f)) t (boundary t f) start start (firstEdge t start (boundary t f))
+
+    go : (b c : Bool) → RefusedIn (3 ∷ 4 ∷ 6 ∷ 7 ∷ 12 ∷ []) (inNumbers (if b then no-answer 6 else if c then answer (pairs t start steps) else no-answer 7))
+    go true c = refl
+    go false true = tt
+    go false false = refl
+
+list-in : (L : Limits) (q : ListQuestion) (m : Memory) → RefusedIn (listRefusals q) (list-answer L q m)
+unfolding list-answer
+list-in L (subElementsOf e) m = asked-in L m (e ∷ []) _ (answer (subElements (decode L m) e)) refl refl tt
+list-in L (subElementsWithRank k e) m = asked-in L m (e ∷ []) _ (answer (withRank (decode L m) k e)) refl refl tt
+list-in L (vertexSetOf e) m = asked-in L m (e ∷ []) _ (answer (vertexSet (decode L m) e)) refl refl tt
+list-in L (greatestCommonOf es) m = asked-in L m es _ (greatestCommon (decode L m) es) refl refl (greatest-in (decode L m) es)
+list-in L (edgesInOrderOf e) m = asked-in L m (e ∷ []) _ (inNumbers (edgesInOrder (decode L m) e)) refl refl (edges-in (decode L m) e)
+
+-- a room too short is 12
+last-in : (q : ListQuestion) → member 12 (listRefusals q) ≡ true
+last-in (subElementsOf e) = refl
+last-in (subElementsWithRank k e) = refl
+last-in (vertexSetOf e) = refl
+last-in (greatestCommonOf es) = refl
+last-in (edgesInOrderOf e) = refl
+
+listed-in : (ns : List ℕ) (a : Asked (List ℕ)) (room : List ℕ) (n : ℕ) → RefusedIn ns a → member 12 ns ≡ true → listed a room .0 ≡ ListRefused n → member n ns ≡ true
+listed-in ns (no-answer k) room n h t e = let p : k ≡ n = cc in subst (λ (j : ℕ). member j ns ≡ true) p h
+listed-in ns (answer xs) room n h t e = go (leb (length xs) (length room)) e
+  where
+    go : (b : Bool) → listedBy xs room b .0 ≡ ListRefused n → member n ns ≡ true
+    go true q = let z : _≡_ {A = ℕ} 0 1 = cc in absurd (suc-ne-zero 0 (sym z))
+    go false q = let p : 12 ≡ n = cc in subst (λ (j : ℕ). member j ns ≡ true) p t
+
+pub list-numbers : (L : Limits) → ListNumbers L
+list-numbers L q m room n e =
+    listed-in (listRefusals q) (list-answer L q m) room n (list-in L q m) (last-in q) (ap (λ (x : ListReply × List ℕ). x .0) (sym (list-by L q m room)) ∙ e)
+
+pub facet-numbers : (L : Limits) → FacetNumbers L
+unfolding primordialFacetReply
+facet-numbers L m e n q = go (asked L m (e ∷ []) (primordialFacet (decode L m) e)) (asked-in L m (e ∷ []) (3 ∷ 4 ∷ 6 ∷ []) (primordialFacet (decode L m) e) refl refl own) q
+  where
+    own : RefusedIn (3 ∷ 4 ∷ 6 ∷ []) (primordialFacet (decode L m) e)
+    own = unfold primordialFacet in either (RefusedIn (3 ∷ 4 ∷ 6 ∷ [])) (eqb (rank (decode L m) e) (decode L m .dimension)) _ _ tt refl
+
+    go : (a : Asked Bool) → RefusedIn (3 ∷ 4 ∷ 6 ∷ []) a → facetAnswer a ≡ FacetRefused n → member n (3 ∷ 4 ∷ 6 ∷ []) ≡ true
+    go (no-answer k) h p = let e′ : k ≡ n = cc in subst (λ (j : ℕ). member j (3 ∷ 4 ∷ 6 ∷ []) ≡ true) e′ h
+    go (answer b) h p = let z : _≡_ {A = ℕ} 0 1 = cc in absurd (suc-ne-zero 0 (sym z))
+
+pub sound-numbers : (L : Limits) → SoundNumbers L
+unfolding isSoundReply
+sound-numbers L m = either (λ (n : ℕ). member n (0 ∷ 3 ∷ []) ≡ true) (soundMemory L m) 0 3 refl refl

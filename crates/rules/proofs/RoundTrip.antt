@@ -1,0 +1,180 @@
+-- A sound table is read read-rows from the memory that it is written to, and a sound memory is what is written of its table.
+-- Each row is read read-rows by itself; the law of rows does the rest.
+use Prim.Native.Nat.{_-_, _≤_, _+_, suc, ℕ, zero, _<_, _*_}
+use mathlib.Core.Bool.{Bool, true, _&&_, not, false, false≢true, cond}
+use mathlib.Core.List.{_++_, List, _∷_, [], append-assoc}
+use mathlib.Core.Option.{Option, none, some}
+use mathlib.Core.Path.{_≡_, refl, ap, _∙_, ap₂, subst, sym}
+use native.Mathlib.Nat.{le-trans, le-of-eq}
+use native.Mathlib.Omega.{arith}
+use lib.Dec.{leb, eqb}
+use lib.Ieee.{Float}
+use lib.ListN.{length, getD, take, replicate, length-append}
+use lib.Seq.{take-append-seam, take-at, getD-at}
+use Rattle.rules.specs.Limits.{Limits, noPlane, Readable}
+use Rattle.rules.specs.Lists.{pad, if_then_else_, all, allFrom, alike}
+use Rattle.rules.specs.Floats.{plusZero, within, farthest, unit, sameBits}
+use Rattle.rules.specs.Table.{Element, corner, polytope, Plane, Table, boundaryOf, elementCount}
+use Rattle.rules.specs.Sound.{namesNone, soundPoint, sound, soundPlane, namesPlane, soundElement, soundFacet}
+use Rattle.rules.specs.Memory.{planeNumber, elementWidth, elementRow, planeNamed, readElement, planeRow, planeWidth, readPlane, decode, encode, rightSize, Memory, sameMemory, soundMemory}
+use Rattle.rules.proofs.Good.{whole, Good, sound-good}
+use Rattle.rules.proofs.Laws.{le-test, and-right, and-left, not-eq, eq-test, and-true, test-eq, eqb-self}
+use Rattle.rules.proofs.Rows.{length-pad, read-rows, rows-fill}
+use Rattle.rules.proofs.Selves.{alike-self, bits-self, alike-eq, same-floats}
+
+-- ---- what a row needs: its test, and that it fits its width
+
+abbrev pub fitting : Limits → Element → Bool
+fitting L (corner v) = true
+fitting L (polytope r b h m) = leb 1 r && leb (length b) (L .boundary) && not (eqb (planeNumber h) noPlane && not (namesNone h))
+
+module _ (L : Limits) (U : Readable L) where
+  pub element-long : (e : Element) → fitting L e ≡ true → length (pad 0 (elementWidth L) (elementRow e)) ≡ elementWidth L
+  unfolding elementRow
+  element-long (corner v) h = let u = U .boundary in length-pad 0 (elementWidth L) (elementRow (corner v)) (let q : 5 ≤ 4 + L .boundary = omega (arith, u) in q)
+  element-long (polytope r b h m) k =
+      let s = le-test (length b) (L .boundary) (and-right (leb 1 r) (leb (length b) (L .boundary)) (and-left (leb 1 r && leb (length b) (L .boundary)) _ k)) in
+      length-pad 0 (elementWidth L) (elementRow (polytope r b h m)) (let q : suc (suc (suc (suc (length b)))) ≤ 4 + L .boundary = omega (arith, s) in q)
+
+  plane-back : (h : Option ℕ) → not (eqb (planeNumber h) noPlane && not (namesNone h)) ≡ true → planeNamed (planeNumber h) ≡ h
+  plane-back none k = refl
+  plane-back (some n) k = go (eqb n noPlane) k
+    where
+      go : (b : Bool) → not (b && true) ≡ true → (if b then none else some n) ≡ some n
+      go true g = absurd (false≢true g)
+      go false g = refl
+
+  element-back : (e : Element) → fitting L e ≡ true → readElement (pad 0 (elementWidth L) (elementRow e)) ≡ e
+  unfolding elementRow readElement
+  element-back (corner v) k = refl
+  element-back (polytope zero b h m) k = absurd (false≢true k)
+  element-back (polytope (suc r) b h m) k =
+      ap (λ (c : Bool). if c then corner (getD (pad 0 (elementWidth L) (elementRow (polytope (suc r) b h m))) 4 0) else polytope (suc r) (take (length b) (b ++ replicate (elementWidth L - suc (suc (suc (suc (length b))))) 0)) (planeNamed (planeNumber h)) (eqb (cond m 1 0) 1)) (not-eq (suc r) 0 (λ q. suc-ne r q))
+      ∙ ap₂ (λ (c : List ℕ) (x : Option ℕ). polytope (suc r) c x (eqb (cond m 1 0) 1)) (take-append-seam b _) (plane-back h (and-right (leb 1 (suc r) && leb (length b) (L .boundary)) _ k))
+      ∙ ap (polytope (suc r) b h) (mark m)
+    where
+      suc-ne : (n : ℕ) → suc n ≡ zero → ⊥
+      suc-ne n q = let z : ⊥ = omega (arith, q) in z
+
+      mark : (c : Bool) → eqb (cond c 1 0) 1 ≡ c
+      mark true = refl
+      mark false = refl
+
+  pub point-long : (d : ℕ) → d ≤ L .dimensions → (p : List Float) → soundPoint d p ≡ true → length (pad plusZero (L .dimensions) p) ≡ L .dimensions
+  unfolding soundPoint
+  point-long d l p h = length-pad plusZero (L .dimensions) p (le-trans (le-of-eq (eq-test (length p) d (and-left (eqb (length p) d) (all (within farthest) p) h))) l)
+
+  point-back : (d : ℕ) (p : List Float) → soundPoint d p ≡ true → take d (pad plusZero (L .dimensions) p) ≡ p
+  unfolding soundPoint
+  point-back d p h = take-at p (replicate (L .dimensions - length p) plusZero) d (eq-test (length p) d (and-left (eqb (length p) d) (all (within farthest) p) h))
+
+  normal-long : (d : ℕ) (h : Plane) → soundPlane d h ≡ true → length (h .normal) ≡ d
+  unfolding soundPlane
+  normal-long d h k = eq-test (length (h .normal)) d (and-left (eqb (length (h .normal)) d) (unit (h .normal)) (and-left (eqb (length (h .normal)) d && unit (h .normal)) _ k))
+
+  pub plane-long : (d : ℕ) → d ≤ L .dimensions → (h : Plane) → soundPlane d h ≡ true → length (planeRow L h) ≡ planeWidth L
+  unfolding planeRow
+  plane-long d l h k =
+      let e = length-append (pad plusZero (L .dimensions) (h .normal)) (h .distance ∷ []) in
+      let n = length-pad plusZero (L .dimensions) (h .normal) (le-trans (le-of-eq (normal-long d h k)) l) in
+      omega (arith, e, n)
+
+  plane-read : (d : ℕ) → d ≤ L .dimensions → (h : Plane) → soundPlane d h ≡ true → readPlane L d (planeRow L h) ≡ h
+  unfolding planeRow readPlane
+  plane-read d l h k = λ i. record {
+    normal = (ap (take d) (append-assoc (h .normal) (replicate (L .dimensions - length (h .normal)) plusZero) (h .distance ∷ [])) ∙ take-at (h .normal) _ d (normal-long d h k)) i;
+    distance = getD-at (pad plusZero (L .dimensions) (h .normal)) (h .distance) [] plusZero (L .dimensions) (length-pad plusZero (L .dimensions) (h .normal) (le-trans (le-of-eq (normal-long d h k)) l)) i;
+  }
+
+  -- ---- a whole table
+
+  -- a sound element fits its row
+  pub element-fits : (t : Table) → Good L t → all (fitting L) (t .elements) ≡ true
+  element-fits t g = go 0 (t .elements) (g .elements) (g .boundaryRoom)
+    where
+      low : (n : ℕ) → n < length (t .planes) → (eqb n noPlane && true) ≡ false
+      low n h =
+          let r = le-test (length (t .planes)) (L .hyperplanes) (g .planeRoom) in
+          let u = U .planes in
+          ap (λ (c : Bool). c && true) (not-eq n noPlane (λ q. (let z : ⊥ = omega (arith, h, r, u, q) in z)))
+
+      named : (b : Bool) (h : Option ℕ) (m : Bool) → (if b then namesPlane t h else (namesNone h && not m)) ≡ true → not (eqb (planeNumber h) noPlane && not (namesNone h)) ≡ true
+      named b none m k = refl
+      named true (some n) m k = ap not (low n (le-test (suc n) (length (t .planes)) k))
+      named false (some n) m k = absurd (false≢true k)
+
+      one : (n : ℕ) (e : Element) → soundElement t n e ≡ true → leb (length (boundaryOf e)) (L .boundary) ≡ true → fitting L e ≡ true
+      one n (corner v) h k = refl
+      one n (polytope r b j m) h k =
+          let w = whole t n r b j m h in
+          and-true (leb 1 r && leb (length b) (L .boundary)) (not (eqb (planeNumber j) noPlane && not (namesNone j))) (and-true (leb 1 r) (leb (length b) (L .boundary)) (w .some-rank) k) (facet-named r j m (w .facet))
+        where
+          facet-named : (r : ℕ) (j : Option ℕ) (m : Bool) → soundFacet t r j m ≡ true → not (eqb (planeNumber j) noPlane && not (namesNone j)) ≡ true
+          facet-named r j m f = unfold soundFacet in named (eqb (suc r) (t .dimension)) j m f
+
+      go : (n : ℕ) (es : List Element) → allFrom n (soundElement t) es ≡ true → all (λ e. leb (length (boundaryOf e)) (L .boundary)) es ≡ true → all (fitting L) es ≡ true
+      go n [] h k = refl
+      go n (e ∷ es) h k =
+          and-true (fitting L e) (all (fitting L) es)
+          (one n e (and-left (soundElement t n e) (allFrom (suc n) (soundElement t) es) h) (and-left (leb (length (boundaryOf e)) (L .boundary)) _ k))
+          (go (suc n) es (and-right (soundElement t n e) (allFrom (suc n) (soundElement t) es) h) (and-right (leb (length (boundaryOf e)) (L .boundary)) _ k))
+
+  module _ (t : Table) (g : Good L t) where
+    dim-fits : t .dimension ≤ L .dimensions
+    dim-fits = le-test (t .dimension) (L .dimensions) (g .high)
+
+    -- what was written is read back
+    pub read-back : decode L (encode L t) ≡ t
+    unfolding decode encode
+    read-back = λ i. record {
+      dimension = t .dimension;
+      points = read-rows plusZero (L .vertices * L .dimensions) (L .dimensions) (pad plusZero (L .dimensions)) (take (t .dimension)) (soundPoint (t .dimension)) (t .points) (point-long (t .dimension) dim-fits) (point-back (t .dimension)) (g .points) i;
+      elements = read-rows 0 (L .elements * elementWidth L) (elementWidth L) (λ e. pad 0 (elementWidth L) (elementRow e)) readElement (fitting L) (t .elements) element-long element-back (element-fits t g) i;
+      planes = read-rows plusZero (L .hyperplanes * planeWidth L) (planeWidth L) (planeRow L) (readPlane L (t .dimension)) (soundPlane (t .dimension)) (t .planes) (plane-long (t .dimension) dim-fits) (plane-read (t .dimension) dim-fits) (g .planes) i;
+    }
+
+    size-right : rightSize L (encode L t) ≡ true
+    unfolding rightSize encode
+    size-right =
+        and-true _ _ (and-true _ _ (and-true _ _ refl
+        (test-eq _ _ (rows-fill plusZero (L .vertices) (L .dimensions) (pad plusZero (L .dimensions)) (soundPoint (t .dimension)) (t .points) (point-long (t .dimension) dim-fits) (g .points) (le-test (length (t .points)) (L .vertices) (g .vertexRoom)))))
+        (test-eq _ _ (rows-fill plusZero (L .hyperplanes) (planeWidth L) (planeRow L) (soundPlane (t .dimension)) (t .planes) (plane-long (t .dimension) dim-fits) (g .planes) (le-test (length (t .planes)) (L .hyperplanes) (g .planeRoom)))))
+        (test-eq _ _ (rows-fill 0 (L .elements) (elementWidth L) (λ e. pad 0 (elementWidth L) (elementRow e)) (fitting L) (t .elements) element-long (element-fits t g) (le-test (elementCount t) (L .elements) (g .elementRoom))))
+
+  memory-self : (m : Memory) → sameMemory m m ≡ true
+  unfolding sameMemory
+  memory-self m = and-true _ _ (and-true _ _ (and-true _ _ (alike-self eqb eqb-self (m .counts)) (alike-self sameBits bits-self (m .points))) (alike-self sameBits bits-self (m .planes))) (alike-self eqb eqb-self (m .elements))
+
+  -- the memory written of a sound table is sound
+  pub written-sound : (t : Table) → sound L t ≡ true → soundMemory L (encode L t) ≡ true
+  unfolding soundMemory
+  written-sound t s =
+      let r = read-back t (sound-good L t s) in
+      and-true _ _ (and-true _ _ (size-right t (sound-good L t s)) (subst (λ (u : Table). sameMemory (encode L u) (encode L t) ≡ true) (sym r) (memory-self (encode L t)))) (subst (λ (u : Table). sound L u ≡ true) (sym r) s)
+
+  pub table-back : (t : Table) → sound L t ≡ true → decode L (encode L t) ≡ t
+  table-back t s = read-back t (sound-good L t s)
+
+-- ---- a sound memory is the one memory of its table
+
+same-memory : (m n : Memory) → sameMemory m n ≡ true → m ≡ n
+unfolding sameMemory
+same-memory m n h =
+    let a = alike eqb (m .counts) (n .counts) in
+    let b = alike sameBits (m .points) (n .points) in
+    let c = alike sameBits (m .planes) (n .planes) in
+    let d = alike eqb (m .elements) (n .elements) in
+    let h₂ : (a && b && c) ≡ true = and-left (a && b && c) d h in
+    let h₁ : (a && b) ≡ true = and-left (a && b) c h₂ in
+    λ i. record {
+      counts = alike-eq (m .counts) (n .counts) (and-left a b h₁) i;
+      points = same-floats (m .points) (n .points) (and-right a b h₁) i;
+      planes = same-floats (m .planes) (n .planes) (and-right (a && b) c h₂) i;
+      elements = alike-eq (m .elements) (n .elements) (and-right (a && b && c) d h) i;
+    }
+
+pub memory-back : (L : Limits) (m : Memory) → soundMemory L m ≡ true → encode L (decode L m) ≡ m
+unfolding soundMemory
+memory-back L m h =
+    same-memory (encode L (decode L m)) m
+    (and-right (rightSize L m) (sameMemory (encode L (decode L m)) m) (and-left (rightSize L m && sameMemory (encode L (decode L m)) m) (sound L (decode L m)) h))

@@ -1,0 +1,338 @@
+-- Examples beside the marked ones, for what those do not tell: each line of soundness broken once, each refusal met once, and choices that a wrong rule would make otherwise.
+-- Each row is what the rules give and what is right; proofs/Answers.antt has the theorems. Definitions only.
+use Prim.Native.Nat.{ℕ, _+_}
+use mathlib.Core.Bool.{Bool, true, false}
+use mathlib.Core.Option.{Option, none, some}
+use mathlib.Core.List.{List, [], _∷_, _++_, map}
+use lib.IntN.{pos, negsuc}
+use lib.ListN.{length, set, drop}
+use lib.Ieee.{Float, nan, inf, fin, neg, ofBits, binary64}
+use Rattle.rules.specs.Limits.{Limits}
+use Rattle.rules.specs.Floats.{plusZero, one, tolerance, sideOf, edgeTest, crossingPoint, clamp}
+use Rattle.rules.specs.Table.{ElementNumber, Element, corner, polytope, Plane, Table}
+use Rattle.rules.specs.Sound.{sound}
+use Rattle.rules.specs.Memory.{Memory, encode, soundMemory}
+use Rattle.rules.specs.Cube.{cube}
+use Rattle.rules.specs.Replies.{crossingValue, isSoundReply, cubeReply, subElementsReply, withRankReply, vertexSetReply, greatestCommonReply, edgesInOrderReply, primordialFacetReply}
+use Rattle.rules.specs.Session.{cutlist}
+use Rattle.rules.specs.Marked.{Shown, cutShown, listShown, sideShown, verdict, numbers, floats, showCut, showList, atX, room}
+use Rattle.rules.specs.declared.Hyperplane.{Hyperplane}
+use Rattle.rules.specs.declared.Side.the-variants.{Inside, On, Outside}
+use Rattle.rules.specs.declared.FacetReply.{FacetReply}
+use Rattle.rules.specs.declared.FacetReply.the-variants.{Refused as FacetRefused, Has}
+
+-- ---- tables made by hand
+
+abbrev pub roomOf : ℕ → ℕ → ℕ → ℕ → ℕ → Limits
+roomOf d v e h b = record { dimensions = d; vertices = v; elements = e; hyperplanes = h; boundary = b }
+
+abbrev pub made : ℕ → List (List Float) → List Element → List Plane → Table
+made d ps es hs = record { dimension = d; points = ps; elements = es; planes = hs }
+
+abbrev pub two : Float
+two = fin false 1 (pos 1)
+
+abbrev pub minusOne : Float
+minusOne = neg one
+
+abbrev pub plane : Float → Float → Float → Plane
+plane a b d = record { normal = a ∷ b ∷ []; distance = d }
+
+-- four corners, four edges between them, and their face: the square with its corners first
+abbrev pub points : List (List Float)
+points = (minusOne ∷ minusOne ∷ []) ∷ (one ∷ minusOne ∷ []) ∷ (minusOne ∷ one ∷ []) ∷ (one ∷ one ∷ []) ∷ []
+
+abbrev pub corners : List Element
+corners = corner 0 ∷ corner 1 ∷ corner 2 ∷ corner 3 ∷ []
+
+abbrev pub edge : ElementNumber → ElementNumber → ℕ → Element
+edge a b h = polytope 1 (a ∷ b ∷ []) (some h) true
+
+abbrev pub edges : List Element
+edges = edge 0 1 0 ∷ edge 2 3 1 ∷ edge 0 2 2 ∷ edge 1 3 3 ∷ []
+
+abbrev pub face : List ElementNumber → Element
+face b = polytope 2 b none false
+
+abbrev pub planes : List Plane
+planes = plane plusZero minusOne one ∷ plane plusZero one one ∷ plane minusOne plusZero one ∷ plane one plusZero one ∷ []
+
+abbrev pub wholeFace : Element
+wholeFace = face (4 ∷ 5 ∷ 6 ∷ 7 ∷ [])
+
+unfoldable pub square : Table
+square = made 2 points (corners ++ edges ++ wholeFace ∷ []) planes
+
+-- the room that it just fills, one with a line more, and one in which cuts have place
+abbrev pub tight : Limits
+tight = roomOf 2 4 9 4 4
+
+abbrev pub wider : Limits
+wider = roomOf 3 5 10 5 5
+
+abbrev pub small : Limits
+small = roomOf 4 9 20 9 8
+
+-- the square of radius 1 in it
+unfoldable pub smallQ : Memory
+smallQ = encode small (cube 2 one)
+
+-- ---- soundness: each line of document 01 broken, and nothing else
+
+abbrev pub broken : Table → Shown × Shown
+broken t = (verdict (sound wider t), verdict false)
+
+abbrev pub brokenMemory : Memory → Shown × Shown
+brokenMemory m = (verdict (soundMemory wider m), verdict false)
+
+abbrev pub elementsOf : List Element → Table
+elementsOf es = made 2 points es planes
+
+abbrev pub pointsOf : List (List Float) → Table
+pointsOf ps = made 2 ps (corners ++ edges ++ wholeFace ∷ []) planes
+
+abbrev pub planesOf : List Plane → Table
+planesOf hs = made 2 points (corners ++ edges ++ wholeFace ∷ []) hs
+
+-- the square's memory in the wider room, with one slice of it changed
+abbrev pub countsChanged : (List ℕ → List ℕ) → Memory
+countsChanged f = let m = encode wider square in record { counts = f (m .counts); points = m .points; planes = m .planes; elements = m .elements }
+
+abbrev pub pointsChanged : (List Float → List Float) → Memory
+pointsChanged f = let m = encode wider square in record { counts = m .counts; points = f (m .points); planes = m .planes; elements = m .elements }
+
+abbrev pub planesChanged : (List Float → List Float) → Memory
+planesChanged f = let m = encode wider square in record { counts = m .counts; points = m .points; planes = f (m .planes); elements = m .elements }
+
+abbrev pub elementsChanged : (List ℕ → List ℕ) → Memory
+elementsChanged f = let m = encode wider square in record { counts = m .counts; points = m .points; planes = m .planes; elements = f (m .elements) }
+
+unfoldable pub soundness : List (Shown × Shown)
+soundness =
+    (verdict (sound tight square), verdict true)
+    ∷ (verdict (soundMemory wider (encode wider square)), verdict true)
+    -- the dimension is at least 1, and no count passes its room
+    ∷ broken (made 0 [] [] [])
+    ∷ (verdict (sound (roomOf 1 4 9 4 4) square), verdict false)
+    ∷ (verdict (sound (roomOf 2 3 9 4 4) square), verdict false)
+    ∷ (verdict (sound (roomOf 2 4 8 4 4) square), verdict false)
+    ∷ (verdict (sound (roomOf 2 4 9 3 4) square), verdict false)
+    ∷ (verdict (sound (roomOf 2 4 9 4 3) square), verdict false)
+    -- a coordinate just beyond 65,536; a point with a coordinate too many
+    ∷ broken (pointsOf ((ofBits binary64 0xc0f0000000000001 ∷ minusOne ∷ []) ∷ drop 1 points))
+    ∷ broken (pointsOf ((minusOne ∷ minusOne ∷ plusZero ∷ []) ∷ drop 1 points))
+    -- squares that add up to 0; a component of 1 + 2^-22; a distance just beyond 262,144; a component too many; fewer than P hyperplanes
+    ∷ broken (planesOf (plane plusZero plusZero one ∷ drop 1 planes))
+    ∷ broken (planesOf (plane plusZero (ofBits binary64 0x3ff0000040000000) one ∷ drop 1 planes))
+    ∷ broken (planesOf (plane plusZero one (ofBits binary64 0x4110000000000001) ∷ drop 1 planes))
+    ∷ broken (planesOf (record { normal = plusZero ∷ one ∷ plusZero ∷ []; distance = one } ∷ drop 1 planes))
+    ∷ broken (made 2 points corners (drop 1 planes))
+    -- vertices out of order; a vertex that no element names
+    ∷ broken (elementsOf (corner 1 ∷ corner 0 ∷ drop 2 corners ++ edges ++ wholeFace ∷ []))
+    ∷ broken (pointsOf (points ++ (plusZero ∷ plusZero ∷ []) ∷ []))
+    -- a face in one dimension
+    ∷ broken (made 1 ((plusZero ∷ []) ∷ (one ∷ []) ∷ (two ∷ []) ∷ []) (corner 0 ∷ corner 1 ∷ corner 2
+    ∷ polytope 1 (0 ∷ 1 ∷ []) none false ∷ polytope 1 (0 ∷ 2 ∷ []) none false ∷ polytope 1 (1 ∷ 2 ∷ []) none false ∷ face (3 ∷ 4 ∷ 5 ∷ []) ∷ []) [])
+    -- boundary numbers that do not rise; a boundary number above its own; a rank not one less; a count not above the rank
+    ∷ broken (elementsOf (corners ++ edges ++ face (5 ∷ 4 ∷ 6 ∷ 7 ∷ []) ∷ []))
+    ∷ broken (elementsOf (corners ++ face (5 ∷ 6 ∷ 7 ∷ 8 ∷ []) ∷ edges))
+    ∷ broken (elementsOf (corners ++ edges ++ edge 3 4 0 ∷ []))
+    ∷ broken (elementsOf (corners ++ edge 0 1 0 ∷ edge 0 1 1 ∷ face (4 ∷ 5 ∷ []) ∷ []))
+    -- an edge with three ends; a face that is not closed
+    ∷ broken (elementsOf (corners ++ polytope 1 (0 ∷ 1 ∷ 2 ∷ []) (some 0) true ∷ []))
+    ∷ broken (elementsOf (corners ++ edges ++ face (4 ∷ 5 ∷ 6 ∷ []) ∷ []))
+    -- a hyperplane not in use; none where one is due; one where none is; a mark where none is
+    ∷ broken (elementsOf (corners ++ edge 0 1 4 ∷ []))
+    ∷ broken (elementsOf (corners ++ polytope 1 (0 ∷ 1 ∷ []) none false ∷ []))
+    ∷ broken (elementsOf (corners ++ edges ++ polytope 2 (4 ∷ 5 ∷ 6 ∷ 7 ∷ []) (some 0) false ∷ []))
+    ∷ broken (elementsOf (corners ++ edges ++ polytope 2 (4 ∷ 5 ∷ 6 ∷ 7 ∷ []) none true ∷ []))
+    -- two elements equal in all fields
+    ∷ broken (elementsOf (corners ++ edges ++ edge 0 1 0 ∷ []))
+    -- memory: each slice of another size
+    ∷ brokenMemory (countsChanged (λ ns. ns ++ 0 ∷ []))
+    ∷ brokenMemory (pointsChanged (drop 1))
+    ∷ brokenMemory (planesChanged (drop 1))
+    ∷ brokenMemory (elementsChanged (λ ns. ns ++ 0 ∷ []))
+    -- -0 past the dimension, in an unused point, past a normal; a word in an unused row and behind a boundary
+    ∷ brokenMemory (pointsChanged (λ xs. set xs 2 (neg plusZero)))
+    ∷ brokenMemory (pointsChanged (λ xs. set xs 12 (neg plusZero)))
+    ∷ brokenMemory (planesChanged (λ xs. set xs 2 (neg plusZero)))
+    ∷ brokenMemory (elementsChanged (λ ns. set ns 81 1))
+    ∷ brokenMemory (elementsChanged (λ ns. set ns 80 1))
+    -- a corner's mark, hyperplane and count; a mark of 2; a count above the room
+    ∷ brokenMemory (elementsChanged (λ ns. set ns 1 1))
+    ∷ brokenMemory (elementsChanged (λ ns. set ns 2 0))
+    ∷ brokenMemory (elementsChanged (λ ns. set ns 3 2))
+    ∷ brokenMemory (elementsChanged (λ ns. set ns 37 2))
+    ∷ brokenMemory (elementsChanged (λ ns. set ns 75 6))
+    ∷ []
+
+-- ---- sound tables that no session reaches
+
+-- two edges between the same two corners, twice over: a face that no walk goes round
+unfoldable pub doubled : Table
+doubled = made 2 points (corners ++ edge 0 1 0 ∷ edge 0 1 1 ∷ edge 2 3 2 ∷ edge 2 3 3 ∷ wholeFace ∷ []) planes
+
+-- a triangle whose lowest corner has its lower neighbour on the second edge; no edge is primordial
+unfoldable pub triangle : Table
+triangle = made 2 (drop 1 points) (corner 0 ∷ corner 1 ∷ corner 2
+    ∷ polytope 1 (0 ∷ 2 ∷ []) (some 0) false ∷ polytope 1 (0 ∷ 1 ∷ []) (some 1) false ∷ polytope 1 (1 ∷ 2 ∷ []) (some 2) false ∷ face (3 ∷ 4 ∷ 5 ∷ []) ∷ []) planes
+
+-- on a line, at 0, 0.9 T, -1, 1 and 1.5 T, an edge from -1 to 1; x = 0 is hyperplane 0
+unfoldable pub line : Table
+line = made 1 ((plusZero ∷ []) ∷ (ofBits binary64 0x3eaccccccccccccd ∷ []) ∷ (minusOne ∷ []) ∷ (one ∷ []) ∷ (fin false 3 (negsuc 20) ∷ []) ∷ [])
+    (corner 0 ∷ corner 1 ∷ corner 2 ∷ corner 3 ∷ corner 4 ∷ polytope 1 (2 ∷ 3 ∷ []) none false ∷ []) (record { normal = one ∷ []; distance = plusZero } ∷ [])
+
+abbrev pub onLine : ℕ → Hyperplane
+onLine bits = atX (ofBits binary64 bits)
+
+-- a bent ring of five edges, two of which lie on y = 0 and one of which crosses it
+unfoldable pub bent : Table
+bent = made 2 ((plusZero ∷ plusZero ∷ []) ∷ (one ∷ plusZero ∷ []) ∷ (two ∷ plusZero ∷ []) ∷ (two ∷ one ∷ []) ∷ (one ∷ minusOne ∷ []) ∷ [])
+    (corners ++ corner 4 ∷ edge 0 1 0 ∷ edge 1 2 0 ∷ edge 2 3 0 ∷ edge 3 4 0 ∷ edge 0 4 0 ∷ face (5 ∷ 6 ∷ 7 ∷ 8 ∷ 9 ∷ []) ∷ []) planes
+
+-- a ring of five edges, four of which cross x = 0
+unfoldable pub zigzag : Table
+zigzag = made 2 ((minusOne ∷ plusZero ∷ []) ∷ (one ∷ one ∷ []) ∷ (minusOne ∷ two ∷ []) ∷ (one ∷ fin false 3 (pos 0) ∷ []) ∷ (minusOne ∷ fin false 1 (pos 2) ∷ []) ∷ [])
+    (corners ++ corner 4 ∷ edge 0 1 0 ∷ edge 1 2 0 ∷ edge 2 3 0 ∷ edge 3 4 0 ∷ edge 0 4 0 ∷ face (5 ∷ 6 ∷ 7 ∷ 8 ∷ 9 ∷ []) ∷ []) planes
+
+abbrev pub flatY : Hyperplane
+flatY = record { normal = plusZero ∷ one ∷ plusZero ∷ plusZero ∷ []; distance = plusZero }
+
+abbrev pub showCrossing : Option Float → Shown
+showCrossing none = floats []
+showCrossing (some t) = floats ((t ∷ []) ∷ [])
+
+abbrev pub showFacet : FacetReply → Shown
+showFacet (FacetRefused n) = listShown n []
+showFacet (Has b) = verdict b
+
+-- ---- choices
+
+abbrev pub cutSmall : Hyperplane → Bool → Bool → ElementNumber → Shown
+cutSmall h i o root = showCut small h i o root smallQ
+
+unfoldable pub choices : List (Shown × Shown)
+choices =
+    -- -T is on, the next float below it inside; what is not a number is outside
+    (sideShown (sideOf (neg tolerance)), sideShown On)
+    ∷ (sideShown (sideOf (ofBits binary64 0xbeb0000000000001)), sideShown Inside)
+    ∷ (sideShown (sideOf nan), sideShown Outside)
+    -- from -1 to 2 the plane is met a third of the way, which is no float; two ends on one side are not crossed
+    ∷ (showCrossing (crossingValue (edgeTest minusOne two)), floats ((ofBits binary64 0x3fd5555555555555 ∷ []) ∷ []))
+    ∷ (showCrossing (crossingValue (edgeTest minusOne minusOne)), floats [])
+    -- a third of the way from 1 to 2, with the lower-numbered end first
+    ∷ (floats (crossingPoint (ofBits binary64 0x3fd5555555555555) (one ∷ []) (two ∷ []) ∷ []), floats ((ofBits binary64 0x3ff5555555555555 ∷ []) ∷ []))
+    ∷ (floats ((clamp one two nan ∷ clamp one two (inf false) ∷ clamp two one plusZero ∷ []) ∷ []), floats ((one ∷ two ∷ one ∷ []) ∷ []))
+    -- the square's planes: outward, the highest axis first
+    ∷ (floats (map (λ (h : Plane). h .normal) (cube 2 one .planes)), floats ((plusZero ∷ minusOne ∷ []) ∷ (plusZero ∷ one ∷ []) ∷ (minusOne ∷ plusZero ∷ []) ∷ (one ∷ plusZero ∷ []) ∷ []))
+    -- 0.8 T is nearer to vertex 1 than to vertex 0, which is the lowest match
+    ∷ (showCut small (onLine 0x3ea999999999999a) true true 5 (encode small line), cutShown 0 (some 6 ∷ some 7 ∷ some 0 ∷ []) (8 ∷ 5 ∷ 1 ∷ []))
+    -- 0.9 T is hyperplane 0, and the corner at 1.5 T is on the divider as given
+    ∷ (showCut small (onLine 0x3eaccccccccccccd) true true 4 (encode small line), cutShown 0 [] (6 ∷ 5 ∷ 1 ∷ []))
+    -- two flush edges are a flush face, and the edge crossed on the way keeps its entries
+    ∷ (showCut small flatY true true 10 (encode small bent), cutShown 0 [] (14 ∷ 6 ∷ 5 ∷ []))
+    -- questions: the root and all below it; a rank that nothing has; vertices
+    ∷ (showList (subElementsReply small smallQ 7 room), listShown 0 (1 ∷ 4 ∷ 7 ∷ []))
+    ∷ (showList (withRankReply small smallQ 1 8 room), listShown 0 (2 ∷ 5 ∷ 6 ∷ 7 ∷ []))
+    ∷ (showList (withRankReply small smallQ 200 8 room), listShown 0 [])
+    ∷ (showList (vertexSetReply small smallQ 5 room), listShown 0 (2 ∷ 3 ∷ []))
+    ∷ (showList (greatestCommonReply small smallQ (7 ∷ 7 ∷ []) room), listShown 0 (7 ∷ []))
+    -- first to the lower neighbour, by edges; a walk that leaves edges out is 7
+    ∷ (showList (edgesInOrderReply small (encode small triangle) 6 room), listShown 0 (0 ∷ 1 ∷ 1 ∷ 2 ∷ 2 ∷ 0 ∷ []))
+    ∷ (numbers (isSoundReply small (encode small doubled) ∷ []), numbers (0 ∷ []))
+    ∷ (showList (edgesInOrderReply small (encode small doubled) 8 room), listShown 7 [])
+    -- a primordial facet, none, and a rank that is not full
+    ∷ (showFacet (primordialFacetReply small smallQ 8), verdict true)
+    ∷ (showFacet (primordialFacetReply small (encode small triangle) 6), verdict false)
+    ∷ (showFacet (primordialFacetReply small smallQ 7), listShown 6 [])
+    ∷ []
+
+-- ---- refusals, each met once, and their order
+
+-- a segment in a small room of one dimension
+abbrev pub inRoom : Limits → Table → Float → Shown
+inRoom L t d = showCut L (record { normal = one ∷ []; distance = d }) true true 2 (encode L t)
+
+unfoldable pub refusals : List (Shown × Shown)
+refusals =
+    -- 3, 4 and 5 before the rules, in this order; 5 also with an infinite distance
+    (showCut small (record { normal = []; distance = nan }) true true 99 (countsChanged (λ ns. ns)), cutShown 3 [] (9 ∷ 4 ∷ 4 ∷ []))
+    ∷ (cutSmall (record { normal = []; distance = nan }) true true 9, cutShown 4 [] (9 ∷ 4 ∷ 4 ∷ []))
+    ∷ (cutSmall (record { normal = plusZero ∷ plusZero ∷ plusZero ∷ plusZero ∷ []; distance = inf false }) true true 8, cutShown 5 [] (9 ∷ 4 ∷ 4 ∷ []))
+    ∷ (cutSmall (record { normal = one ∷ plusZero ∷ plusZero ∷ neg plusZero ∷ []; distance = plusZero }) true true 8, cutShown 5 [] (9 ∷ 4 ∷ 4 ∷ []))
+    ∷ (cutSmall (atX (ofBits binary64 0x4110000000000001)) true true 8, cutShown 5 [] (9 ∷ 4 ∷ 4 ∷ []))
+    -- no room: 10 for the hyperplane, then 8 for the vertex, then 9 for its element; a refusal leaves the counts
+    ∷ (inRoom (roomOf 1 2 3 0 2) (cube 1 one) plusZero, cutShown 10 [] (3 ∷ 2 ∷ 0 ∷ []))
+    ∷ (inRoom (roomOf 1 2 3 1 2) (cube 1 one) plusZero, cutShown 8 [] (3 ∷ 2 ∷ 0 ∷ []))
+    ∷ (inRoom (roomOf 1 3 3 1 2) (cube 1 one) plusZero, cutShown 9 [] (3 ∷ 2 ∷ 0 ∷ []))
+    -- a corner cut off a square leaves five edges, in a room for four
+    ∷ (
+      showCut (roomOf 2 9 20 9 4) (record { normal = ofBits binary64 0x3fe3333333333333 ∷ ofBits binary64 0x3fe999999999999a ∷ []; distance = one }) true true 8 (encode (roomOf 2 9 20 9 4) square),
+      cutShown 11 [] (9 ∷ 4 ∷ 4 ∷ []),
+    )
+    -- a new edge with four ends
+    ∷ (showCut small (atX plusZero) false false 10 (encode small zigzag), cutShown 7 [] (11 ∷ 5 ∷ 4 ∷ []))
+    -- a cube: 1, then 2, then 3
+    ∷ (
+      numbers (cubeReply small 0 nan (encode tight square) .0 ∷ cubeReply small 5 one smallQ .0 ∷ cubeReply small 2 nan (encode tight square) .0
+          ∷ cubeReply small 2 (ofBits binary64 0x40f0000000000001) smallQ .0 ∷ cubeReply small 2 one (encode tight square) .0 ∷ cubeReply tight 2 one (encode tight square) .0 ∷ []),
+      numbers (1 ∷ 1 ∷ 2 ∷ 2 ∷ 3 ∷ 0 ∷ []),
+    )
+    ∷ (numbers (isSoundReply small smallQ ∷ isSoundReply tight smallQ ∷ []), numbers (0 ∷ 3 ∷ []))
+    -- 4 before 6, 6 before 12; a room too short is 12
+    ∷ (showList (greatestCommonReply small smallQ (8 ∷ 2 ∷ 9 ∷ []) []), listShown 4 [])
+    ∷ (showList (greatestCommonReply small smallQ (8 ∷ 2 ∷ []) []), listShown 6 [])
+    ∷ (showList (greatestCommonReply small smallQ [] room), listShown 6 [])
+    ∷ (showList (edgesInOrderReply small smallQ 7 []), listShown 6 [])
+    ∷ (showList (subElementsReply small smallQ 8 room), listShown 12 [])
+    ∷ []
+
+-- ---- sessions
+
+-- 1.0, by its bits
+abbrev pub oneBytes : List ℕ
+oneBytes = 0 ∷ 0 ∷ 0 ∷ 0 ∷ 0 ∷ 0 ∷ 240 ∷ 63 ∷ []
+
+abbrev pub zeroBytes : List ℕ
+zeroBytes = 0 ∷ 0 ∷ 0 ∷ 0 ∷ 0 ∷ 0 ∷ 0 ∷ 0 ∷ []
+
+abbrev pub cubeRecord : ℕ → List ℕ
+cubeRecord d = 0x43 ∷ 0x55 ∷ d ∷ oneBytes
+
+-- keep some sides, root 8, normal (1, 0), distance 0
+abbrev pub cutRecord : ℕ → List ℕ
+cutRecord kept = 0x43 ∷ 0x54 ∷ kept ∷ 8 ∷ 0 ∷ (oneBytes ++ zeroBytes ++ zeroBytes)
+
+-- what the program writes for some bytes, in the small room
+abbrev pub printed : List ℕ → Shown
+printed bs = numbers (cutlist small bs)
+
+-- "cube 9 4 4" and "cut 16 17 15 18 6 5", each with its line feed
+abbrev pub cubeWords : List ℕ
+cubeWords = 99 ∷ 117 ∷ 98 ∷ 101 ∷ 32 ∷ 57 ∷ 32 ∷ 52 ∷ 32 ∷ 52 ∷ 10 ∷ []
+
+abbrev pub cutWords : List ℕ
+cutWords = 99 ∷ 117 ∷ 116 ∷ 32 ∷ 49 ∷ 54 ∷ 32 ∷ 49 ∷ 55 ∷ 32 ∷ 49 ∷ 53 ∷ 32 ∷ 49 ∷ 56 ∷ 32 ∷ 54 ∷ 32 ∷ 53 ∷ 10 ∷ []
+
+-- "bad ", "refused " and a digit
+abbrev pub badWords : ℕ → List ℕ
+badWords d = 98 ∷ 97 ∷ 100 ∷ 32 ∷ (48 + d) ∷ 10 ∷ []
+
+abbrev pub refusedWords : ℕ → List ℕ
+refusedWords d = 114 ∷ 101 ∷ 102 ∷ 117 ∷ 115 ∷ 101 ∷ 100 ∷ 32 ∷ (48 + d) ∷ 10 ∷ []
+
+unfoldable pub sessions : List (Shown × Shown)
+sessions =
+    -- document 01's session, whole
+    (printed (cubeRecord 2 ++ cutRecord 3 ++ cutRecord 3), numbers (cubeWords ++ cutWords ++ cutWords))
+    -- nothing; a stray byte; another mark; a cut with no table
+    ∷ (printed [], numbers [])
+    ∷ (printed (0x43 ∷ []), numbers (badWords 0))
+    ∷ (printed (0x43 ∷ 0x56 ∷ []), numbers (badWords 0))
+    ∷ (printed (cutRecord 3), numbers (badWords 0))
+    -- a cube that is refused keeps the table before it; a kept byte of 4, and a short record, stop at their first byte
+    ∷ (printed (cubeRecord 5 ++ cubeRecord 2 ++ cubeRecord 0), numbers (refusedWords 1 ++ cubeWords ++ refusedWords 1))
+    ∷ (printed (cubeRecord 2 ++ cutRecord 4), numbers (cubeWords ++ 98 ∷ 97 ∷ 100 ∷ 32 ∷ 49 ∷ 49 ∷ 10 ∷ []))
+    ∷ (printed (cubeRecord 2 ++ drop 1 (cutRecord 3)), numbers (cubeWords ++ 98 ∷ 97 ∷ 100 ∷ 32 ∷ 49 ∷ 49 ∷ 10 ∷ []))
+    ∷ []

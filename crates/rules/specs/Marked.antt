@@ -1,0 +1,93 @@
+-- Document 01, "Marked examples": one table, each row what the public replies give and what document 01 says. proofs/Answers.antt has its one theorem. Definitions only.
+use Prim.Native.Nat.{ℕ}
+use mathlib.Core.Bool.{Bool, true, false}
+use mathlib.Core.Option.{Option, none, some}
+use mathlib.Core.List.{List, [], _∷_}
+use lib.ListN.{length, take, drop, replicate}
+use lib.Ieee.{Float, inf, ofBits, binary64}
+use Rattle.rules.specs.Limits.{Limits, desk}
+use Rattle.rules.specs.Floats.{plusZero, one, tolerance, sideOf}
+use Rattle.rules.specs.Table.{ElementNumber}
+use Rattle.rules.specs.Memory.{Memory, encode}
+use Rattle.rules.specs.Cube.{cube}
+use Rattle.rules.specs.Replies.{cutNumber, cutValues, listNumber, cutReply, greatestCommonReply, edgesInOrderReply}
+use Rattle.rules.specs.declared.Hyperplane.{Hyperplane}
+use Rattle.rules.specs.declared.Side.{Side}
+use Rattle.rules.specs.declared.Side.the-variants.{On, Outside}
+use Rattle.rules.specs.declared.ListReply.{ListReply}
+use Rattle.rules.specs.declared.ListReply.the-variants.{Refused as ListRefused, Listed}
+
+-- ---- what a row shows
+
+-- a cut: its number, its values, and the counts of elements, vertices and hyperplanes after it; a list: its number and what it wrote; a side; a verdict; numbers; floats
+pub data Shown : Type 0 where
+  cutShown : ℕ → List (Option ElementNumber) → List ℕ → Shown
+  listShown : ℕ → List ℕ → Shown
+  sideShown : Side → Shown
+  verdict : Bool → Shown
+  numbers : List ℕ → Shown
+  floats : List (List Float) → Shown
+
+abbrev pub showCut : Limits → Hyperplane → Bool → Bool → ElementNumber → Memory → Shown
+showCut L h i o root m = let r = cutReply L h i o root m in cutShown (cutNumber (r .0)) (cutValues (r .0)) (drop 1 (r .1 .counts))
+
+abbrev pub showList : ListReply × List ℕ → Shown
+showList (ListRefused n, room) = listShown n []
+showList (Listed n, room) = listShown 0 (take n room)
+
+-- ---- Q, the square of radius 1, and the segment of radius 1, in the desk's memory
+
+unfoldable pub Q : Memory
+Q = encode desk (cube 2 one)
+
+unfoldable pub segment : Memory
+segment = encode desk (cube 1 one)
+
+-- x = d, as it is lent
+abbrev pub atX : Float → Hyperplane
+atX d = record { normal = one ∷ plusZero ∷ plusZero ∷ plusZero ∷ []; distance = d }
+
+-- 0.6, 0.8 and a distance, by their bits
+abbrev pub slanted : ℕ → Hyperplane
+slanted bits = record {
+  normal = ofBits binary64 0x3fe3333333333333 ∷ ofBits binary64 0x3fe999999999999a ∷ plusZero ∷ plusZero ∷ [];
+  distance = ofBits binary64 bits;
+}
+
+abbrev pub cutQ : Hyperplane → Bool → Bool → ElementNumber → Shown
+cutQ h i o root = showCut desk h i o root Q
+
+-- a list room of eight numbers
+abbrev pub room : List ℕ
+room = replicate 8 0
+
+-- ---- the table
+
+unfoldable pub marked : List (Shown × Shown)
+marked =
+    -- M1
+    (cutQ (atX plusZero) true true 8, cutShown 0 (some 16 ∷ some 17 ∷ some 15 ∷ []) (18 ∷ 6 ∷ 5 ∷ []))
+    -- M2
+    ∷ (cutQ (atX plusZero) false false 8, cutShown 0 (none ∷ none ∷ some 11 ∷ []) (12 ∷ 6 ∷ 5 ∷ []))
+    -- M3
+    ∷ (cutQ (atX one) true false 8, cutShown 0 (some 8 ∷ none ∷ some 7 ∷ []) (9 ∷ 4 ∷ 5 ∷ []))
+    -- M4
+    ∷ (cutQ (atX (inf false)) false false 8, cutShown 0 (some 8 ∷ none ∷ none ∷ []) (9 ∷ 4 ∷ 4 ∷ []))
+    -- M5
+    ∷ (cutQ (atX plusZero) false true 0, cutShown 0 (some 0 ∷ none ∷ none ∷ []) (9 ∷ 4 ∷ 5 ∷ []))
+    -- M6: flush carries nothing
+    ∷ (cutQ (atX one) true true 7, cutShown 0 [] (9 ∷ 4 ∷ 5 ∷ []))
+    -- M7
+    ∷ (cutQ (slanted 0x3ff6666666666666) true true 8, cutShown 0 (some 8 ∷ none ∷ none ∷ []) (9 ∷ 4 ∷ 5 ∷ []))
+    -- M8
+    ∷ (showCut desk (atX plusZero) true true 2 segment, cutShown 0 (some 4 ∷ some 5 ∷ some 3 ∷ []) (6 ∷ 3 ∷ 1 ∷ []))
+    -- M9
+    ∷ (showList (greatestCommonReply desk Q (2 ∷ 6 ∷ []) room), listShown 0 [])
+    ∷ (showList (greatestCommonReply desk Q (8 ∷ []) room), listShown 0 (8 ∷ []))
+    ∷ (showList (greatestCommonReply desk Q (0 ∷ []) room), listShown 0 [])
+    -- M10: vertices 0-1, 1-3, 3-2, 2-0
+    ∷ (showList (edgesInOrderReply desk Q 8 room), listShown 0 (0 ∷ 1 ∷ 1 ∷ 3 ∷ 3 ∷ 2 ∷ 2 ∷ 0 ∷ []))
+    -- M11: the tolerance, and the next float above it
+    ∷ (sideShown (sideOf tolerance), sideShown On)
+    ∷ (sideShown (sideOf (ofBits binary64 0x3eb0000000000001)), sideShown Outside)
+    ∷ []

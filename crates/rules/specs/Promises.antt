@@ -1,0 +1,287 @@
+-- What is promised of the rules, over any room: each statement in the words of the demands. Definitions only.
+-- proofs/Promises.antt proves the record at the end, for every room that can be read back and has place for its cubes: the desk's, and the large one.
+use Prim.Native.Nat.{ℕ, zero, suc, _*_, _≤_, _<_}
+use mathlib.Core.Path.{_≡_}
+use mathlib.Core.Bool.{Bool, true, false, _||_}
+use mathlib.Core.List.{List, [], _∷_}
+use lib.ListN.{length, getD, take, drop}
+use lib.Ieee.{Float, inf, le, isNan}
+use Rattle.rules.specs.Limits.{Limits, Roomier}
+use Rattle.rules.specs.Lists.{member, rises}
+use Rattle.rules.specs.Floats.{sideOf, signedDistance, clamp, pointMatches}
+use Rattle.rules.specs.Table.{ElementNumber, Plane, Table, rank, boundary, elementCount, pointAt}
+use Rattle.rules.specs.Sound.{sound}
+use Rattle.rules.specs.Memory.{Memory, elementWidth, planeWidth, encode, decode, soundMemory}
+use Rattle.rules.specs.Cut.{Outcome, done, give, next, addPlane, cut, given}
+use Rattle.rules.specs.Questions.{Asked, answer, isBelow, vertexSet, primordialFacet}
+use Rattle.rules.specs.Replies.{cutNumber, listNumber, isSoundReply, cubeReply, dividerFits, dividerOf, written, cutReply, subElementsReply, withRankReply, vertexSetReply, greatestCommonReply, edgesInOrderReply, primordialFacetReply}
+use Rattle.rules.specs.declared.Hyperplane.{Hyperplane}
+use Rattle.rules.specs.declared.Side.{Side}
+use Rattle.rules.specs.declared.Side.the-variants.{Inside, Outside}
+use Rattle.rules.specs.declared.ElementOrNone.{ElementOrNone}
+use Rattle.rules.specs.declared.ElementOrNone.the-variants.{None}
+use Rattle.rules.specs.declared.ElementCutOutput.{ElementCutOutput}
+use Rattle.rules.specs.declared.ElementCutOutput.the-variants.{Flush, NonFlush}
+use Rattle.rules.specs.declared.CutReply.{CutReply}
+use Rattle.rules.specs.declared.CutReply.the-variants.{Refused, Answered}
+use Rattle.rules.specs.declared.ListReply.{ListReply}
+use Rattle.rules.specs.declared.ListReply.the-variants.{Refused as ListRefused, Listed}
+use Rattle.rules.specs.declared.FacetReply.the-variants.{Refused as FacetRefused}
+
+-- ---- calls
+
+-- a call on the table at hand: a cut, or a question, which only reads; a cube that is taken starts another table
+pub data Call : Type 0 where
+  cutting : Hyperplane → Bool → Bool → ElementNumber → Call
+  asking : Call
+
+abbrev pub after : Limits → Call → Memory → Memory
+after L (cutting h i o root) m = cutReply L h i o root m .1
+after L asking m = m
+
+-- the memory after some calls in turn, each taken or refused
+abbrev pub afterCalls : Limits → List Call → Memory → Memory
+afterCalls L [] m = m
+afterCalls L (c ∷ cs) m = afterCalls L cs (after L c m)
+
+-- the questions that give a list
+pub data ListQuestion : Type 0 where
+  subElementsOf : ElementNumber → ListQuestion
+  subElementsWithRank : ℕ → ElementNumber → ListQuestion
+  vertexSetOf : ElementNumber → ListQuestion
+  greatestCommonOf : List ElementNumber → ListQuestion
+  edgesInOrderOf : ElementNumber → ListQuestion
+
+abbrev pub listReply : Limits → ListQuestion → Memory → List ℕ → ListReply × List ℕ
+listReply L (subElementsOf e) m room = subElementsReply L m e room
+listReply L (subElementsWithRank k e) m room = withRankReply L m k e room
+listReply L (vertexSetOf e) m room = vertexSetReply L m e room
+listReply L (greatestCommonOf es) m room = greatestCommonReply L m es room
+listReply L (edgesInOrderOf e) m room = edgesInOrderReply L m e room
+
+-- ---- demand 1: an answer, or one numbered refusal that leaves everything as it came
+
+-- a refused cut leaves the memory
+abbrev pub RefusedCutLeaves : Limits → Type 0
+RefusedCutLeaves L = (h : Hyperplane) (i o : Bool) (root : ElementNumber) (m : Memory)
+    → 0 < cutNumber (cutReply L h i o root m .0) → cutReply L h i o root m .1 ≡ m
+
+-- a refused cube leaves the memory
+abbrev pub RefusedCubeLeaves : Limits → Type 0
+RefusedCubeLeaves L = (d : ℕ) (radius : Float) (m : Memory) → 0 < cubeReply L d radius m .0 → cubeReply L d radius m .1 ≡ m
+
+-- a refused question leaves the list room
+abbrev pub RefusedListLeaves : Limits → Type 0
+RefusedListLeaves L = (q : ListQuestion) (m : Memory) (room : List ℕ) → 0 < listNumber (listReply L q m room .0) → listReply L q m room .1 ≡ room
+
+-- a list done fills the front of its room and leaves the remainder
+abbrev pub ListFillsFront : Limits → Type 0
+ListFillsFront L = (q : ListQuestion) (m : Memory) (room after : List ℕ) (n : ℕ) → listReply L q m room ≡ (Listed n, after)
+    → (n ≤ length room) × (length after ≡ length room) × (drop n after ≡ drop n room)
+
+-- which refusals each public reply can give
+abbrev pub CutNumbers : Limits → Type 0
+CutNumbers L = (h : Hyperplane) (i o : Bool) (root : ElementNumber) (m : Memory) (n : ℕ)
+    → cutReply L h i o root m .0 ≡ Refused n → member n (3 ∷ 4 ∷ 5 ∷ 7 ∷ 8 ∷ 9 ∷ 10 ∷ 11 ∷ []) ≡ true
+
+abbrev pub CubeNumbers : Limits → Type 0
+CubeNumbers L = (d : ℕ) (radius : Float) (m : Memory) → member (cubeReply L d radius m .0) (0 ∷ 1 ∷ 2 ∷ 3 ∷ []) ≡ true
+
+abbrev pub listRefusals : ListQuestion → List ℕ
+listRefusals (subElementsOf e) = 3 ∷ 4 ∷ 12 ∷ []
+listRefusals (subElementsWithRank k e) = 3 ∷ 4 ∷ 12 ∷ []
+listRefusals (vertexSetOf e) = 3 ∷ 4 ∷ 12 ∷ []
+listRefusals (greatestCommonOf es) = 3 ∷ 4 ∷ 6 ∷ 12 ∷ []
+listRefusals (edgesInOrderOf e) = 3 ∷ 4 ∷ 6 ∷ 7 ∷ 12 ∷ []
+
+abbrev pub ListNumbers : Limits → Type 0
+ListNumbers L = (q : ListQuestion) (m : Memory) (room : List ℕ) (n : ℕ)
+    → listReply L q m room .0 ≡ ListRefused n → member n (listRefusals q) ≡ true
+
+abbrev pub FacetNumbers : Limits → Type 0
+FacetNumbers L = (m : Memory) (e : ElementNumber) (n : ℕ) → primordialFacetReply L m e ≡ FacetRefused n → member n (3 ∷ 4 ∷ 6 ∷ []) ≡ true
+
+abbrev pub SoundNumbers : Limits → Type 0
+SoundNumbers L = (m : Memory) → member (isSoundReply L m) (0 ∷ 3 ∷ []) ≡ true
+
+-- ---- demand 3: after an unrefused cut
+
+-- a row of a slice, by its number and its width
+abbrev pub rowAt : {A : Type 0} → ℕ → List A → ℕ → List A
+rowAt w xs n = take w (drop (n * w) xs)
+
+-- every entry of the old memory stands in the new one under its number, word for word
+pub record Keeps (L : Limits) (old new : Memory) : Type 0 where
+  pub dimension : getD (new .counts) 0 0 ≡ getD (old .counts) 0 0
+  pub elements : (e : ℕ) → e < getD (old .counts) 1 0 → rowAt (elementWidth L) (new .elements) e ≡ rowAt (elementWidth L) (old .elements) e
+  pub vertices : (v : ℕ) → v < getD (old .counts) 2 0 → rowAt (L .dimensions) (new .points) v ≡ rowAt (L .dimensions) (old .points) v
+  pub hyperplanes : (h : ℕ) → h < getD (old .counts) 3 0 → rowAt (planeWidth L) (new .planes) h ≡ rowAt (planeWidth L) (old .planes) h
+  pub noFewer : (k : ℕ) → getD (old .counts) k 0 ≤ getD (new .counts) k 0
+
+-- old entries keep number and content, after any calls
+abbrev pub OldEntriesStay : Limits → Type 0
+OldEntriesStay L = (cs : List Call) (m : Memory) → soundMemory L m ≡ true → Keeps L m (afterCalls L cs m)
+
+-- the new table is sound, after any calls
+abbrev pub StaysSound : Limits → Type 0
+StaysSound L = (cs : List Call) (m : Memory) → soundMemory L m ≡ true → soundMemory L (afterCalls L cs m) ≡ true
+
+-- the n-th boundary element of x
+abbrev pub border : Table → ElementNumber → ℕ → ElementNumber
+border t x n = getD (boundary t x) n 0
+
+-- element x, of rank r, has at least r + 1 boundary elements, no two the same since they rise, all earlier and of rank r - 1
+pub record Bordered (t : Table) (x : ElementNumber) : Type 0 where
+  pub enough : suc (rank t x) ≤ length (boundary t x)
+  pub rising : (i j : ℕ) → i < j → j < length (boundary t x) → border t x i < border t x j
+  pub earlier : (j : ℕ) → j < length (boundary t x) → border t x j < x
+  pub ranks : (j : ℕ) → j < length (boundary t x) → suc (rank t (border t x j)) ≡ rank t x
+
+-- so has each element of rank above 0 that calls have appended, and each that was there
+abbrev pub EnoughBoundary : Limits → Type 0
+EnoughBoundary L = (cs : List Call) (m : Memory) → soundMemory L m ≡ true → (x : ElementNumber)
+    → x < elementCount (decode L (afterCalls L cs m)) → 0 < rank (decode L (afterCalls L cs m)) x → Bordered (decode L (afterCalls L cs m)) x
+
+-- the same cut again, after any further calls, gives the same reply and leaves the memory as it is
+abbrev pub AgainLater : Limits → Type 0
+AgainLater L = (h : Hyperplane) (i o : Bool) (root : ElementNumber) (m : Memory) → cutNumber (cutReply L h i o root m .0) ≡ 0
+    → (cs : List Call) → let later = afterCalls L cs (cutReply L h i o root m .1) in
+    cutReply L h i o root later ≡ (cutReply L h i o root m .0, later)
+
+-- a distance that is no infinity
+abbrev pub Finite : Float → Type 0
+Finite d = (s : Bool) → d ≡ inf s → ⊥
+
+-- both sides kept, a finite divider, and a root that is no corner: one side asked later is the same piece with the same face, and nothing is added
+abbrev pub OneSideLater : Limits → Type 0
+OneSideLater L = (h : Hyperplane) (root : ElementNumber) (m m′ : Memory) (in′ out x : ElementOrNone)
+    → Finite (h .distance) → 0 < rank (decode L m) root → cutReply L h true true root m ≡ (Answered (NonFlush in′ out x), m′)
+    → (cs : List Call) → let later = afterCalls L cs m′ in
+    (cutReply L h true false root later ≡ (Answered (NonFlush in′ None x), later))
+    × (cutReply L h false true root later ≡ (Answered (NonFlush None out x), later))
+
+-- and what was flush is flush, whichever sides are kept
+abbrev pub FlushLater : Limits → Type 0
+FlushLater L = (h : Hyperplane) (root : ElementNumber) (m m′ : Memory)
+    → Finite (h .distance) → 0 < rank (decode L m) root → cutReply L h true true root m ≡ (Answered Flush, m′)
+    → (i o : Bool) (cs : List Call) → cutReply L h i o root (afterCalls L cs m′) ≡ (Answered Flush, afterCalls L cs m′)
+
+-- ---- the cube, and what is reached from it
+
+-- a cube that is not refused is sound: every dimension in the room, every radius in range
+abbrev pub CubeIsSound : Limits → Type 0
+CubeIsSound L = (d : ℕ) (radius : Float) (m : Memory) → cubeReply L d radius m .0 ≡ 0 → soundMemory L (cubeReply L d radius m .1) ≡ true
+
+-- no vertex matches an earlier one
+abbrev pub Unmatched : Table → Type 0
+Unmatched t = (i j : ℕ) → i < j → j < length (t .points) → pointMatches (getD (t .points) i []) (getD (t .points) j []) ≡ false
+
+-- one crossing, one corner: from a cube, by any calls, a crossing is never entered as two corners
+abbrev pub OneCrossingOneCorner : Limits → Type 0
+OneCrossingOneCorner L = (d : ℕ) (radius : Float) (m : Memory) → cubeReply L d radius m .0 ≡ 0
+    → (cs : List Call) → Unmatched (decode L (afterCalls L cs (cubeReply L d radius m .1)))
+
+-- and a table without matching vertices, whatever it came from, stays so
+abbrev pub StaysUnmatched : Limits → Type 0
+StaysUnmatched L = (cs : List Call) (m : Memory) → Unmatched (decode L m) → Unmatched (decode L (afterCalls L cs m))
+
+-- ---- pieces that the plane misses
+
+-- every corner of the root is on one side of the divider
+abbrev pub AllOn : Side → Plane → Table → ElementNumber → Type 0
+AllOn side h t root = (x : ElementNumber) → isBelow t root x ≡ true → rank t x ≡ 0 → sideOf (signedDistance (h .normal) (h .distance) (pointAt t x)) ≡ side
+
+-- a call that 3, 4 and 5 let pass
+pub record Passes (L : Limits) (h : Hyperplane) (root : ElementNumber) (m : Memory) : Type 0 where
+  pub sound : soundMemory L m ≡ true
+  pub used : root < elementCount (decode L m)
+  pub fits : dividerFits L (decode L m .dimension) h ≡ true
+
+-- rule 2 and nothing more: the divider's hyperplane is matched or appended (or 10), and the answer is this one
+abbrev pub onlyPlane : Limits → Hyperplane → Memory → ElementCutOutput → CutReply × Memory
+onlyPlane L h m a = let t = decode L m in written L m (next (addPlane L (dividerOf (t .dimension) h) t) (λ n. give a))
+
+-- a missed piece is its old entry: all corners Inside and inside kept, the answer is the root, none, none; the same for Outside
+abbrev pub MissedPiece : Limits → Type 0
+MissedPiece L = (h : Hyperplane) (root : ElementNumber) (m : Memory) → Passes L h root m → Finite (h .distance)
+    → (AllOn Inside (dividerOf (decode L m .dimension) h) (decode L m) root
+    → (o : Bool) → cutReply L h true o root m ≡ onlyPlane L h m (NonFlush (given root) None None))
+    × (AllOn Outside (dividerOf (decode L m .dimension) h) (decode L m) root
+    → (i : Bool) → cutReply L h i true root m ≡ onlyPlane L h m (NonFlush None (given root) None))
+
+-- an infinite distance answers the root, as inside for + and as outside for -, and leaves the memory as it is
+abbrev pub InfiniteDistance : Limits → Type 0
+InfiniteDistance L = (h : Hyperplane) (i o : Bool) (root : ElementNumber) (m : Memory) → Passes L h root m
+    → (h .distance ≡ inf false → cutReply L h i o root m ≡ (Answered (NonFlush (given root) None None), m))
+    × (h .distance ≡ inf true → cutReply L h i o root m ≡ (Answered (NonFlush None (given root) None), m))
+
+-- ---- memory and room
+
+-- what is written of a sound table is sound and is read back, and a sound memory is what is written of its table
+abbrev pub ReadBack : Limits → Type 0
+ReadBack L = ((t : Table) → sound L t ≡ true → (soundMemory L (encode L t) ≡ true) × (decode L (encode L t) ≡ t))
+    × ((m : Memory) → soundMemory L m ≡ true → encode L (decode L m) ≡ m)
+
+-- what a room does not refuse, a roomier one answers alike; and what is sound in the one is sound in the other
+abbrev pub RoomierAlike : Limits → Type 0
+RoomierAlike L = (M : Limits) → Roomier L M
+    → ((h : Plane) (i o : Bool) (root : ElementNumber) (t t′ : Table) (a : ElementCutOutput) → cut L h i o root t ≡ done a t′ → cut M h i o root t ≡ done a t′)
+    × ((t : Table) → sound L t ≡ true → sound M t ≡ true)
+
+-- ---- beside the definitions
+
+-- a crossing never lies outside the box of its edge: a clamped coordinate lies from the lesser end to the greater, whatever was clamped
+pub record Between (a b x : Float) : Type 0 where
+  pub above : (le a x || le b x) ≡ true
+  pub under : (le x a || le x b) ≡ true
+
+abbrev pub InTheBox : Type 0
+InTheBox = (a b x : Float) → isNan a ≡ false → isNan b ≡ false → Between a b (clamp a b x)
+
+-- x is e, or is reached from a boundary element of e
+pub data Reaches (t : Table) : ElementNumber → ElementNumber → Type 0 where
+  itself : (e : ElementNumber) → Reaches t e e
+  lower : (e n x : ElementNumber) → n < length (boundary t e) → Reaches t (border t e n) x → Reaches t e x
+
+-- the root and all below it
+abbrev pub SubElementsAreReached : Limits → Type 0
+SubElementsAreReached L = (t : Table) → sound L t ≡ true → (e x : ElementNumber) → e < elementCount t
+    → (isBelow t e x ≡ true → Reaches t e x) × (Reaches t e x → isBelow t e x ≡ true)
+
+abbrev pub VertexSetRises : Limits → Type 0
+VertexSetRises L = (t : Table) → sound L t ≡ true → (e : ElementNumber) → rises (vertexSet t e) ≡ true
+
+-- always no in one dimension
+abbrev pub NoFacetInOneDimension : Limits → Type 0
+NoFacetInOneDimension L = (t : Table) → sound L t ≡ true → t .dimension ≡ 1 → (e : ElementNumber) → e < elementCount t → rank t e ≡ 1
+    → primordialFacet t e ≡ answer false
+
+-- ---- all of it
+
+pub record Promises (L : Limits) : Type 0 where
+  pub refused-cut-leaves : RefusedCutLeaves L
+  pub refused-cube-leaves : RefusedCubeLeaves L
+  pub refused-list-leaves : RefusedListLeaves L
+  pub list-fills-front : ListFillsFront L
+  pub cut-numbers : CutNumbers L
+  pub cube-numbers : CubeNumbers L
+  pub list-numbers : ListNumbers L
+  pub facet-numbers : FacetNumbers L
+  pub sound-numbers : SoundNumbers L
+  pub old-entries-stay : OldEntriesStay L
+  pub stays-sound : StaysSound L
+  pub enough-boundary : EnoughBoundary L
+  pub again-later : AgainLater L
+  pub one-side-later : OneSideLater L
+  pub flush-later : FlushLater L
+  pub cube-is-sound : CubeIsSound L
+  pub one-crossing-one-corner : OneCrossingOneCorner L
+  pub stays-unmatched : StaysUnmatched L
+  pub missed-piece : MissedPiece L
+  pub infinite-distance : InfiniteDistance L
+  pub read-back : ReadBack L
+  pub roomier-alike : RoomierAlike L
+  pub in-the-box : InTheBox
+  pub sub-elements-are-reached : SubElementsAreReached L
+  pub vertex-set-rises : VertexSetRises L
+  pub no-facet-in-one-dimension : NoFacetInOneDimension L

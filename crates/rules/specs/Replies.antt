@@ -1,0 +1,166 @@
+-- Document 01, "The numbered replies": the whole reply of each public function, and the memory or the list room after it. Definitions only.
+use Prim.Native.Nat.{ℕ, zero, suc}
+use mathlib.Core.Bool.{Bool, true, false, not, _&&_}
+use mathlib.Core.Option.{Option, none, some}
+use mathlib.Core.List.{List, [], _∷_, _++_, map}
+use lib.Dec.{leb, ltb, eqb}
+use lib.ListN.{length, take, drop}
+use lib.Ieee.{Float, nan, inf, fin}
+use Rattle.rules.specs.Limits.{Limits}
+use Rattle.rules.specs.Lists.{if_then_else_, all, joined}
+use Rattle.rules.specs.Floats.{plusZero, sameBits, within, farthestPlane, unit}
+use Rattle.rules.specs.Table.{ElementNumber, VertexNumber, Plane, Table, elementCount}
+use Rattle.rules.specs.Memory.{Memory, encode, decode, rightSize, soundMemory}
+use Rattle.rules.specs.Cube.{cube, radiusFits}
+use Rattle.rules.specs.Cut.{Outcome, refused, done, cut}
+use Rattle.rules.specs.Questions.{Asked, no-answer, answer, subElements, withRank, vertexSet, greatestCommon, edgesInOrder, primordialFacet}
+use Rattle.rules.specs.declared.Hyperplane.{Hyperplane}
+use Rattle.rules.specs.declared.Side.{Side}
+use Rattle.rules.specs.declared.Side.the-variants.{Inside, On, Outside}
+use Rattle.rules.specs.declared.Crossing.{Crossing}
+use Rattle.rules.specs.declared.Crossing.the-variants.{None as NoCrossing, At}
+use Rattle.rules.specs.declared.ElementOrNone.{ElementOrNone}
+use Rattle.rules.specs.declared.ElementOrNone.the-variants.{None, Some}
+use Rattle.rules.specs.declared.ElementCutOutput.{ElementCutOutput}
+use Rattle.rules.specs.declared.ElementCutOutput.the-variants.{Flush, NonFlush}
+use Rattle.rules.specs.declared.CutReply.{CutReply}
+use Rattle.rules.specs.declared.CutReply.the-variants.{Refused, Answered}
+use Rattle.rules.specs.declared.ListReply.{ListReply}
+use Rattle.rules.specs.declared.ListReply.the-variants.{Refused as ListRefused, Listed}
+use Rattle.rules.specs.declared.FacetReply.{FacetReply}
+use Rattle.rules.specs.declared.FacetReply.the-variants.{Refused as FacetRefused, Has}
+
+-- ---- document 01's number and values for each case of an enum
+
+-- 0, done, carries the answer; a refusal carries its number and no elements
+abbrev pub cutNumber : CutReply → ℕ
+cutNumber (Refused n) = n
+cutNumber (Answered a) = 0
+
+abbrev pub listNumber : ListReply → ℕ
+listNumber (ListRefused n) = n
+listNumber (Listed n) = 0
+
+abbrev pub facetNumber : FacetReply → ℕ
+facetNumber (FacetRefused n) = n
+facetNumber (Has b) = 0
+
+-- the element's number, or none
+abbrev pub elementValue : ElementOrNone → Option ElementNumber
+elementValue None = none
+elementValue (Some e) = some (e .0)
+
+-- a Flush answer carries nothing; the other carries three places: inside, outside, intersection
+abbrev pub outputValues : ElementCutOutput → List (Option ElementNumber)
+outputValues Flush = []
+outputValues (NonFlush i o x) = elementValue i ∷ elementValue o ∷ elementValue x ∷ []
+
+abbrev pub cutValues : CutReply → List (Option ElementNumber)
+cutValues (Refused n) = []
+cutValues (Answered a) = outputValues a
+
+-- how many numbers were written; a refused list has no size
+abbrev pub listSize : ListReply → Option ℕ
+listSize (ListRefused n) = none
+listSize (Listed n) = some n
+
+abbrev pub facetValue : FacetReply → Option Bool
+facetValue (FacetRefused n) = none
+facetValue (Has b) = some b
+
+-- t, or none for no crossing
+abbrev pub crossingValue : Crossing → Option Float
+crossingValue NoCrossing = none
+crossingValue (At t) = some t
+
+-- as the session counts sides: 1 inside, 2 outside, and 0 for neither
+abbrev pub sideValue : Side → ℕ
+sideValue Inside = 1
+sideValue On = 0
+sideValue Outside = 2
+
+-- ---- whether a memory is sound: 0 or 3
+
+unfoldable pub isSoundReply : Limits → Memory → ℕ
+isSoundReply L m = if soundMemory L m then 0 else 3
+
+-- ---- a cube: 1, 2, 3 (room size only)
+
+unfoldable pub cubeReply : Limits → ℕ → Float → Memory → ℕ × Memory
+cubeReply L d radius m =
+    if not (leb 1 d && leb d (L .dimensions)) then (1, m)
+    else if not (radiusFits radius) then (2, m)
+    else if not (rightSize L m) then (3, m)
+    else (0, encode L (cube d radius))
+
+-- ---- a cut: 3, 4, 5, and then the first met in the rules' own order
+
+-- a distance from -262,144 to 262,144, or infinite
+abbrev pub distanceFits : Float → Bool
+distanceFits nan = false
+distanceFits (inf s) = true
+distanceFits (fin s m e) = within farthestPlane (fin s m e)
+
+-- a component for each axis of the room: those of the dimension make a unit normal, and those past it are zero bits
+unfoldable pub dividerFits : Limits → ℕ → Hyperplane → Bool
+dividerFits L d h =
+    eqb (length (h .normal)) (L .dimensions) && unit (take d (h .normal)) && all (sameBits plusZero) (drop d (h .normal))
+    && distanceFits (h .distance)
+
+-- the divider with the dimension's components only
+abbrev pub dividerOf : ℕ → Hyperplane → Plane
+dividerOf d h = record { normal = take d (h .normal); distance = h .distance }
+
+-- a refusal restores all memory
+abbrev pub written : Limits → Memory → Outcome ElementCutOutput → CutReply × Memory
+written L m (refused n) = (Refused n, m)
+written L m (done a t) = (Answered a, encode L t)
+
+unfoldable pub cutReply : Limits → Hyperplane → Bool → Bool → ElementNumber → Memory → CutReply × Memory
+cutReply L h i o root m =
+    let t = decode L m in
+    if not (soundMemory L m) then (Refused 3, m)
+    else if not (ltb root (elementCount t)) then (Refused 4, m)
+    else if not (dividerFits L (t .dimension) h) then (Refused 5, m)
+    else written L m (cut L (dividerOf (t .dimension) h) i o root t)
+
+-- ---- a question: 3, 4, then its own (6, 7), and 12 last; the table is read only
+
+abbrev pub asked : {A : Type 0} → Limits → Memory → List ElementNumber → Asked A → Asked A
+asked L m es q =
+    if not (soundMemory L m) then no-answer 3
+    else if not (all (λ e. ltb e (elementCount (decode L m))) es) then no-answer 4
+    else q
+
+-- a list done fills the front of its room and leaves the remainder
+abbrev pub listed : Asked (List ℕ) → List ℕ → ListReply × List ℕ
+listed (no-answer n) room = (ListRefused n, room)
+listed (answer xs) room =
+    if leb (length xs) (length room) then (Listed (length xs), xs ++ drop (length xs) room) else (ListRefused 12, room)
+
+unfoldable pub subElementsReply : Limits → Memory → ElementNumber → List ℕ → ListReply × List ℕ
+subElementsReply L m e room = listed (asked L m (e ∷ []) (answer (subElements (decode L m) e))) room
+
+unfoldable pub withRankReply : Limits → Memory → ℕ → ElementNumber → List ℕ → ListReply × List ℕ
+withRankReply L m k e room = listed (asked L m (e ∷ []) (answer (withRank (decode L m) k e))) room
+
+unfoldable pub vertexSetReply : Limits → Memory → ElementNumber → List ℕ → ListReply × List ℕ
+vertexSetReply L m e room = listed (asked L m (e ∷ []) (answer (vertexSet (decode L m) e))) room
+
+unfoldable pub greatestCommonReply : Limits → Memory → List ElementNumber → List ℕ → ListReply × List ℕ
+greatestCommonReply L m es room = listed (asked L m es (greatestCommon (decode L m) es)) room
+
+-- pairs, as two numbers each; the reply counts the numbers
+abbrev pub inNumbers : Asked (List (VertexNumber × VertexNumber)) → Asked (List ℕ)
+inNumbers (no-answer n) = no-answer n
+inNumbers (answer ps) = answer (joined (map (λ (p : VertexNumber × VertexNumber). p .0 ∷ p .1 ∷ []) ps))
+
+unfoldable pub edgesInOrderReply : Limits → Memory → ElementNumber → List ℕ → ListReply × List ℕ
+edgesInOrderReply L m e room = listed (asked L m (e ∷ []) (inNumbers (edgesInOrder (decode L m) e))) room
+
+abbrev pub facetAnswer : Asked Bool → FacetReply
+facetAnswer (no-answer n) = FacetRefused n
+facetAnswer (answer b) = Has b
+
+unfoldable pub primordialFacetReply : Limits → Memory → ElementNumber → FacetReply
+primordialFacetReply L m e = facetAnswer (asked L m (e ∷ []) (primordialFacet (decode L m) e))
