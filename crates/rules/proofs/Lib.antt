@@ -20,6 +20,7 @@ pub mod Fine
 pub mod Good
 pub mod GoodAppends
 pub mod Growing
+pub mod Indexed
 pub mod Later
 pub mod LaterAppends
 pub mod Laws

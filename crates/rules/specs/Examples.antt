@@ -5,7 +5,7 @@ use mathlib.Core.Bool.{Bool, true, false}
 use mathlib.Core.Option.{Option, none, some}
 use mathlib.Core.List.{List, [], _∷_, _++_, map}
 use lib.IntN.{pos, negsuc}
-use lib.ListN.{length, set, drop}
+use lib.ListN.{set, drop}
 use lib.Ieee.{Float, nan, inf, fin, neg, ofBits, binary64}
 use Rattle.rules.specs.Limits.{Limits}
 use Rattle.rules.specs.Floats.{plusZero, one, tolerance, sideOf, edgeTest, crossingPoint, clamp}

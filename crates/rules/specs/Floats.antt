@@ -1,6 +1,5 @@
 -- Document 01, "Floats": tolerance, signed distance, side, unit normal, crossing, match. Definitions only.
 -- A point is the list of its coordinates, one for each dimension.
-use Prim.Native.Nat.{ℕ, zero, suc}
 use mathlib.Core.Bool.{Bool, true, false, _&&_, _||_, Bool·beq}
 use mathlib.Core.List.{List, [], _∷_}
 use lib.IntN.{ℤ, pos, negsuc}

@@ -3,14 +3,14 @@ use Prim.Native.Nat.{ℕ}
 use mathlib.Core.Bool.{Bool, true, false}
 use mathlib.Core.Option.{Option, none, some}
 use mathlib.Core.List.{List, [], _∷_}
-use lib.ListN.{length, take, drop, replicate}
+use lib.ListN.{take, drop, replicate}
 use lib.Ieee.{Float, inf, ofBits, binary64}
 use Rattle.rules.specs.Limits.{Limits, desk}
 use Rattle.rules.specs.Floats.{plusZero, one, tolerance, sideOf}
 use Rattle.rules.specs.Table.{ElementNumber}
 use Rattle.rules.specs.Memory.{Memory, encode}
 use Rattle.rules.specs.Cube.{cube}
-use Rattle.rules.specs.Replies.{cutNumber, cutValues, listNumber, cutReply, greatestCommonReply, edgesInOrderReply}
+use Rattle.rules.specs.Replies.{cutNumber, cutValues, cutReply, greatestCommonReply, edgesInOrderReply}
 use Rattle.rules.specs.declared.Hyperplane.{Hyperplane}
 use Rattle.rules.specs.declared.Side.{Side}
 use Rattle.rules.specs.declared.Side.the-variants.{On, Outside}

@@ -1,6 +1,6 @@
 -- What is promised of the rules, over any room: each statement in the words of the demands. Definitions only.
 -- proofs/Promises.antt proves the record at the end, for every room that can be read back and has place for its cubes: the desk's, and the large one.
-use Prim.Native.Nat.{ℕ, zero, suc, _*_, _≤_, _<_}
+use Prim.Native.Nat.{ℕ, suc, _*_, _≤_, _<_}
 use mathlib.Core.Path.{_≡_}
 use mathlib.Core.Bool.{Bool, true, false, _||_}
 use mathlib.Core.List.{List, [], _∷_}
@@ -12,8 +12,8 @@ use Rattle.rules.specs.Floats.{sideOf, signedDistance, clamp, pointMatch
 use Rattle.rules.specs.Table.{ElementNumber, Plane, Table, rank, boundary, elementCount, pointAt}
 use Rattle.rules.specs.Sound.{sound}
 use Rattle.rules.specs.Memory.{Memory, elementWidth, planeWidth, encode, decode, soundMemory}
-use Rattle.rules.specs.Cut.{Outcome, done, give, next, addPlane, cut, given}
-use Rattle.rules.specs.Questions.{Asked, answer, isBelow, vertexSet, primordialFacet}
+use Rattle.rules.specs.Cut.{done, give, next, addPlane, cut, given}
+use Rattle.rules.specs.Questions.{answer, isBelow, vertexSet, primordialFacet}
 use Rattle.rules.specs.Replies.{cutNumber, listNumber, isSoundReply, cubeReply, dividerFits, dividerOf, written, cutReply, subElementsReply, withRankReply, vertexSetReply, greatestCommonReply, edgesInOrderReply, primordialFacetReply}
 use Rattle.rules.specs.declared.Hyperplane.{Hyperplane}
 use Rattle.rules.specs.declared.Side.{Side}

@@ -1,5 +1,5 @@
 -- Document 01, "The numbered replies": the whole reply of each public function, and the memory or the list room after it. Definitions only.
-use Prim.Native.Nat.{ℕ, zero, suc}
+use Prim.Native.Nat.{ℕ}
 use mathlib.Core.Bool.{Bool, true, false, not, _&&_}
 use mathlib.Core.Option.{Option, none, some}
 use mathlib.Core.List.{List, [], _∷_, _++_, map}
@@ -9,7 +9,7 @@ use lib.Ieee.{Float, nan, inf, fin}
 use Rattle.rules.specs.Limits.{Limits}
 use Rattle.rules.specs.Lists.{if_then_else_, all, joined}
 use Rattle.rules.specs.Floats.{plusZero, sameBits, within, farthestPlane, unit}
-use Rattle.rules.specs.Table.{ElementNumber, VertexNumber, Plane, Table, elementCount}
+use Rattle.rules.specs.Table.{ElementNumber, VertexNumber, Plane, elementCount}
 use Rattle.rules.specs.Memory.{Memory, encode, decode, rightSize, soundMemory}
 use Rattle.rules.specs.Cube.{cube, radiusFits}
 use Rattle.rules.specs.Cut.{Outcome, refused, done, cut}

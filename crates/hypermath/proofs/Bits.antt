@@ -1,0 +1,78 @@
+-- Equal bits: as data there is one NaN, and of the others the bits tell the value, since a value of the format is what its bits stand for.
+use mathlib.Core.Path.{_≡_, refl, sym, ap, _∙_, subst}
+use mathlib.Core.Bool.{Bool, true, false, not, _||_, true≢false, false≢true}
+use lib.Dec.{T, eqb}
+use lib.Ieee.{Float, nan, inf, fin, binary64, sub, ne, isNan, fits, toBits, ofBits}
+use lib.Ieee.Bits.{ofBits-toBits}
+use lib.Ieee.Compare.{differs-from-itself, nan-differs}
+use Rattle.rules.specs.Floats.{tolerance, within, sameBits, matches}
+use Rattle.rules.proofs.Laws.{truly, falsely, eq-test, eqb-self, refute}
+use Rattle.rules.proofs.Selves.{bits-self, same-float}
+
+-- only a NaN differs from itself
+pub differs : (x : Float) → ne x x ≡ isNan x
+unfolding isNan
+differs nan = nan-differs
+differs (inf s) = refute (ne (inf s) (inf s)) (λ e. false≢true (ap isNan (differs-from-itself (inf s) (truly _ e))))
+differs (fin s m e) = refute (ne (fin s m e) (fin s m e)) (λ h. false≢true (ap isNan (differs-from-itself (fin s m e) (truly _ h))))
+
+pub number : (x : Float) → ne x x ≡ false → T (not (isNan x))
+number x h = falsely (isNan x) (sym (differs x) ∙ h)
+
+-- the first is a NaN: the second is one too, or the bits differ
+pub nan-bits : (a b : Float) → ne a a ≡ true → ne b b ≡ sameBits a b
+unfolding isNan
+nan-bits a b h = differs b ∙ go a b (sym (differs a) ∙ h)
+  where
+    go : (x y : Float) → isNan x ≡ true → isNan y ≡ sameBits x y
+    go nan nan e = refl
+    go nan (inf t) e = refl
+    go nan (fin t n d) e = refl
+    go (inf s) y e = absurd (false≢true e)
+    go (fin s m d) y e = absurd (false≢true e)
+
+-- the second alone is one
+pub nan-second : (a b : Float) → ne a a ≡ false → ne b b ≡ true → false ≡ sameBits a b
+unfolding isNan
+nan-second a b h k = go a b (sym (differs a) ∙ h) (sym (differs b) ∙ k)
+  where
+    go : (x y : Float) → isNan x ≡ false → isNan y ≡ true → false ≡ sameBits x y
+    go nan y e f = absurd (true≢false e)
+    go (inf s) nan e f = refl
+    go (inf s) (inf t) e f = absurd (false≢true f)
+    go (inf s) (fin t n d) e f = absurd (false≢true f)
+    go (fin s m c) nan e f = refl
+    go (fin s m c) (inf t) e f = absurd (false≢true f)
+    go (fin s m c) (fin t n d) e f = absurd (false≢true f)
+
+-- two tests that hold together
+same-test : (a b : Bool) → (a ≡ true → b ≡ true) → (b ≡ true → a ≡ true) → a ≡ b
+same-test true b f g = sym (f refl)
+same-test false true f g = g refl
+same-test false false f g = refl
+
+-- neither is: the bits are equal exactly where the values are
+pub bits-tell : (a b : Float) → fits binary64 a ≡ true → fits binary64 b ≡ true → eqb (toBits binary64 a) (toBits binary64 b) ≡ sameBits a b
+bits-tell a b f g =
+    same-test (eqb (toBits binary64 a) (toBits binary64 b)) (sameBits a b)
+    (λ h. subst (λ (y : Float). sameBits a y ≡ true)
+    (sym (ofBits-toBits binary64 a (truly _ f)) ∙ ap (ofBits binary64) (eq-test (toBits binary64 a) (toBits binary64 b) h) ∙ ofBits-toBits binary64 b (truly _ g)) (bits-self a))
+    (λ h. subst (λ (y : Float). eqb (toBits binary64 a) (toBits binary64 y) ≡ true) (same-float a b h) (eqb-self (toBits binary64 a)))
+
+-- ---- matches: the difference is tested first, for it tells most
+
+pub match-near : (a b : Float) → within tolerance (sub binary64 a b) ≡ true → true ≡ matches a b
+unfolding matches
+match-near a b h = sym (either-way (sameBits a b) (within tolerance (sub binary64 a b)) h)
+  where
+    either-way : (p q : Bool) → q ≡ true → (p || q) ≡ true
+    either-way true q e = refl
+    either-way false q e = e
+
+pub match-bits : (a b : Float) → within tolerance (sub binary64 a b) ≡ false → sameBits a b ≡ matches a b
+unfolding matches
+match-bits a b h = sym (first (sameBits a b) (within tolerance (sub binary64 a b)) h)
+  where
+    first : (p q : Bool) → q ≡ false → (p || q) ≡ p
+    first true q e = refl
+    first false q e = e

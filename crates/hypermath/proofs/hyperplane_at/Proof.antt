@@ -1,0 +1,94 @@
+-- The components are copied one by one over zeros, and the distance stands behind them.
+use mathlib.Core.Path.{_≡_, refl}
+use Prim.Native.Nat.{_≤_, _-_, _+_, _*_}
+use native.Mathlib.Omega.{arith}
+use lib.Ieee
+use lib.ListN.{length, take, drop}
+use Rattle.hypermath.specs.Axes.{axes}
+use Rattle.hypermath.proofs.Filling.{copied}
+use Rattle.hypermath.proofs.Searches.{copy-row, row-is}
+use Rattle.hypermath.specs.Axes.{axes}
+use borrow.Author.Needs.{needs}
+use Rattle.hypermath.proofs.hyperplane_at.Statement.{statement}
+use Rattle.hypermath.proofs.hyperplane_at.Tie as tie
+
+abbrev Inv-loop : tie.InvT-loop
+Inv-loop planes k at normal₀ axis₀ normal axis = (axis ≤ axes) × (at ≡ k * (1 + axes)) × (length normal ≡ axes) × (normal ≡ copied (take (1 + axes) (drop (k * (1 + axes)) planes)) axes axis)
+
+abbrev μ-loop : tie.MeasureT-loop
+μ-loop planes k at normal₀ axis₀ normal axis = axes - axis
+
+add-at : tie.Need-add-at Inv-loop μ-loop
+add-at c = search needs
+
+mul-at : tie.Need-mul-at Inv-loop μ-loop
+mul-at c = search needs
+
+loop-holds : tie.Need-loop-holds Inv-loop μ-loop
+unfolding lib.Ieee.ofBits
+loop-holds c = (search needs, search needs, search needs, refl)
+
+add-normal : tie.Need-add-normal Inv-loop μ-loop
+add-normal c = search needs
+
+mul-normal : tie.Need-mul-normal Inv-loop μ-loop
+mul-normal c = search needs
+
+shared-slice-read-normal : tie.Need-shared-slice-read-normal Inv-loop μ-loop
+shared-slice-read-normal c = search needs
+
+mul-normal-2 : tie.Need-mul-normal-2 Inv-loop μ-loop
+mul-normal-2 c = search needs
+
+array-write-normal : tie.Need-array-write-normal Inv-loop μ-loop
+array-write-normal c = search needs
+
+add-axis : tie.Need-add-axis Inv-loop μ-loop
+add-axis c = search needs
+
+loop-less : tie.Need-loop-less Inv-loop μ-loop
+loop-less c = search needs
+
+loop-again : tie.Need-loop-again Inv-loop μ-loop
+loop-again c =
+    let at = c .before .before .loop in
+    let t = c .before .before .before .args in
+    (search needs, search needs, search needs, copy-row (1 + axes) (t .k) _ (t .planes .now) axes (at .axis) (omega arith) (c .before .before .before .pre) (at .inv .1) (at .inv .3) (c .before .loop-test .taken))
+
+add-t6 : tie.Need-add-t6 Inv-loop μ-loop
+add-t6 c = search needs
+
+mul-t16 : tie.Need-mul-t16 Inv-loop μ-loop
+mul-t16 c = search needs
+
+shared-slice-read-t18 : tie.Need-shared-slice-read-t18 Inv-loop μ-loop
+shared-slice-read-t18 c = search needs
+
+returns : tie.Need-returns Inv-loop μ-loop
+returns c =
+    let at = c .before .before .loop in
+    let t = c .before .before .before .args in
+    let r = row-is (1 + axes) (t .k) _ (t .planes .now) axes (at .axis) (omega arith) (c .before .before .before .pre) (at .inv .1) (at .inv .3) (omega arith) in
+    λ i. record { normal = r .0 i; distance = r .1 i }
+
+pub hyperplane-at-spec : {M : Type 1} → statement M
+hyperplane-at-spec =
+    tie.close
+    (tie.spec
+    Inv-loop
+    μ-loop
+    add-at
+    mul-at
+    loop-holds
+    add-normal
+    mul-normal
+    shared-slice-read-normal
+    mul-normal-2
+    array-write-normal
+    add-axis
+    loop-less
+    loop-again
+    add-t6
+    mul-t16
+    shared-slice-read-t18
+    returns)

@@ -1,0 +1,3 @@
+-- What the contracts of this crate cite beside the rules of floats.
+pub mod Axes
+pub mod Answers
