@@ -1,7 +1,7 @@
 -- Demand 3 at the public replies, for whole sequences of calls: every memory that follows a sound one is sound and goes on from it,
 -- so what was answered once is answered again, from the table that is there.
 use Prim.Native.Nat.{ℕ, _<_, suc, zero}
-use mathlib.Core.Bool.{not, true, Bool, false, false≢true}
+use mathlib.Core.Bool.{not, true, Bool, false≢true, false}
 use mathlib.Core.List.{List, [], _∷_}
 use mathlib.Core.Path.{_≡_, refl, subst, sym, _∙_, ap}
 use native.Mathlib.Nat.{lt-irrefl, le-trans}
@@ -13,6 +13,7 @@ use Rattle.rules.specs.Memory.{Memory, soundMemory, decode}
 use Rattle.rules.specs.Cut.{cut, done, cutAtDistance, given}
 use Rattle.rules.specs.Replies.{cutReply, dividerOf, dividerFits, written, cutNumber}
 use Rattle.rules.specs.Promises.{Finite, after, Call, asking, cutting, afterCalls, StaysSound, AgainLater, OneSideLater, FlushLater, InfiniteDistance}
+use Rattle.rules.specs.Held.{Extends}
 use Rattle.rules.specs.declared.CutReply.{CutReply}
 use Rattle.rules.specs.declared.CutReply.the-variants.{Refused, Answered}
 use Rattle.rules.specs.declared.ElementCutOutput.{ElementCutOutput}
@@ -21,7 +22,7 @@ use Rattle.rules.specs.declared.ElementOrNone.the-variants.{None}
 use Rattle.rules.specs.declared.Hyperplane.{Hyperplane}
 use Rattle.rules.proofs.Built.{built-extends}
 use Rattle.rules.proofs.Corners.{good-fine}
-use Rattle.rules.proofs.Extends.{Extends, extends-refl, extends-trans, count-more}
+use Rattle.rules.proofs.Extends.{extends-refl, extends-trans, count-more}
 use Rattle.rules.proofs.Fewer.{Dropped, lessKept, lessOutput}
 use Rattle.rules.proofs.Fine.{OutputIn}
 use Rattle.rules.proofs.Later.{same, Later}

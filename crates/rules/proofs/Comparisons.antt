@@ -6,7 +6,7 @@ use mathlib.Core.Path.{_≡_, refl, ap, subst, sym, _∙_}
 use native.Mathlib.Nat.{le-of-eq, lt-irrefl, le-trans, mul-pos, zero-lt-suc, zero-mul}
 use native.Mathlib.Omega.{arith}
 use lib.Dec.{T, ltb, eqb, ltb→lt, eqb→eq, nltb→le, eqb-refl}
-use lib.Ieee.{below, le, level, lt, eq, fin, up, down, Float, isNan, nan, inf}
+use lib.Ieee.{below, level, le, lt, eq, fin, up, down, Float, isNan, nan, inf}
 use lib.Ieee.Fits.{down-pos}
 use lib.Ieee.Positive.{through}
 use lib.IntN.{ℤ}

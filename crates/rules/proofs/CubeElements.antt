@@ -1,28 +1,29 @@
 -- The cube's elements pass the tests of a table: each by its digits, and no two are equal.
 -- Corners differ by how many come before them, and polytopes by their boundaries, which tell their numbers.
-use Prim.Native.Nat.{ℕ, zero, suc, _+_, _*_, _^_, _≤_, _<_}
-use mathlib.Core.Bool.{Bool, true, false, not, _&&_, Bool·beq, true≢false}
-use mathlib.Core.List.{List, [], _∷_, _++_, map, append-nil}
-use mathlib.Core.Option.{Option, none, some}
-use mathlib.Core.Path.{_≡_, refl, sym, ap, ap₂, _∙_, subst}
+use Prim.Native.Nat.{ℕ, _<_, _*_, _≤_, _^_, zero, suc, _+_}
+use mathlib.Core.Bool.{Bool, true, _&&_, false, not, true≢false, Bool·beq}
+use mathlib.Core.List.{List, [], _∷_, map, _++_, append-nil}
+use mathlib.Core.Option.{Option, some, none}
+use mathlib.Core.Path.{_≡_, refl, sym, ap, _∙_, subst, ap₂}
 use native.Mathlib.Nat.{add-zero, zero-add}
 use native.Mathlib.Numerals.{add-one}
 use native.Mathlib.Omega.{arith}
-use lib.Dec.{leb, ltb, eqb}
+use lib.Dec.{eqb, leb, ltb}
 use lib.Ieee.{Float}
 use lib.ListN.{length, length-map}
-use Rattle.rules.specs.Lists.{if_then_else_, all, keep, allFrom, alike, distinct, upTo}
-use Rattle.rules.specs.Table.{Element, corner, polytope, rankOf, boundaryOf, vertexOf, isCorner, samePlane, sameElement, element, rank}
-use Rattle.rules.specs.Sound.{endsOf, closed, namesPlane, namesNone, soundFacet, soundElement}
-use Rattle.rules.specs.Cube.{digits, ofDigits, twos, isVertex, isFacet, cubeElement, cube}
-use Rattle.rules.proofs.Counting.{before, before-zero, before-suc, before-less, bit, upTo-suc, getD-up, all-up, allFrom-up, distinct-up}
-use Rattle.rules.proofs.CubeDigits.{digits-length, digit-low, of-digits, twos-length}
-use Rattle.rules.proofs.CubeFaces.{faceNumbers, Tells, Face, faces-known, no-faces}
-use Rattle.rules.proofs.CubeSquares.{Twice, edgeEnds, squares-closed}
+use Rattle.rules.specs.Lists.{if_then_else_, alike, all, upTo, keep, distinct, allFrom}
+use Rattle.rules.specs.Table.{polytope, Element, isCorner, boundaryOf, sameElement, corner, samePlane, rank, rankOf, vertexOf, element}
+use Rattle.rules.specs.Sound.{endsOf, closed, soundFacet, namesPlane, namesNone, soundElement}
+use Rattle.rules.specs.Cube.{isVertex, digits, isFacet, twos, cube, cubeElement, ofDigits}
+use Rattle.rules.specs.Marked.{room}
+use Rattle.rules.specs.Held.{AllOf}
+use Rattle.rules.proofs.Counting.{before, all-up, before-zero, upTo-suc, bit, before-suc, before-less, distinct-up, getD-up, allFrom-up}
+use Rattle.rules.proofs.CubeDigits.{digit-low, twos-length, digits-length, of-digits}
+use Rattle.rules.proofs.CubeFaces.{Tells, Face, faceNumbers, no-faces, faces-known}
+use Rattle.rules.proofs.CubeSquares.{edgeEnds, Twice, squares-closed}
 use Rattle.rules.proofs.Good.{Bounded, whole-sound}
-use Rattle.rules.proofs.Growing.{keep-append, map-append}
-use Rattle.rules.proofs.Laws.{and-true, test-le, test-eq, eq-test, not-eq, unlike-eq}
-use Rattle.rules.proofs.Ranked.{AllOf}
+use Rattle.rules.proofs.Growing.{map-append, keep-append}
+use Rattle.rules.proofs.Laws.{and-true, eq-test, test-le, unlike-eq, not-eq, test-eq}
 use Rattle.rules.proofs.Selves.{alike-eq}
 
 and-fails : (a b : Bool) → (b ≡ true → ⊥) → (a && b) ≡ false

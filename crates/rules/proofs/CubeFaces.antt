@@ -1,19 +1,20 @@
 -- The boundary of an element of the cube, as numbers: how many, that they rise and are below the element's own, their ranks, and that they tell the element.
 -- By induction on the digits: a digit in front multiplies the numbers by 3, and a 2 in front adds two at the end.
-use Prim.Native.Nat.{ℕ, zero, suc, _+_, _*_, _<_}
-use mathlib.Core.Bool.{Bool, true, false}
-use mathlib.Core.List.{List, [], _∷_, _++_, map, append-nil}
-use mathlib.Core.Path.{_≡_, refl, sym, ap, _∙_, subst}
+use Prim.Native.Nat.{ℕ, _+_, _*_, _<_, zero, suc}
+use mathlib.Core.Bool.{true, Bool, false}
+use mathlib.Core.List.{List, map, _∷_, [], append-nil, _++_}
+use mathlib.Core.Path.{ap, _≡_, refl, _∙_, subst, sym}
 use native.Mathlib.Omega.{arith}
-use lib.Dec.{eqb, ltb}
+use lib.Dec.{ltb, eqb}
 use lib.ListN.{length, length-map, length-append}
-use Rattle.rules.specs.Lists.{if_then_else_, all, keep, rises}
-use Rattle.rules.specs.Cube.{digits, ofDigits, twos, faces}
+use Rattle.rules.specs.Lists.{rises, all, if_then_else_, keep}
+use Rattle.rules.specs.Table.{rank}
+use Rattle.rules.specs.Cube.{digits, ofDigits, faces, twos}
+use Rattle.rules.specs.Held.{AllOf}
 use Rattle.rules.proofs.CubeDigits.{digits-step, digits-of}
 use Rattle.rules.proofs.Extends.{Below}
 use Rattle.rules.proofs.Growing.{map-append}
-use Rattle.rules.proofs.Laws.{and-true, and-left, and-right, le-test, test-le}
-use Rattle.rules.proofs.Ranked.{AllOf}
+use Rattle.rules.proofs.Laws.{le-test, and-left, and-true, test-le, and-right}
 
 -- an element's boundary, from its digits
 unfoldable pub faceNumbers : List ℕ → List ℕ

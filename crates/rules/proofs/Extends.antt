@@ -2,8 +2,8 @@
 -- So an old entry keeps its number and content, and what looks only at old entries sees the same.
 use Prim.Native.Nat.{_+_, _≤_, ℕ, _<_, zero, suc}
 use mathlib.Core.Bool.{Bool, true, false}
-use mathlib.Core.List.{List, _++_, [], append-nil, append-assoc, _∷_}
-use mathlib.Core.Path.{_≡_, refl, sym, ap, _∙_, ap₂}
+use mathlib.Core.List.{List, [], append-nil, _++_, append-assoc, _∷_}
+use mathlib.Core.Path.{refl, sym, ap, _∙_, _≡_, ap₂}
 use native.Mathlib.Nat.{le-trans}
 use native.Mathlib.Omega.{arith}
 use lib.Dec.{ltb, eqb}
@@ -13,10 +13,7 @@ use Rattle.rules.specs.Lists.{if_then_else_, withMember, all, occurrence
 use Rattle.rules.specs.Table.{Table, element, elementCount, Element, corner, rank, rankOf, boundaryOf, Plane}
 use Rattle.rules.specs.Sound.{endsOf, closed}
 use Rattle.rules.specs.Cut.{withElement, withPoint, withPlane}
-use Rattle.rules.specs.Examples.{points, planes}
-
-abbrev pub Begins : {A : Type 0} → List A → List A → Type 0
-Begins {A} xs ys = (zs : List A) × (ys ≡ xs ++ zs)
+use Rattle.rules.specs.Held.{Begins, Extends}
 
 pub begins-refl : {A : Type 0} (xs : List A) → Begins xs xs
 begins-refl xs = ([], sym (append-nil xs))
@@ -24,12 +21,6 @@ begins-refl xs = ([], sym (append-nil xs))
 pub begins-trans : {A : Type 0} (xs ys zs : List A) → Begins xs ys → Begins ys zs → Begins xs zs
 begins-trans {A} xs ys zs p q =
     (p .0 ++ q .0, q .1 ∙ ap (λ (l : List A). l ++ q .0) (p .1) ∙ append-assoc xs (p .0) (q .0))
-
-pub record Extends (old new : Table) : Type 0 where
-  pub dimension : new .dimension ≡ old .dimension
-  pub points : Begins (old .points) (new .points)
-  pub elements : Begins (old .elements) (new .elements)
-  pub planes : Begins (old .planes) (new .planes)
 
 pub extends-refl : (t : Table) → Extends t t
 extends-refl t = record {

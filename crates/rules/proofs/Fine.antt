@@ -7,16 +7,17 @@ use native.Mathlib.Nat.{le-trans, le-of-lt, not-suc-le-zero, le-of-suc-le-suc, z
 use lib.Ieee.{Float}
 use lib.ListN.{length, getD, List·getD-append}
 use lib.Seq.{getD-append-seam}
-use Rattle.rules.specs.Table.{Element, corner, polytope, Table, elementCount, element, primordials, pointOf, pointAt, boundaryOf, boundary, Plane}
+use Rattle.rules.specs.Table.{Element, corner, polytope, Table, elementCount, element, primordials, pointOf, pointAt, boundary, boundaryOf, Plane}
 use Rattle.rules.specs.Cut.{Gathered, including, gathering, cornerAnswer, withElement, withPoint, withPlane}
 use Rattle.rules.specs.Examples.{planes}
+use Rattle.rules.specs.Held.{Begins, Extends}
 use Rattle.rules.specs.declared.ElementCutOutput.{ElementCutOutput}
 use Rattle.rules.specs.declared.ElementCutOutput.the-variants.{Flush, NonFlush}
 use Rattle.rules.specs.declared.ElementOrNone.{ElementOrNone}
 use Rattle.rules.specs.declared.ElementOrNone.the-variants.{Some, None}
 use Rattle.rules.specs.declared.Side.{Side}
 use Rattle.rules.specs.declared.Side.the-variants.{Inside, On, Outside}
-use Rattle.rules.proofs.Extends.{Below, below-with, below-more, Begins, Extends, element-same, grown-element, begins-length}
+use Rattle.rules.proofs.Extends.{Below, below-with, below-more, element-same, grown-element, begins-length}
 use Rattle.rules.proofs.Growing.{length-snoc}
 
 -- ---- numbers in use

@@ -14,7 +14,8 @@ use Rattle.rules.specs.Lists.{all, keep, upTo, allFrom, distinct, alike,
 use Rattle.rules.specs.Table.{Table, element, elementCount, boundaryOf, primordials, corner, vertexOf, isCorner, Element, sameElement, rank, polytope, rankOf}
 use Rattle.rules.specs.Sound.{soundPoint, sound, soundPlane, soundElement, roomFits, cornersInOrder, closed, soundBoundary, namesPlane, soundFacet, namesNone}
 use Rattle.rules.specs.Examples.{points, planes, corners, tight}
-use Rattle.rules.proofs.Extends.{Below, Extends, rank-same, below-more, closed-same, begins-length}
+use Rattle.rules.specs.Held.{Extends}
+use Rattle.rules.proofs.Extends.{Below, rank-same, below-more, closed-same, begins-length}
 use Rattle.rules.proofs.Growing.{allFrom-step, all-at}
 use Rattle.rules.proofs.Laws.{and-left, and-right, and-true, le-test, test-le}
 use Rattle.rules.proofs.Selves.{alike-eq, eq-alike}

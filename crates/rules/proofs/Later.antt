@@ -7,7 +7,8 @@ use Rattle.rules.specs.Lists.{if_then_else_}
 use Rattle.rules.specs.Table.{Table, elementCount}
 use Rattle.rules.specs.Cut.{Step, done, Outcome, refused, give, _>>=_, next}
 use Rattle.rules.specs.Marked.{Q}
-use Rattle.rules.proofs.Extends.{Extends, extends-refl, extends-trans}
+use Rattle.rules.specs.Held.{Extends}
+use Rattle.rules.proofs.Extends.{extends-refl, extends-trans}
 use Rattle.rules.proofs.Fine.{Fine}
 
 pub record Replays {A B : Type 0} (φ : A → B) (Q : A → ℕ → Type 0) (before : Table) (again : Step B) (a : A) (after : Table) : Type 0 where

@@ -16,9 +16,10 @@ use Rattle.rules.specs.Floats.{pointMatches}
 use Rattle.rules.specs.Table.{Element, Table, elementCount, sameElement, polytope, corner, Plane, primordials}
 use Rattle.rules.specs.Sound.{closed}
 use Rattle.rules.specs.Cut.{addElement, withElement, shareElement, done, refused, addPolytope, Step, next, give, given, addVertex, withPoint, shareVertex, addPlane, planeMatches, sharePlane, withPlane}
+use Rattle.rules.specs.Held.{Extends}
 use Rattle.rules.specs.declared.ElementOrNone.{ElementOrNone}
 use Rattle.rules.specs.declared.ElementOrNone.the-variants.{None}
-use Rattle.rules.proofs.Extends.{Extends, extends-refl, grown-element, Below, closed-same, grown-point, grown-plane}
+use Rattle.rules.proofs.Extends.{extends-refl, grown-element, Below, closed-same, grown-point, grown-plane}
 use Rattle.rules.proofs.Fine.{Fine, Names, fine-element, SomeIn, fine-point, fine-plane}
 use Rattle.rules.proofs.Growing.{find-new, find-bound, find-found, length-snoc}
 use Rattle.rules.proofs.Later.{Later, same, InUse, later-if, later-give, later-next, later-same, later-from, Anything}

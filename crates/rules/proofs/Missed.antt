@@ -15,9 +15,10 @@ use Rattle.rules.specs.Lists.{find, any, distinct, findFrom, if_then_els
 use Rattle.rules.specs.Floats.{opposite, sideOf, signedDistance, edgeTest}
 use Rattle.rules.specs.Table.{corner, element, Element, Table, Plane, rank, pointAt, elementCount, polytope, rankOf, planeOf, isPrimordial, sameElement, boundaryOf, primordials, pointOf}
 use Rattle.rules.specs.Sound.{closed, soundPlane}
-use Rattle.rules.specs.Cut.{next, Cutting, Gathered, nothingYet, gathering, cornerAnswer, Step, done, cut, cutBoundary, Outcome, give, addPolytope, sideOfCut, given, addElement, shareElement, rule7, rule6, planeOfIntersection, cutEdge, cutHigher, cutElement, cutEnds, cutCorner, distanceOf, refused, addPlane, planeMatches, sharePlane, cutAtDistance}
+use Rattle.rules.specs.Cut.{next, Cutting, Gathered, nothingYet, gathering, cornerAnswer, Step, done, cutBoundary, cut, Outcome, give, addPolytope, sideOfCut, given, addElement, shareElement, rule7, rule6, planeOfIntersection, cutEdge, cutHigher, cutElement, cutEnds, cutCorner, distanceOf, refused, addPlane, planeMatches, sharePlane, cutAtDistance}
 use Rattle.rules.specs.Questions.{reaches}
 use Rattle.rules.specs.Marked.{Q}
+use Rattle.rules.specs.Held.{AllOf, Ranked}
 use Rattle.rules.specs.declared.Crossing.the-variants.{None as NoCrossing}
 use Rattle.rules.specs.declared.ElementCutOutput.{ElementCutOutput}
 use Rattle.rules.specs.declared.ElementOrNone.the-variants.{None}
@@ -26,7 +27,7 @@ use Rattle.rules.specs.declared.Side.the-variants.{Inside, Outside}
 use Rattle.rules.proofs.Good.{Good, whole-at}
 use Rattle.rules.proofs.Growing.{all-get}
 use Rattle.rules.proofs.Laws.{or-false, if-true, if-false, not-true, and-left, and-right, le-test, test-above, not-eq, or-left, or-right, eqb-self, eq-test, either}
-use Rattle.rules.proofs.Ranked.{AllOf, Ranked, ranked-all}
+use Rattle.rules.proofs.Ranked.{ranked-all}
 use Rattle.rules.proofs.Repeat.{NotInfinite}
 use Rattle.rules.proofs.Selves.{element-self}
 use Rattle.rules.proofs.Stays.{Stays, plane-stays}

@@ -15,14 +15,15 @@ use Rattle.rules.specs.Table.{Table, corner, Plane, elementCount}
 use Rattle.rules.specs.Sound.{soundPoint, soundPlane}
 use Rattle.rules.specs.Memory.{encode, elementWidth, elementRow, planeWidth, planeRow, Memory, decode}
 use Rattle.rules.specs.Promises.{rowAt, Keeps, OldEntriesStay, afterCalls, EnoughBoundary}
+use Rattle.rules.specs.Held.{Wide, Begins, Extends, fitting}
 use Rattle.rules.proofs.Borders.{sound-bordered}
 use Rattle.rules.proofs.Calls.{calls-follow}
-use Rattle.rules.proofs.Extends.{Begins, begins-length, Extends, count-more}
+use Rattle.rules.proofs.Extends.{begins-length, count-more}
 use Rattle.rules.proofs.Good.{Good, sound-good}
 use Rattle.rules.proofs.Laws.{le-test}
 use Rattle.rules.proofs.OneCall.{sound-table}
-use Rattle.rules.proofs.RoundTrip.{fitting, element-long, element-fits, point-long, plane-long, memory-back}
-use Rattle.rules.proofs.Rows.{Wide, wide-map}
+use Rattle.rules.proofs.RoundTrip.{element-long, element-fits, point-long, plane-long, memory-back}
+use Rattle.rules.proofs.Rows.{wide-map}
 
 -- the n-th of some rows written one after another
 row-of : {A : Type 0} (w : ℕ) (xs : List (List A)) (zs : List A) (n : ℕ) → Wide w xs → n < length xs → rowAt w (joined xs ++ zs) n ≡ getD xs n []

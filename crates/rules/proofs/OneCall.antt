@@ -1,7 +1,7 @@
 -- One cut call at the public reply: what an answer tells of the memory before and after, and what makes an answer.
 -- The reply is a chain of tests, so both ways go by cases on them.
 use Prim.Native.Nat.{ℕ, _≤_, suc}
-use mathlib.Core.Bool.{true, _&&_, Bool, false, false≢true, not}
+use mathlib.Core.Bool.{true, _&&_, Bool, false≢true, false, not}
 use mathlib.Core.Path.{_≡_, subst, sym, refl, _∙_, ap}
 use lib.Dec.{eqb, ltb}
 use lib.Ieee.{inf, fin, Float, nan}

@@ -1,33 +1,23 @@
 -- Sets of elements in use, each of one rank: what rules 4 and 5 gather. A set with a member more is still one, and stays one in a later table.
-use Prim.Native.Nat.{ℕ, _<_, suc, _≤_}
-use mathlib.Core.Bool.{true, Bool, false, _&&_, false≢true}
+use Prim.Native.Nat.{ℕ, suc, _<_, _≤_}
+use mathlib.Core.Bool.{Bool, true, false, _&&_, false≢true}
 use mathlib.Core.List.{List, [], _∷_}
-use mathlib.Core.Path.{_≡_, ap, _∙_, refl, sym}
+use mathlib.Core.Path.{ap, _∙_, _≡_, refl, sym}
 use native.Mathlib.Nat.{le-trans, le-of-lt, le-refl, le-of-suc-le-suc}
 use native.Mathlib.Omega.{arith}
 use lib.Dec.{ltb, eqb}
-use Rattle.rules.specs.Lists.{rises, all, if_then_else_, withMember}
-use Rattle.rules.specs.Table.{Table, elementCount, rank}
-use Rattle.rules.specs.Cut.{including, Gathered, nothingYet, gathering, cornerAnswer}
+use Rattle.rules.specs.Lists.{all, if_then_else_, withMember, rises}
+use Rattle.rules.specs.Table.{rank, Table, elementCount}
+use Rattle.rules.specs.Cut.{including, nothingYet, Gathered, gathering, cornerAnswer}
+use Rattle.rules.specs.Held.{Extends, Ranked, AllOf, SetOf, SomeOf, Sets, OutputOf}
 use Rattle.rules.specs.declared.ElementCutOutput.{ElementCutOutput}
 use Rattle.rules.specs.declared.ElementCutOutput.the-variants.{Flush, NonFlush}
 use Rattle.rules.specs.declared.ElementOrNone.{ElementOrNone}
-use Rattle.rules.specs.declared.ElementOrNone.the-variants.{Some, None}
+use Rattle.rules.specs.declared.ElementOrNone.the-variants.{None, Some}
 use Rattle.rules.specs.declared.Side.{Side}
 use Rattle.rules.specs.declared.Side.the-variants.{Inside, On, Outside}
-use Rattle.rules.proofs.Extends.{Extends, count-more, rank-same}
+use Rattle.rules.proofs.Extends.{count-more, rank-same}
 use Rattle.rules.proofs.Laws.{and-true, and-left, and-right, test-le, le-test, test-eq, not-le, eq-test}
-
-abbrev pub Ranked : Table → ℕ → ℕ → Type 0
-Ranked t q x = (x < elementCount t) × (suc (rank t x) ≡ q)
-
-abbrev pub AllOf : (ℕ → Type 0) → List ℕ → Type 0
-AllOf P [] = Unit {0}
-AllOf P (x ∷ xs) = P x × AllOf P xs
-
-pub record SetOf (t : Table) (q : ℕ) (s : List ℕ) : Type 0 where
-  pub rising : rises s ≡ true
-  pub ranked : AllOf (Ranked t q) s
 
 pub ranked-later : {t l : Table} {q : ℕ} (x : ℕ) → Extends t l → Ranked t q x → Ranked l q x
 ranked-later {t} {l} x e h = (le-trans (h .0) (count-more e), ap suc (rank-same t l x e (h .0)) ∙ h .1)
@@ -98,10 +88,6 @@ ranked-all t n q (x ∷ xs) l h k = (
   ranked-all t n q xs l (and-right (ltb x n) (all (λ y. ltb y n) xs) h) (and-right (eqb (suc (rank t x)) q) (all (λ y. eqb (suc (rank t y)) q) xs) k),
 )
 
-abbrev pub SomeOf : ℕ → ElementOrNone → Table → Type 0
-SomeOf q None t = Unit {0}
-SomeOf q (Some e) t = Ranked t q (e .0)
-
 pub some-later : {t l : Table} (q : ℕ) (p : ElementOrNone) → Extends t l → SomeOf q p t → SomeOf q p l
 some-later q None e h = tt
 some-later q (Some x) e h = ranked-later (x .0) e h
@@ -112,17 +98,6 @@ empty-set t q = record { rising = refl; ranked = tt }
 pub set-including : (t : Table) (q : ℕ) (p : ElementOrNone) (s : List ℕ) → SomeOf q p t → SetOf t q s → SetOf t q (including p s)
 set-including t q None s h k = k
 set-including t q (Some e) s h k = set-with t q (e .0) s h k
-
-pub record Sets (r : ℕ) (g : Gathered) (t : Table) : Type 0 where
-  pub flush : AllOf (Ranked t (suc r)) (g .flush)
-  pub inside : SetOf t (suc r) (g .inside)
-  pub outside : SetOf t (suc r) (g .outside)
-  pub intersections : SetOf t r (g .intersections)
-
--- the answer of an element of rank r: two elements of rank r or none, and one of the rank below or none
-abbrev pub OutputOf : ℕ → ElementCutOutput → Table → Type 0
-OutputOf r Flush t = Unit {0}
-OutputOf r (NonFlush i o x) t = SomeOf (suc r) i t × SomeOf (suc r) o t × SomeOf r x t
 
 pub sets-none : (r : ℕ) (t : Table) → Sets r nothingYet t
 sets-none r t = record { flush = tt; inside = empty-set t (suc r); outside = empty-set t (suc r); intersections = empty-set t r }

@@ -1,7 +1,7 @@
 -- A sound table is read read-rows from the memory that it is written to, and a sound memory is what is written of its table.
 -- Each row is read read-rows by itself; the law of rows does the rest.
 use Prim.Native.Nat.{_-_, _≤_, _+_, suc, ℕ, zero, _<_, _*_}
-use mathlib.Core.Bool.{Bool, true, _&&_, not, false, false≢true, cond}
+use mathlib.Core.Bool.{true, _&&_, not, Bool, false≢true, false, cond}
 use mathlib.Core.List.{_++_, List, _∷_, [], append-assoc}
 use mathlib.Core.Option.{Option, none, some}
 use mathlib.Core.Path.{_≡_, refl, ap, _∙_, ap₂, subst, sym}
@@ -11,22 +11,19 @@ use lib.Dec.{leb, eqb}
 use lib.Ieee.{Float}
 use lib.ListN.{length, getD, take, replicate, length-append}
 use lib.Seq.{take-append-seam, take-at, getD-at}
-use Rattle.rules.specs.Limits.{Limits, noPlane, Readable}
+use Rattle.rules.specs.Limits.{Limits, Readable, noPlane}
 use Rattle.rules.specs.Lists.{pad, if_then_else_, all, allFrom, alike}
 use Rattle.rules.specs.Floats.{plusZero, within, farthest, unit, sameBits}
 use Rattle.rules.specs.Table.{Element, corner, polytope, Plane, Table, boundaryOf, elementCount}
 use Rattle.rules.specs.Sound.{namesNone, soundPoint, sound, soundPlane, namesPlane, soundElement, soundFacet}
-use Rattle.rules.specs.Memory.{planeNumber, elementWidth, elementRow, planeNamed, readElement, planeRow, planeWidth, readPlane, decode, encode, rightSize, Memory, sameMemory, soundMemory}
+use Rattle.rules.specs.Memory.{elementWidth, elementRow, planeNumber, planeNamed, readElement, planeRow, planeWidth, readPlane, decode, encode, rightSize, Memory, sameMemory, soundMemory}
+use Rattle.rules.specs.Held.{fitting}
 use Rattle.rules.proofs.Good.{whole, Good, sound-good}
 use Rattle.rules.proofs.Laws.{le-test, and-right, and-left, not-eq, eq-test, and-true, test-eq, eqb-self}
 use Rattle.rules.proofs.Rows.{length-pad, read-rows, rows-fill}
 use Rattle.rules.proofs.Selves.{alike-self, bits-self, alike-eq, same-floats}
 
 -- ---- what a row needs: its test, and that it fits its width
-
-abbrev pub fitting : Limits → Element → Bool
-fitting L (corner v) = true
-fitting L (polytope r b h m) = leb 1 r && leb (length b) (L .boundary) && not (eqb (planeNumber h) noPlane && not (namesNone h))
 
 module _ (L : Limits) (U : Readable L) where
   pub element-long : (e : Element) → fitting L e ≡ true → length (pad 0 (elementWidth L) (elementRow e)) ≡ elementWidth L
@@ -36,7 +33,7 @@ module _ (L : Limits) (U : Readable L) where
       let s = le-test (length b) (L .boundary) (and-right (leb 1 r) (leb (length b) (L .boundary)) (and-left (leb 1 r && leb (length b) (L .boundary)) _ k)) in
       length-pad 0 (elementWidth L) (elementRow (polytope r b h m)) (let q : suc (suc (suc (suc (length b)))) ≤ 4 + L .boundary = omega (arith, s) in q)
 
-  plane-back : (h : Option ℕ) → not (eqb (planeNumber h) noPlane && not (namesNone h)) ≡ true → planeNamed (planeNumber h) ≡ h
+  pub plane-back : (h : Option ℕ) → not (eqb (planeNumber h) noPlane && not (namesNone h)) ≡ true → planeNamed (planeNumber h) ≡ h
   plane-back none k = refl
   plane-back (some n) k = go (eqb n noPlane) k
     where
@@ -44,7 +41,7 @@ module _ (L : Limits) (U : Readable L) where
       go true g = absurd (false≢true g)
       go false g = refl
 
-  element-back : (e : Element) → fitting L e ≡ true → readElement (pad 0 (elementWidth L) (elementRow e)) ≡ e
+  pub element-back : (e : Element) → fitting L e ≡ true → readElement (pad 0 (elementWidth L) (elementRow e)) ≡ e
   unfolding elementRow readElement
   element-back (corner v) k = refl
   element-back (polytope zero b h m) k = absurd (false≢true k)
@@ -120,7 +117,7 @@ module _ (L : Limits) (U : Readable L) where
           (go (suc n) es (and-right (soundElement t n e) (allFrom (suc n) (soundElement t) es) h) (and-right (leb (length (boundaryOf e)) (L .boundary)) _ k))
 
   module _ (t : Table) (g : Good L t) where
-    dim-fits : t .dimension ≤ L .dimensions
+    pub dim-fits : t .dimension ≤ L .dimensions
     dim-fits = le-test (t .dimension) (L .dimensions) (g .high)
 
     -- what was written is read back

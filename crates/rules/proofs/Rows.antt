@@ -1,19 +1,16 @@
 -- Rows written one after another and read again: what a list of rows says is read read-rows, and its room is filled exactly.
 -- One law for points, planes and elements, over how one of them is written and read.
-use Prim.Native.Nat.{ℕ, _-_, _≤_, _*_}
+use Prim.Native.Nat.{_-_, ℕ, _≤_, _*_}
 use mathlib.Core.Bool.{Bool, true}
-use mathlib.Core.List.{List, [], _∷_, _++_, append-assoc, map}
+use mathlib.Core.List.{List, _++_, [], _∷_, append-assoc, map}
 use mathlib.Core.Path.{_≡_, refl, ap, ap₂, _∙_, sym}
 use native.Mathlib.Nat.{zero-mul, suc-mul, le-trans, le-of-eq, mul-le-mul-right}
 use native.Mathlib.Omega.{arith}
 use lib.ListN.{length, take, drop, length-append, replicate, length-replicate, length-map}
 use lib.Seq.{take-at, drop-at}
 use Rattle.rules.specs.Lists.{rows, joined, pad, all}
+use Rattle.rules.specs.Held.{Wide}
 use Rattle.rules.proofs.Laws.{and-left, and-right}
-
-abbrev pub Wide : {A : Type 0} → ℕ → List (List A) → Type 0
-Wide w [] = Unit {0}
-Wide w (x ∷ xs) = (length x ≡ w) × Wide w xs
 
 pub rows-back : {A : Type 0} (w : ℕ) (xs : List (List A)) (zs : List A) → Wide w xs → rows (length xs) w (joined xs ++ zs) ≡ xs
 rows-back w [] zs h = refl

@@ -1,7 +1,7 @@
 -- A step on a sound table that is not refused leaves a sound table that extends it: the record `Kept` says so, and is the hypothesis of every induction.
 -- The three appends are such steps.
 use Prim.Native.Nat.{ℕ, _<_, zero, suc, suc-le-suc, zero-le, _+_}
-use mathlib.Core.Bool.{Bool, true, false, false≢true, _&&_, Bool·beq, true≢false}
+use mathlib.Core.Bool.{Bool, true, false≢true, false, _&&_, Bool·beq, true≢false}
 use mathlib.Core.List.{List, [], _∷_}
 use mathlib.Core.Option.{Option, some, none}
 use mathlib.Core.Path.{refl, _≡_, sym, subst, _∙_, ap}
@@ -18,15 +18,16 @@ use Rattle.rules.specs.Table.{Table, polytope, rank, Element, sameElemen
 use Rattle.rules.specs.Sound.{soundFacet, closed, soundPoint, soundPlane}
 use Rattle.rules.specs.Cut.{Outcome, refused, done, next, Step, withElement, addElement, shareElement, addPolytope, give, given, addVertex, withPoint, shareVertex, addPlane, planeMatches, withPlane, sharePlane}
 use Rattle.rules.specs.Marked.{Q}
+use Rattle.rules.specs.Held.{Extends, Ranked, SetOf, SomeOf}
 use Rattle.rules.specs.declared.ElementOrNone.the-variants.{None}
 use Rattle.rules.proofs.Corners.{corner-new, corner-there}
-use Rattle.rules.proofs.Extends.{Extends, extends-refl, extends-trans, grown-element, withVertex, grown-vertex, grown-plane}
+use Rattle.rules.proofs.Extends.{extends-refl, extends-trans, grown-element, withVertex, grown-vertex, grown-plane}
 use Rattle.rules.proofs.Good.{Good, Whole}
 use Rattle.rules.proofs.GoodAppends.{good-polytope, good-vertex, good-plane}
 use Rattle.rules.proofs.Growing.{find-holds, find-bound, length-snoc}
 use Rattle.rules.proofs.LaterAppends.{polytopeBy}
 use Rattle.rules.proofs.Laws.{eq-test, and-left, test-le, not-le, isFound, le-test}
-use Rattle.rules.proofs.Ranked.{Ranked, SetOf, SomeOf, set-under, set-ranks}
+use Rattle.rules.proofs.Ranked.{set-under, set-ranks}
 
 pub record Kept {A : Type 0} (L : Limits) (Q : A → Table → Type 0) (before : Table) (a : A) (after : Table) : Type 0 where
   pub extends : Extends before after

@@ -18,6 +18,7 @@ use Rattle.rules.specs.Sound.{soundPoint, soundFacet, namesPlane, namesN
 use Rattle.rules.specs.Cut.{Cutting, cut, planeOfIntersection, newIntersection, addPolytope, sideOfCut, including, Gathered, rule7, rule6, given, crossEdge, addVertex, cutEnds, distanceOf, gathering, cornerAnswer, nothingYet, cutEdge, Step, cutBoundary, cutHigher, cutElement, Outcome, refused, done, cutCorner, cutFinite, addPlane, cutAtDistance}
 use Rattle.rules.specs.Marked.{Q}
 use Rattle.rules.specs.Examples.{two}
+use Rattle.rules.specs.Held.{Extends, SetOf, SomeOf, Sets, OutputOf, AllOf, Ranked}
 use Rattle.rules.specs.declared.Crossing.{Crossing}
 use Rattle.rules.specs.declared.Crossing.the-variants.{None as NoCrossing, At}
 use Rattle.rules.specs.declared.ElementCutOutput.{ElementCutOutput}
@@ -26,11 +27,11 @@ use Rattle.rules.specs.declared.ElementOrNone.{ElementOrNone}
 use Rattle.rules.specs.declared.ElementOrNone.the-variants.{None}
 use Rattle.rules.proofs.Clamp.{clamp-within}
 use Rattle.rules.proofs.Corners.{corner-named}
-use Rattle.rules.proofs.Extends.{Extends, begins-length, extends-trans, count-more}
+use Rattle.rules.proofs.Extends.{begins-length, extends-trans, count-more}
 use Rattle.rules.proofs.Good.{facet-later, Good, above-zero, sound-at, whole}
 use Rattle.rules.proofs.Growing.{all-get}
 use Rattle.rules.proofs.Laws.{and-true, test-eq, eq-test, and-left, and-right, test-le, le-test}
-use Rattle.rules.proofs.Ranked.{SetOf, SomeOf, set-including, Sets, OutputOf, some-later, set-later, AllOf, Ranked, sets-later, sets-gathering, corner-answer, sets-none, all-later, ranked-later, ranked-all}
+use Rattle.rules.proofs.Ranked.{set-including, some-later, set-later, sets-later, sets-gathering, corner-answer, sets-none, all-later, ranked-later, ranked-all}
 use Rattle.rules.proofs.Repeat.{NotInfinite}
 use Rattle.rules.proofs.Stays.{Stays, add-stays, stays-here, stays-next, vertex-stays, plane-stays}
 

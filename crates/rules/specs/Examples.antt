@@ -85,14 +85,14 @@ broken t = (verdict (sound wider t), verdict false)
 abbrev pub brokenMemory : Memory → Shown × Shown
 brokenMemory m = (verdict (soundMemory wider m), verdict false)
 
-abbrev pub elementsOf : List Element → Table
-elementsOf es = made 2 points es planes
+abbrev pub ofElements : List Element → Table
+ofElements es = made 2 points es planes
 
-abbrev pub pointsOf : List (List Float) → Table
-pointsOf ps = made 2 ps (corners ++ edges ++ wholeFace ∷ []) planes
+abbrev pub ofPoints : List (List Float) → Table
+ofPoints ps = made 2 ps (corners ++ edges ++ wholeFace ∷ []) planes
 
-abbrev pub planesOf : List Plane → Table
-planesOf hs = made 2 points (corners ++ edges ++ wholeFace ∷ []) hs
+abbrev pub ofPlanes : List Plane → Table
+ofPlanes hs = made 2 points (corners ++ edges ++ wholeFace ∷ []) hs
 
 -- the square's memory in the wider room, with one slice of it changed
 abbrev pub countsChanged : (List ℕ → List ℕ) → Memory
@@ -119,35 +119,35 @@ soundness =
     ∷ (verdict (sound (roomOf 2 4 9 3 4) square), verdict false)
     ∷ (verdict (sound (roomOf 2 4 9 4 3) square), verdict false)
     -- a coordinate just beyond 65,536; a point with a coordinate too many
-    ∷ broken (pointsOf ((ofBits binary64 0xc0f0000000000001 ∷ minusOne ∷ []) ∷ drop 1 points))
-    ∷ broken (pointsOf ((minusOne ∷ minusOne ∷ plusZero ∷ []) ∷ drop 1 points))
+    ∷ broken (ofPoints ((ofBits binary64 0xc0f0000000000001 ∷ minusOne ∷ []) ∷ drop 1 points))
+    ∷ broken (ofPoints ((minusOne ∷ minusOne ∷ plusZero ∷ []) ∷ drop 1 points))
     -- squares that add up to 0; a component of 1 + 2^-22; a distance just beyond 262,144; a component too many; fewer than P hyperplanes
-    ∷ broken (planesOf (plane plusZero plusZero one ∷ drop 1 planes))
-    ∷ broken (planesOf (plane plusZero (ofBits binary64 0x3ff0000040000000) one ∷ drop 1 planes))
-    ∷ broken (planesOf (plane plusZero one (ofBits binary64 0x4110000000000001) ∷ drop 1 planes))
-    ∷ broken (planesOf (record { normal = plusZero ∷ one ∷ plusZero ∷ []; distance = one } ∷ drop 1 planes))
+    ∷ broken (ofPlanes (plane plusZero plusZero one ∷ drop 1 planes))
+    ∷ broken (ofPlanes (plane plusZero (ofBits binary64 0x3ff0000040000000) one ∷ drop 1 planes))
+    ∷ broken (ofPlanes (plane plusZero one (ofBits binary64 0x4110000000000001) ∷ drop 1 planes))
+    ∷ broken (ofPlanes (record { normal = plusZero ∷ one ∷ plusZero ∷ []; distance = one } ∷ drop 1 planes))
     ∷ broken (made 2 points corners (drop 1 planes))
     -- vertices out of order; a vertex that no element names
-    ∷ broken (elementsOf (corner 1 ∷ corner 0 ∷ drop 2 corners ++ edges ++ wholeFace ∷ []))
-    ∷ broken (pointsOf (points ++ (plusZero ∷ plusZero ∷ []) ∷ []))
+    ∷ broken (ofElements (corner 1 ∷ corner 0 ∷ drop 2 corners ++ edges ++ wholeFace ∷ []))
+    ∷ broken (ofPoints (points ++ (plusZero ∷ plusZero ∷ []) ∷ []))
     -- a face in one dimension
     ∷ broken (made 1 ((plusZero ∷ []) ∷ (one ∷ []) ∷ (two ∷ []) ∷ []) (corner 0 ∷ corner 1 ∷ corner 2
     ∷ polytope 1 (0 ∷ 1 ∷ []) none false ∷ polytope 1 (0 ∷ 2 ∷ []) none false ∷ polytope 1 (1 ∷ 2 ∷ []) none false ∷ face (3 ∷ 4 ∷ 5 ∷ []) ∷ []) [])
     -- boundary numbers that do not rise; a boundary number above its own; a rank not one less; a count not above the rank
-    ∷ broken (elementsOf (corners ++ edges ++ face (5 ∷ 4 ∷ 6 ∷ 7 ∷ []) ∷ []))
-    ∷ broken (elementsOf (corners ++ face (5 ∷ 6 ∷ 7 ∷ 8 ∷ []) ∷ edges))
-    ∷ broken (elementsOf (corners ++ edges ++ edge 3 4 0 ∷ []))
-    ∷ broken (elementsOf (corners ++ edge 0 1 0 ∷ edge 0 1 1 ∷ face (4 ∷ 5 ∷ []) ∷ []))
+    ∷ broken (ofElements (corners ++ edges ++ face (5 ∷ 4 ∷ 6 ∷ 7 ∷ []) ∷ []))
+    ∷ broken (ofElements (corners ++ face (5 ∷ 6 ∷ 7 ∷ 8 ∷ []) ∷ edges))
+    ∷ broken (ofElements (corners ++ edges ++ edge 3 4 0 ∷ []))
+    ∷ broken (ofElements (corners ++ edge 0 1 0 ∷ edge 0 1 1 ∷ face (4 ∷ 5 ∷ []) ∷ []))
     -- an edge with three ends; a face that is not closed
-    ∷ broken (elementsOf (corners ++ polytope 1 (0 ∷ 1 ∷ 2 ∷ []) (some 0) true ∷ []))
-    ∷ broken (elementsOf (corners ++ edges ++ face (4 ∷ 5 ∷ 6 ∷ []) ∷ []))
+    ∷ broken (ofElements (corners ++ polytope 1 (0 ∷ 1 ∷ 2 ∷ []) (some 0) true ∷ []))
+    ∷ broken (ofElements (corners ++ edges ++ face (4 ∷ 5 ∷ 6 ∷ []) ∷ []))
     -- a hyperplane not in use; none where one is due; one where none is; a mark where none is
-    ∷ broken (elementsOf (corners ++ edge 0 1 4 ∷ []))
-    ∷ broken (elementsOf (corners ++ polytope 1 (0 ∷ 1 ∷ []) none false ∷ []))
-    ∷ broken (elementsOf (corners ++ edges ++ polytope 2 (4 ∷ 5 ∷ 6 ∷ 7 ∷ []) (some 0) false ∷ []))
-    ∷ broken (elementsOf (corners ++ edges ++ polytope 2 (4 ∷ 5 ∷ 6 ∷ 7 ∷ []) none true ∷ []))
+    ∷ broken (ofElements (corners ++ edge 0 1 4 ∷ []))
+    ∷ broken (ofElements (corners ++ polytope 1 (0 ∷ 1 ∷ []) none false ∷ []))
+    ∷ broken (ofElements (corners ++ edges ++ polytope 2 (4 ∷ 5 ∷ 6 ∷ 7 ∷ []) (some 0) false ∷ []))
+    ∷ broken (ofElements (corners ++ edges ++ polytope 2 (4 ∷ 5 ∷ 6 ∷ 7 ∷ []) none true ∷ []))
     -- two elements equal in all fields
-    ∷ broken (elementsOf (corners ++ edges ++ edge 0 1 0 ∷ []))
+    ∷ broken (ofElements (corners ++ edges ++ edge 0 1 0 ∷ []))
     -- memory: each slice of another size
     ∷ brokenMemory (countsChanged (λ ns. ns ++ 0 ∷ []))
     ∷ brokenMemory (pointsChanged (drop 1))

@@ -14,3 +14,4 @@ pub mod Session
 pub mod Marked
 pub mod Examples
 pub mod Promises
+pub mod Held

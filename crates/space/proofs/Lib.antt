@@ -1,0 +1,4 @@
+pub mod Laid
+pub mod Room
+pub mod SameRows
+pub mod Lent
