@@ -80,6 +80,6 @@ module _ (t : Float) (a b : List Float) (n : ℕ) where
       let l = crossing-long t a b i (le-trans (le-of-eq refl) (let q : i ≤ length a = omega arith in q)) (let q : i ≤ length b = omega arith in q) in
       (λ j. set (e j) i (f j))
       ∙ ap (λ (k : ℕ). set (begun i) k (along t (getD a i nan) (getD b i nan))) (sym l)
-      ∙ fill-next (crossingPoint t (take i a) (take i b)) n (along t (getD a i nan) (getD b i nan)) (let q : length (crossingPoint t (take i a) (take i b)) < n = omega arith in q)
+      ∙ fill-next plusZero n (crossingPoint t (take i a) (take i b)) (along t (getD a i nan) (getD b i nan)) (let q : length (crossingPoint t (take i a) (take i b)) < n = omega arith in q)
       ∙ ap (pad plusZero n) (sym (crossing-more t a b i ha hb))
       ∙ ap begun (sym (add-one i))

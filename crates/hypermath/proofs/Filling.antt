@@ -11,12 +11,12 @@ use Rattle.rules.specs.Lists.{pad}
 use Rattle.rules.specs.Floats.{plusZero}
 use Rattle.rules.proofs.Growing.{length-snoc}
 
-pub fill-next : (xs : List Float) (n : ℕ) (y : Float) → length xs < n → set (pad plusZero n xs) (length xs) y ≡ pad plusZero n (xs ++ y ∷ [])
-fill-next xs n y h =
-    ap (λ (m : ℕ). set (xs ++ replicate m plusZero) (length xs) y) (let q : n - length xs ≡ suc (n - suc (length xs)) = omega arith in q)
-    ∙ set-append-seam xs plusZero (replicate (n - suc (length xs)) plusZero) y
-    ∙ sym (append-assoc xs (y ∷ []) (replicate (n - suc (length xs)) plusZero))
-    ∙ ap (λ (m : ℕ). xs ++ y ∷ [] ++ replicate (n - m) plusZero) (sym (length-snoc xs y))
+pub fill-next : {A : Type 0} (z : A) (n : ℕ) (xs : List A) (y : A) → length xs < n → set (pad z n xs) (length xs) y ≡ pad z n (xs ++ y ∷ [])
+fill-next z n xs y h =
+    ap (λ (m : ℕ). set (xs ++ replicate m z) (length xs) y) (let q : n - length xs ≡ suc (n - suc (length xs)) = omega arith in q)
+    ∙ set-append-seam xs z (replicate (n - suc (length xs)) z) y
+    ∙ sym (append-assoc xs (y ∷ []) (replicate (n - suc (length xs)) z))
+    ∙ ap (λ (m : ℕ). xs ++ y ∷ [] ++ replicate (n - m) z) (sym (length-snoc xs y))
 
 -- the first i entries of a list, copied
 abbrev pub copied : List Float → ℕ → ℕ → List Float
@@ -28,7 +28,7 @@ module _ (row : List Float) (n : ℕ) (fit : n ≤ length row) where
       let l : length (take i row) ≡ i = length-take-le i row (let q : i ≤ length row = omega arith in q) in
       ap (λ (zs : List Float). set zs i (getD row i nan)) e
       ∙ ap (λ (k : ℕ). set (copied row n i) k (getD row i nan)) (sym l)
-      ∙ fill-next (take i row) n (getD row i nan) (let q : length (take i row) < n = omega arith in q)
+      ∙ fill-next plusZero n (take i row) (getD row i nan) (let q : length (take i row) < n = omega arith in q)
       ∙ ap (pad plusZero n) (sym (take-suc row i nan (let q : i < length row = omega arith in q)) ∙ ap (λ (k : ℕ). take k row) (sym (add-one i)))
 
   pub copy-end : {out : List Float} (i : ℕ) → out ≡ copied row n i → i ≡ n → out ≡ take n row

@@ -61,7 +61,7 @@ module _ (L : Limits) (U : Readable L) where
   unfolding soundPoint
   point-long d l p h = length-pad plusZero (L .dimensions) p (le-trans (le-of-eq (eq-test (length p) d (and-left (eqb (length p) d) (all (within farthest) p) h))) l)
 
-  point-back : (d : ℕ) (p : List Float) → soundPoint d p ≡ true → take d (pad plusZero (L .dimensions) p) ≡ p
+  pub point-back : (d : ℕ) (p : List Float) → soundPoint d p ≡ true → take d (pad plusZero (L .dimensions) p) ≡ p
   unfolding soundPoint
   point-back d p h = take-at p (replicate (L .dimensions - length p) plusZero) d (eq-test (length p) d (and-left (eqb (length p) d) (all (within farthest) p) h))
 
@@ -76,7 +76,7 @@ module _ (L : Limits) (U : Readable L) where
       let n = length-pad plusZero (L .dimensions) (h .normal) (le-trans (le-of-eq (normal-long d h k)) l) in
       omega (arith, e, n)
 
-  plane-read : (d : ℕ) → d ≤ L .dimensions → (h : Plane) → soundPlane d h ≡ true → readPlane L d (planeRow L h) ≡ h
+  pub plane-read : (d : ℕ) → d ≤ L .dimensions → (h : Plane) → soundPlane d h ≡ true → readPlane L d (planeRow L h) ≡ h
   unfolding planeRow readPlane
   plane-read d l h k = λ i. record {
     normal = (ap (take d) (append-assoc (h .normal) (replicate (L .dimensions - length (h .normal)) plusZero) (h .distance ∷ [])) ∙ take-at (h .normal) _ d (normal-long d h k)) i;

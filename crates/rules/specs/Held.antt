@@ -12,7 +12,7 @@ use Rattle.rules.specs.Lists.{all, pad, joined, rises}
 use Rattle.rules.specs.Floats.{plusZero}
 use Rattle.rules.specs.Table.{Element, corner, polytope, Table, rank, elementCount}
 use Rattle.rules.specs.Sound.{namesNone}
-use Rattle.rules.specs.Memory.{planeNumber, elementRow, planeRow, elementWidth, planeWidth}
+use Rattle.rules.specs.Memory.{Memory, planeNumber, elementRow, planeRow, elementWidth, planeWidth}
 use Rattle.rules.specs.Cut.{Outcome, refused, done, Gathered}
 use Rattle.rules.specs.declared.ElementOrNone.{ElementOrNone}
 use Rattle.rules.specs.declared.ElementOrNone.the-variants.{None, Some}
@@ -72,6 +72,10 @@ pointsOf L t = laid plusZero (L .vertices * L .dimensions) (pad plusZero (L .dim
 
 unfoldable pub planesOf : Limits → Table → List Float
 planesOf L t = laid plusZero (L .hyperplanes * planeWidth L) (planeRow L) (t .planes)
+
+-- the four slices as one memory
+abbrev pub memoryOf : List ℕ → List Float → List Float → List ℕ → Memory
+memoryOf cs ps hs es = record { counts = cs; points = ps; planes = hs; elements = es }
 
 -- the memory holds a table that fits
 pub record Holds (L : Limits) (cs : List ℕ) (ps hs : List Float) (es : List ℕ) (t : Table) : Type 0 where

@@ -2,3 +2,9 @@ pub mod Laid
 pub mod Room
 pub mod SameRows
 pub mod Lent
+pub mod Zeros
+pub mod RowWords
+pub mod RowAdds
+pub mod RowMade
+pub mod VertexMemo
+pub mod HyperplaneMemo

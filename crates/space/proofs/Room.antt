@@ -184,7 +184,8 @@ row-short L U (polytope r b h m) k =
     let q : suc (suc (suc (suc (length b)))) ≤ 4 + L .boundary = omega (arith, s) in
     q
 
-full : {A : Type 0} (z : A) (ys : List A) (n : ℕ) → length ys ≡ n → ys ≡ pad z n ys
+-- a row that is as long as its room
+pub full : {A : Type 0} (z : A) (ys : List A) (n : ℕ) → length ys ≡ n → ys ≡ pad z n ys
 full z ys n e = sym (ap (λ (m : ℕ). ys ++ replicate m z) (let q : n - length ys ≡ 0 = omega (arith, e) in q) ∙ append-nil ys)
 
 pub element-words-stored : (L : Limits) → Readable L → (t : Table) → Fits L t → (e : Element) → elementCount t < L .elements → fitting L e ≡ true

@@ -1,2 +1,5 @@
 // The lent memory: everything between the four slices and the table of the rules.
-mod words;
+pub mod memo;
+pub mod restore;
+pub mod rows;
+pub mod words;

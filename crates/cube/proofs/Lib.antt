@@ -1,0 +1,2 @@
+pub mod CubeRows
+pub mod CubeEntries

@@ -1,0 +1,28 @@
+-- The room is cleared, and nothing is the first no elements.
+use mathlib.Core.Path.{refl, _∙_}
+use Rattle.rules.specs.Limits.{desk}
+use Rattle.rules.specs.Held.{elementWords}
+use Rattle.cube.proofs.CubeEntries.{cleared}
+use borrow.Author.Needs.{needs}
+use Rattle.cube.proofs.put_rows.Statement.{statement}
+use Rattle.cube.proofs.put_rows.Tie as tie
+
+clear-numbers-requires : tie.Need-clear-numbers-requires
+clear-numbers-requires c κs = search needs
+
+put-elements-requires : tie.Need-put-elements-requires
+put-elements-requires c κs =
+    let args = c .before .before .before .before .before .before .args in
+    let pre = c .before .before .before .before .before .before .pre in
+    let clear-numbers = c .before .before .before .clear-numbers in
+    (search needs, search needs, clear-numbers .ensures ∙ cleared 0 (elementWords desk) (args .elements .now) _ 18432 refl (pre .1))
+
+same-length : tie.Need-same-length
+same-length c = search needs
+
+returns : tie.Need-returns
+returns c = search needs
+
+pub put-rows-spec : {M : Type 1} → statement M
+put-rows-spec =
+    tie.close (tie.spec clear-numbers-requires put-elements-requires same-length returns)

@@ -1,0 +1,165 @@
+-- The loops over words and rows.
+use Prim.Native.Nat.{_-_, ℕ, _≤_, _*_, zero, suc, _<_, _+_}
+use mathlib.Core.Bool.{Bool, _&&_, true, false, cond, true≢false}
+use mathlib.Core.List.{List, [], _∷_}
+use mathlib.Core.Path.{_≡_, sym, ap, _∙_, refl, ap₂}
+use native.Mathlib.Nat.{sub-zero, zero-mul, le-trans, le-of-eq}
+use native.Mathlib.Numerals.{add-one}
+use native.Mathlib.Omega.{arith}
+use lib.Dec.{leb, lit≤, eqb}
+use lib.Ieee.{Float}
+use lib.ListN.{drop, take, drop-of-length-le, length, getD}
+use lib.Seq.{drop-drop, take-take, take-all, getD-take, getD-drop}
+use Rattle.rules.specs.Floats.{within, farthest}
+use Rattle.rules.specs.Limits.{desk, noPlane}
+use Rattle.rules.specs.Lists.{all, rows, if_then_else_}
+use Rattle.rules.specs.Table.{primordials}
+use Rattle.rules.proofs.Indexed.{rows-on}
+use Rattle.rules.proofs.Laws.{test-le, test-eq, not-eq}
+use Rattle.soundness.specs.Words.{countsFit, blankFloats, blank, pointWords, pointsSound, recordWords, recordsSound, cornerNamed, cornersSound, inOrder}
+
+-- ---- counts
+
+pub counts-are : (d n v h : ℕ) (a b c e f g : Bool) → leb 1 d ≡ a → leb d 4 ≡ b → leb v 256 ≡ c → leb n 512 ≡ e → leb h 64 ≡ f → leb (primordials d) h ≡ g → (a && b && c && e && f && g) ≡ countsFit desk d n v h
+unfolding countsFit
+counts-are d n v h a b c e f g p q r s t u = sym (λ i. p i && q i && r i && s i && t i && u i)
+
+pub own-one : (d h : ℕ) → d ≡ 1 → leb (primordials d) h ≡ true
+own-one d h e = ap (λ (k : ℕ). leb (primordials k) h) e ∙ test-le 0 h (let q : 0 ≤ h = omega arith in q)
+
+pub own-more : (d h : ℕ) → 1 ≤ d → (d ≡ 1 → ⊥) → leb (primordials d) h ≡ leb (2 * d) h
+own-more zero h l n = absurd (let z : ⊥ = omega (arith, l) in z)
+own-more (suc zero) h l n = absurd (n refl)
+own-more (suc (suc d)) h l n = refl
+
+-- ---- a test of every row
+
+module _ {A : Type 0} (p : List A → Bool) (w n : ℕ) (l : List A) where
+  pub row-go : {reply : Bool} (b : Bool) (i : ℕ) → reply ≡ (all p (rows (n - i) w (drop (i * w) l)) && b) → i < n → p (take w (drop (i * w) l)) ≡ true → reply ≡ (all p (rows (n - (i + 1)) w (drop ((i + 1) * w) l)) && b)
+  row-go b i e h q = e ∙ ap (λ (k : List (List A)). all p k && b) (rows-on w i n l h) ∙ ap (λ (c : Bool). (c && all p (rows (n - (i + 1)) w (drop ((i + 1) * w) l))) && b) q
+
+  pub row-no : {reply : Bool} (b : Bool) (i : ℕ) → reply ≡ (all p (rows (n - i) w (drop (i * w) l)) && b) → i < n → p (take w (drop (i * w) l)) ≡ false → false ≡ reply
+  row-no b i e h q = sym (e ∙ ap (λ (k : List (List A)). all p k && b) (rows-on w i n l h) ∙ ap (λ (c : Bool). (c && all p (rows (n - (i + 1)) w (drop ((i + 1) * w) l))) && b) q)
+
+  pub row-end : {reply : Bool} (b : Bool) (i : ℕ) → reply ≡ (all p (rows (n - i) w (drop (i * w) l)) && b) → n ≤ i → b ≡ reply
+  row-end b i e h = sym (e ∙ ap (λ (m : ℕ). all p (rows m w (drop (i * w) l)) && b) (let z : n - i ≡ 0 = omega arith in z))
+
+  pub row-start : (b : Bool) → (all p (rows n w l) && b) ≡ (all p (rows (n - 0) w (drop (0 * w) l)) && b)
+  row-start b = ap₂ (λ (m k : ℕ). all p (rows m w (drop k l)) && b) (sym (sub-zero n)) (sym (zero-mul w))
+
+-- ---- parts of a row
+
+module _ {A : Type 0} where
+  pub drop-take : (a k : ℕ) (l : List A) → drop a (take (a + k) l) ≡ take k (drop a l)
+  drop-take zero k l = ap (λ (n : ℕ). take n l) (let q : zero + k ≡ k = omega arith in q)
+  drop-take (suc a) k [] = drop-of-length-le (take (suc a + k) []) (nil (suc a + k)) ∙ sym (empty k)
+    where
+      empty : (n : ℕ) → _≡_ {A = List A} (take n []) []
+      empty zero = refl
+      empty (suc n) = refl
+
+      nil : (n : ℕ) → length (take {A = A} n []) ≤ suc a
+      nil n = le-trans (le-of-eq (ap length (empty n))) (let q : 0 ≤ suc a = omega arith in q)
+  drop-take (suc a) k (x ∷ l) = ap (λ (n : ℕ). drop (suc a) (take n (x ∷ l))) (let q : suc a + k ≡ suc (a + k) = omega arith in q) ∙ drop-take a k l
+
+  -- the words from at + j up to the end of a row of w
+  pub row-part : (at j w : ℕ) (l : List A) → j ≤ w → drop (at + j) (take (at + w) l) ≡ drop j (take w (drop at l))
+  row-part at j w l h = sym (drop-drop j at (take (at + w) l)) ∙ ap (drop j) (drop-take at w l)
+
+  pub front : (at j w : ℕ) (l : List A) → j ≤ w → drop at (take (at + j) l) ≡ take j (take w (drop at l))
+  front at j w l h = drop-take at j l ∙ sym (take-take j w (drop at l) h)
+
+pub point-is : (d at : ℕ) (ps : List Float) (a b : Bool) → d ≤ 4 → a ≡ all (within farthest) (drop at (take (at + d) ps)) → b ≡ blankFloats (drop (at + d) (take (at + 4) ps)) → (a && b) ≡ pointWords d (take 4 (drop at ps))
+unfolding pointWords
+point-is d at ps a b h p q = ap₂ (λ (x y : Bool). x && y) (p ∙ ap (all (within farthest)) (front at d 4 ps h)) (q ∙ ap blankFloats (row-part at d 4 ps h))
+
+-- ---- points
+
+pub points-start : (d v : ℕ) (ps : List Float) → pointsSound desk d v ps ≡ (all (pointWords d) (rows (v - 0) 4 (drop (0 * 4) ps)) && blankFloats (drop (v * 4) ps))
+unfolding pointsSound
+points-start d v ps = row-start (pointWords d) 4 v ps (blankFloats (drop (v * 4) ps))
+
+pub whole-room : {A : Type 0} (p : List A → Bool) (k n : ℕ) (l : List A) → length l ≡ n → p (drop k (take n l)) ≡ p (drop k l)
+whole-room {A} p k n l e = ap (λ (m : List A). p (drop k m)) (take-all n l (le-of-eq e))
+
+-- ---- records
+
+pub row-word : (at j : ℕ) (es : List ℕ) → j < 36 → getD (take 36 (drop at es)) j 0 ≡ getD es (at + j) 0
+row-word at j es h = getD-take 36 (drop at es) j 0 h ∙ getD-drop at es j 0
+
+pub row-first : (at : ℕ) (es : List ℕ) → getD (take 36 (drop at es)) 0 0 ≡ getD es at 0
+row-first at es = row-word at 0 es (lit≤ tt) ∙ ap (λ (k : ℕ). getD es k 0) (let q : at + 0 ≡ at = omega arith in q)
+
+pub row-fifth : (at : ℕ) (es : List ℕ) → getD (take 36 (drop at es)) 4 0 ≡ getD es (at + 4) 0
+row-fifth at es = row-word at 4 es (lit≤ tt)
+
+abbrev recordTests : ℕ → ℕ → ℕ → ℕ → List ℕ → List ℕ → Bool
+recordTests a m p n l k = if eqb a 0 then eqb 0 m && eqb noPlane p && eqb 1 n && blank l else (leb m 1 && leb n 32 && blank k)
+
+record-are : (at : ℕ) (es : List ℕ) → recordWords desk (take 36 (drop at es))
+    ≡ recordTests (getD es at 0) (getD es (at + 1) 0) (getD es (at + 2) 0) (getD es (at + 3) 0) (drop (at + 5) (take (at + 36) es)) (drop (at + 4 + getD es (at + 3) 0) (take (at + 36) es))
+unfolding recordWords
+record-are at es =
+    let r = take 36 (drop at es) in
+    let w₃ = row-word at 3 es (lit≤ tt) in
+    (λ i. recordTests (row-first at es i) (row-word at 1 es (lit≤ tt) i) (row-word at 2 es (lit≤ tt) i) (w₃ i) (sym (row-part at 5 36 es (lit≤ tt)) i) (drop (w₃ i) (drop 4 r)))
+    ∙ ap (λ (k : List ℕ). recordTests (getD es at 0) (getD es (at + 1) 0) (getD es (at + 2) 0) (getD es (at + 3) 0) (drop (at + 5) (take (at + 36) es)) k)
+    (ap (drop (getD es (at + 3) 0)) (sym (row-part at 4 36 es (lit≤ tt))) ∙ drop-drop (getD es (at + 3) 0) (at + 4) (take (at + 36) es))
+
+pub record-corner : (at : ℕ) (es : List ℕ) (b c e f : Bool) → getD es at 0 ≡ 0 → eqb 0 (getD es (at + 1) 0) ≡ b → eqb noPlane (getD es (at + 2) 0) ≡ c → eqb 1 (getD es (at + 3) 0) ≡ e
+    → blank (drop (at + 5) (take (at + 36) es)) ≡ f → (b && c && e && f) ≡ recordWords desk (take 36 (drop at es))
+record-corner at es b c e f z p q r s =
+    sym (record-are at es ∙ ap (λ (y : Bool). if y then eqb 0 (getD es (at + 1) 0) && eqb noPlane (getD es (at + 2) 0) && eqb 1 (getD es (at + 3) 0) && blank (drop (at + 5) (take (at + 36) es)) else (leb (getD es (at + 1) 0) 1 && leb (getD es (at + 3) 0) 32 && blank (drop (at + 4 + getD es (at + 3) 0) (take (at + 36) es)))) (test-eq _ 0 z)
+    ∙ (λ i. p i && q i && r i && s i))
+
+pub record-polytope : (at : ℕ) (es : List ℕ) (b c f : Bool) → (getD es at 0 ≡ 0 → ⊥) → leb (getD es (at + 1) 0) 1 ≡ b → leb (getD es (at + 3) 0) 32 ≡ c
+    → blank (drop (at + 4 + getD es (at + 3) 0) (take (at + 36) es)) ≡ f → (b && c && f) ≡ recordWords desk (take 36 (drop at es))
+record-polytope at es b c f z p q s =
+    sym (record-are at es ∙ ap (λ (y : Bool). if y then eqb 0 (getD es (at + 1) 0) && eqb noPlane (getD es (at + 2) 0) && eqb 1 (getD es (at + 3) 0) && blank (drop (at + 5) (take (at + 36) es)) else (leb (getD es (at + 1) 0) 1 && leb (getD es (at + 3) 0) 32 && blank (drop (at + 4 + getD es (at + 3) 0) (take (at + 36) es)))) (not-eq _ 0 z)
+    ∙ (λ i. p i && q i && s i))
+
+pub records-start : (n : ℕ) (es : List ℕ) → recordsSound desk n es ≡ (all (recordWords desk) (rows (n - 0) 36 (drop (0 * 36) es)) && blank (drop (n * 36) es))
+unfolding recordsSound
+records-start n es = row-start (recordWords desk) 36 n es (blank (drop (n * 36) es))
+
+-- ---- corners
+
+pub named-is : (at k : ℕ) (es : List ℕ) (b : Bool) → eqb (getD es at 0) 0 ≡ b → (if b then eqb (getD es (at + 4) 0) k else true) ≡ cornerNamed k (take 36 (drop at es))
+named-is at k es b e = sym (ap₂ (λ (x y : ℕ). if eqb x 0 then eqb y k else true) (row-first at es) (row-fifth at es) ∙ ap (λ (c : Bool). if c then eqb (getD es (at + 4) 0) k else true) e)
+
+module _ (n v : ℕ) (es : List ℕ) where
+  pub order-start : cornersSound desk n v es ≡ inOrder 0 v (rows (n - 0) 36 (drop (0 * 36) es))
+  unfolding cornersSound
+  order-start = ap (λ (m : ℕ). inOrder 0 v (rows m 36 es)) (sym (sub-zero n))
+
+  abbrev after : ℕ → List (List ℕ)
+  after i = rows (n - (i + 1)) 36 (drop ((i + 1) * 36) es)
+
+  on : (k i : ℕ) → i < n → inOrder k v (rows (n - i) 36 (drop (i * 36) es)) ≡ inOrder k v (take 36 (drop (i * 36) es) ∷ after i)
+  on k i h = ap (inOrder k v) (rows-on 36 i n es h)
+
+  pub order-go : {reply : Bool} (k i o : ℕ) → reply ≡ inOrder k v (rows (n - i) 36 (drop (i * 36) es)) → i < n → cornerNamed k (take 36 (drop (i * 36) es)) ≡ true
+      → o ≡ cond (eqb (getD (take 36 (drop (i * 36) es)) 0 0) 0) 1 0 → reply ≡ inOrder (k + o) v (after i)
+  order-go k i o e h q r = e ∙ on k i h ∙ go (eqb (getD row 0 0) 0) q ∙ ap (λ (j : ℕ). inOrder (k + j) v (after i)) (sym r)
+    where
+      row : List ℕ
+      row = take 36 (drop (i * 36) es)
+
+      go : (b : Bool) → (if b then eqb (getD row 4 0) k else true) ≡ true
+          → (if b then eqb (getD row 4 0) k && inOrder (suc k) v (after i) else inOrder k v (after i)) ≡ inOrder (k + cond b 1 0) v (after i)
+      go true q = ap (λ (c : Bool). c && inOrder (suc k) v (after i)) q ∙ ap (λ (j : ℕ). inOrder j v (after i)) (sym (add-one k))
+      go false q = ap (λ (j : ℕ). inOrder j v (after i)) (let z : k ≡ k + 0 = omega arith in z)
+
+  pub order-no : {reply : Bool} (k i : ℕ) → reply ≡ inOrder k v (rows (n - i) 36 (drop (i * 36) es)) → i < n → cornerNamed k (take 36 (drop (i * 36) es)) ≡ false → false ≡ reply
+  order-no k i e h q = sym (e ∙ on k i h ∙ go (eqb (getD row 0 0) 0) q)
+    where
+      row : List ℕ
+      row = take 36 (drop (i * 36) es)
+
+      go : (b : Bool) → (if b then eqb (getD row 4 0) k else true) ≡ false
+          → (if b then eqb (getD row 4 0) k && inOrder (suc k) v (after i) else inOrder k v (after i)) ≡ false
+      go true q = ap (λ (c : Bool). c && inOrder (suc k) v (after i)) q
+      go false q = absurd (true≢false q)
+
+  pub order-end : {reply : Bool} (k i : ℕ) → reply ≡ inOrder k v (rows (n - i) 36 (drop (i * 36) es)) → n ≤ i → eqb k v ≡ reply
+  order-end k i e h = sym (e ∙ ap (λ (m : ℕ). inOrder k v (rows m 36 (drop (i * 36) es))) (let z : n - i ≡ 0 = omega arith in z))

@@ -1,0 +1,76 @@
+-- The floats that are left are blank exactly when all are, until one is not.
+use Prim.Native.Nat.{_-_, _≤_}
+use mathlib.Core.Path.{_≡_, refl, sym, _∙_}
+use lib.Ieee.{nan}
+use lib.ListN.{drop, take}
+use Rattle.rules.specs.Floats.{sameBits, plusZero}
+use Rattle.rules.proofs.Indexed.{all-front-no, all-front-go, all-front-end}
+use Rattle.rules.proofs.Laws.{not-true, not-false}
+use Rattle.soundness.specs.Words.{blankFloats}
+use borrow.Author.Needs.{needs}
+use Rattle.soundness.proofs.floats.blank_floats.Statement.{statement}
+use Rattle.soundness.proofs.floats.blank_floats.Tie as tie
+
+abbrev Inv-loop : tie.InvT-loop
+Inv-loop list from to i₀ i = (i ≤ to) × (blankFloats (drop from (take to list)) ≡ blankFloats (drop i (take to list)))
+
+abbrev μ-loop : tie.MeasureT-loop
+μ-loop list from to i₀ i = to - i
+
+loop-holds : tie.Need-loop-holds Inv-loop μ-loop
+loop-holds c = (search needs, refl)
+
+mul-is-zero-bits : tie.Need-mul-is-zero-bits Inv-loop μ-loop
+mul-is-zero-bits c = search needs
+
+shared-slice-read-is-zero-bits : tie.Need-shared-slice-read-is-zero-bits Inv-loop μ-loop
+shared-slice-read-is-zero-bits c = search needs
+
+is-zero-bits-requires : tie.Need-is-zero-bits-requires Inv-loop μ-loop
+is-zero-bits-requires c κs = search needs
+
+returns : tie.Need-returns Inv-loop μ-loop
+returns c =
+    let a = c .before .before .before .before .before .before .args in
+    let p = c .before .before .before .before .before .before .pre in
+    let at = c .before .before .before .before .loop in
+    all-front-no (sameBits plusZero) nan (a .to) (a .list .now) (p .1) (at .i) (at .inv .1) (search needs)
+    (sym (c .before .is-zero-bits .ensures) ∙ not-true _ (c .if1 .taken))
+
+add-i : tie.Need-add-i Inv-loop μ-loop
+add-i c = search needs
+
+loop-less : tie.Need-loop-less Inv-loop μ-loop
+loop-less c = search needs
+
+loop-again : tie.Need-loop-again Inv-loop μ-loop
+loop-again c =
+    let a = c .before .before .before .before .before .before .args in
+    let p = c .before .before .before .before .before .before .pre in
+    let at = c .before .before .before .before .loop in (
+      search needs,
+      all-front-go (sameBits plusZero) nan (a .to) (a .list .now) (p .1) (at .i) (at .inv .1) (search needs)
+          (sym (c .before .is-zero-bits .ensures) ∙ not-false _ (c .if1 .left)),
+    )
+
+returns-2 : tie.Need-returns-2 Inv-loop μ-loop
+returns-2 c =
+    let a = c .before .before .before .args in
+    let at = c .before .loop in
+    all-front-end (sameBits plusZero) nan (a .to) (a .list .now) (c .before .before .before .pre .1) (at .i) (at .inv .1) (search needs)
+
+pub blank-floats-spec : {M : Type 1} → statement M
+blank-floats-spec =
+    tie.close
+    (tie.spec
+    Inv-loop
+    μ-loop
+    loop-holds
+    mul-is-zero-bits
+    shared-slice-read-is-zero-bits
+    is-zero-bits-requires
+    returns
+    add-i
+    loop-less
+    loop-again
+    returns-2)

@@ -1,0 +1,30 @@
+-- Test 7 over the words of the lent memory. Definitions only.
+use Prim.Native.Nat.{ℕ, zero, suc, _+_, _*_, _<_}
+use mathlib.Core.Path.{_≡_}
+use mathlib.Core.Bool.{Bool, true}
+use mathlib.Core.List.{List, [], _∷_}
+use lib.Dec.{eqb}
+use lib.ListN.{length, getD}
+use Rattle.rules.specs.Lists.{all, occurrences}
+use Rattle.rules.specs.Table.{Table, elementCount, boundary}
+
+-- the first n entries of a list are numbers within the room, whether in use or not
+pub record Low (list : List ℕ) (n : ℕ) : Type 0 where
+  pub at : (k : ℕ) → k < n → getD list k 0 < 512
+
+-- the two ends of each edge, as the memory has them
+unfoldable pub rawEnds : List ℕ → List ℕ → List ℕ
+rawEnds es [] = []
+rawEnds es (x ∷ xs) = getD es (x * 36 + 4) 0 ∷ getD es (x * 36 + 5) 0 ∷ rawEnds es xs
+
+-- test 7, as the memory has it
+abbrev pub closedRaw : List ℕ → ℕ → List ℕ → Bool
+closedRaw es zero b = true
+closedRaw es (suc zero) b = eqb (length b) 2
+closedRaw es (suc (suc zero)) b = all (λ v. eqb (occurrences v (rawEnds es b)) 2) (rawEnds es b)
+closedRaw es (suc (suc (suc r))) b = true
+
+-- each is an edge in use with two ends
+abbrev pub Edges : Table → List ℕ → Type 0
+Edges t [] = Unit {0}
+Edges t (x ∷ xs) = (x < elementCount t) × (length (boundary t x) ≡ 2) × Edges t xs

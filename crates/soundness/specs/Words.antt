@@ -1,0 +1,105 @@
+-- The soundness of the lent memory, told by its words and rows alone: nothing is read into a table. Definitions only.
+use Prim.Native.Nat.{ℕ, _*_, suc}
+use mathlib.Core.Bool.{Bool, _&&_, true, not}
+use mathlib.Core.List.{List, [], _∷_}
+use lib.Dec.{eqb, leb, ltb}
+use lib.Ieee.{Float}
+use lib.ListN.{length, take, drop, getD}
+use Rattle.rules.specs.Floats.{sameBits, plusZero, within, farthest, unit, farthestPlane}
+use Rattle.rules.specs.Limits.{Limits, noPlane}
+use Rattle.rules.specs.Lists.{all, rows, if_then_else_, rises, allFrom, distinct, alike}
+use Rattle.rules.specs.Memory.{planeWidth, elementWidth}
+use Rattle.rules.specs.Table.{primordials}
+use Rattle.soundness.specs.Closed.{closedRaw}
+
+abbrev pub blank : List ℕ → Bool
+blank = all (eqb 0)
+
+abbrev pub blankFloats : List Float → Bool
+blankFloats = all (sameBits plusZero)
+
+-- ---- lengths of the four slices, and counts: dimension, elements, vertices, hyperplanes
+
+unfoldable pub sizesFit : Limits → List ℕ → List Float → List Float → List ℕ → Bool
+sizesFit L cs ps hs es =
+    eqb (length cs) 4 && eqb (length ps) (L .vertices * L .dimensions)
+    && eqb (length hs) (L .hyperplanes * planeWidth L) && eqb (length es) (L .elements * elementWidth L)
+
+unfoldable pub countsFit : Limits → ℕ → ℕ → ℕ → ℕ → Bool
+countsFit L d n v h =
+    leb 1 d && leb d (L .dimensions) && leb v (L .vertices) && leb n (L .elements) && leb h (L .hyperplanes) && leb (primordials d) h
+
+-- ---- rows of floats
+
+unfoldable pub pointWords : ℕ → List Float → Bool
+pointWords d row = all (within farthest) (take d row) && blankFloats (drop d row)
+
+unfoldable pub planeWords : Limits → ℕ → List Float → Bool
+planeWords L d row = unit (take d row) && within farthestPlane (getD row (L .dimensions) plusZero) && blankFloats (drop d (take (L .dimensions) row))
+
+-- ---- rows of elements: rank, mark, hyperplane, count, boundary
+
+-- the row is what is written of some element
+unfoldable pub recordWords : Limits → List ℕ → Bool
+recordWords L row =
+    if eqb (getD row 0 0) 0 then eqb 0 (getD row 1 0) && eqb noPlane (getD row 2 0) && eqb 1 (getD row 3 0) && blank (drop 5 row)
+    else (leb (getD row 1 0) 1 && leb (getD row 3 0) (L .boundary) && blank (drop (getD row 3 0) (drop 4 row)))
+
+-- corners name vertices from k up to v, in order
+abbrev pub inOrder : ℕ → ℕ → List (List ℕ) → Bool
+inOrder k v [] = eqb k v
+inOrder k v (r ∷ rs) = let go = inOrder (suc k) v rs in let on = inOrder k v rs in if eqb (getD r 0 0) 0 then eqb (getD r 4 0) k && go else on
+
+-- one row of those
+abbrev pub cornerNamed : ℕ → List ℕ → Bool
+cornerNamed k r = if eqb (getD r 0 0) 0 then eqb (getD r 4 0) k else true
+
+abbrev pub boundaryIn : List ℕ → List ℕ
+boundaryIn row = take (getD row 3 0) (drop 4 row)
+
+unfoldable pub boundaryWords : Limits → List ℕ → ℕ → ℕ → List ℕ → Bool
+boundaryWords L es e r b =
+    rises b && all (λ x. ltb x e) b && all (λ x. eqb (suc (getD es (x * elementWidth L) 0)) r) b && ltb r (length b) && closedRaw es r b
+
+unfoldable pub facetWords : ℕ → ℕ → ℕ → ℕ → ℕ → Bool
+facetWords d h r plane mark = if eqb (suc r) d then ltb plane h else (eqb plane noPlane && not (eqb mark 1))
+
+-- the row of element e
+unfoldable pub elementSound : Limits → List ℕ → ℕ → ℕ → ℕ → List ℕ → Bool
+elementSound L es d h e row =
+    if eqb (getD row 0 0) 0 then true
+    else (leb (getD row 0 0) d && boundaryWords L es e (getD row 0 0) (boundaryIn row) && facetWords d h (getD row 0 0) (getD row 2 0) (getD row 1 0))
+
+-- ---- the whole
+
+unfoldable pub pointsSound : Limits → ℕ → ℕ → List Float → Bool
+pointsSound L d v ps = all (pointWords d) (rows v (L .dimensions) ps) && blankFloats (drop (v * L .dimensions) ps)
+
+unfoldable pub planesSound : Limits → ℕ → ℕ → List Float → Bool
+planesSound L d h hs = all (planeWords L d) (rows h (planeWidth L) hs) && blankFloats (drop (h * planeWidth L) hs)
+
+unfoldable pub recordsSound : Limits → ℕ → List ℕ → Bool
+recordsSound L n es = all (recordWords L) (rows n (elementWidth L) es) && blank (drop (n * elementWidth L) es)
+
+unfoldable pub cornersSound : Limits → ℕ → ℕ → List ℕ → Bool
+cornersSound L n v es = inOrder 0 v (rows n (elementWidth L) es)
+
+unfoldable pub elementsSound : Limits → ℕ → ℕ → ℕ → List ℕ → Bool
+elementsSound L d n h es = allFrom 0 (elementSound L es d h) (rows n (elementWidth L) es)
+
+unfoldable pub rowsDistinct : Limits → ℕ → List ℕ → Bool
+rowsDistinct L n es = distinct (alike eqb) (rows n (elementWidth L) es)
+
+-- the two slices of floats
+unfoldable pub floatsSound : Limits → ℕ → ℕ → ℕ → List Float → List Float → Bool
+floatsSound L d v h ps hs = pointsSound L d v ps && planesSound L d h hs
+
+-- the slice of elements
+unfoldable pub rowsSound : Limits → ℕ → ℕ → ℕ → ℕ → List ℕ → Bool
+rowsSound L d n v h es = recordsSound L n es && cornersSound L n v es && elementsSound L d n h es && rowsDistinct L n es
+
+unfoldable pub wordsSound : Limits → List ℕ → List Float → List Float → List ℕ → Bool
+wordsSound L cs ps hs es =
+    let d = getD cs 0 0 in let n = getD cs 1 0 in let v = getD cs 2 0 in let h = getD cs 3 0 in
+    sizesFit L cs ps hs es && countsFit L d n v h && pointsSound L d v ps && planesSound L d h hs && recordsSound L n es
+    && cornersSound L n v es && elementsSound L d n h es && rowsDistinct L n es

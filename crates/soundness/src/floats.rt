@@ -1,0 +1,116 @@
+// The slices of points and hyperplanes of a sound memory.
+use hypermath::hyperplane_at;
+use hypermath::is_unit;
+use hypermath::is_within;
+use hypermath::is_zero_bits;
+ghost use Prim.Native.Nat.{_+_, _*_, _<_, _≤_, _-_};
+ghost use mathlib.Core.Path.{_≡_};
+ghost use mathlib.Core.Bool.{true};
+ghost use lib.ListN.{length, take, drop};
+ghost use Rattle.rules.specs.Limits.{desk};
+ghost use Rattle.rules.specs.Lists.{all};
+ghost use Rattle.rules.specs.Floats.{within, farthest};
+ghost use Rattle.soundness.specs.Words.{blank, blankFloats, pointWords, pointsSound, planeWords, planesSound, floatsSound};
+
+// How many floats a point has: the most dimensions.
+const AXES: usize = 4;
+
+// How many floats a hyperplane has.
+const PLANE_WIDTH: usize = 5;
+
+// The lengths of the two slices.
+const POINT_FLOATS: usize = 1024;
+
+const PLANE_FLOATS: usize = 320;
+
+// The farthest a coordinate and a hyperplane may lie.
+const FARTHEST: f64 = 65536.0;
+
+const FARTHEST_PLANE: f64 = 262144.0;
+
+// Unused room is zero bits: -0 is not blank.
+fn blank_floats(list: &[f64], from: usize, to: usize) -> bool
+    requires { ⌜ (from ≤ to) × (to ≤ length (now list)) ⌝ }
+    ensures { λ r. ⌜ r ≡ blankFloats (drop from (take to (now (list .entry)))) ⌝ }
+{
+    for i in from..to {
+        if !is_zero_bits(list[i]) {
+            return false;
+        }
+    }
+    true
+}
+
+// Each coordinate is a number from -65,536 to 65,536.
+fn coordinates_fit(list: &[f64], from: usize, to: usize) -> bool
+    requires { ⌜ (from ≤ to) × (to ≤ length (now list)) ⌝ }
+    ensures { λ r. ⌜ r ≡ all (within farthest) (drop from (take to (now (list .entry)))) ⌝ }
+{
+    for i in from..to {
+        if !is_within(FARTHEST, list[i]) {
+            return false;
+        }
+    }
+    true
+}
+
+// A coordinate for each dimension, and zero bits past it.
+fn point_sound(points: &[f64], at: usize, d: usize) -> bool
+    requires { ⌜ (d ≤ 4) × (at + 4 ≤ length (now points)) ⌝ }
+    ensures { λ r. ⌜ r ≡ pointWords d (take 4 (drop at (now (points .entry)))) ⌝ }
+{
+    if !coordinates_fit(points, at, at + d) {
+        return false;
+    }
+    blank_floats(points, at + d, at + AXES)
+}
+
+// The vertices in use, and zero bits past them.
+fn points_sound(points: &[f64], d: usize, v: usize) -> bool
+    requires { ⌜ (d ≤ 4) × (v ≤ 256) × (length (now points) ≡ 1024) ⌝ }
+    ensures { λ r. ⌜ r ≡ pointsSound desk d v (now (points .entry)) ⌝ }
+{
+    for i in 0..v {
+        if !point_sound(points, i * AXES, d) {
+            return false;
+        }
+    }
+    blank_floats(points, v * AXES, POINT_FLOATS)
+}
+
+// A unit normal, zero bits past the dimension, and a distance from -262,144 to 262,144.
+fn plane_sound(planes: &[f64], k: usize, d: usize) -> bool
+    requires { ⌜ (d ≤ 4) × (k < 64) × (length (now planes) ≡ 320) ⌝ }
+    ensures { λ r. ⌜ r ≡ planeWords desk d (take 5 (drop (k * 5) (now (planes .entry)))) ⌝ }
+{
+    let h = hyperplane_at(planes, k);
+    let normal = h.normal;
+    if !is_unit(d, normal) {
+        return false;
+    }
+    is_within(FARTHEST_PLANE, h.distance)
+}
+
+// The hyperplanes in use, and zero bits past them.
+fn planes_sound(planes: &[f64], d: usize, h: usize) -> bool
+    requires { ⌜ (d ≤ 4) × (h ≤ 64) × (length (now planes) ≡ 320) ⌝ }
+    ensures { λ r. ⌜ r ≡ planesSound desk d h (now (planes .entry)) ⌝ }
+{
+    for i in 0..h {
+        if !plane_sound(planes, i, d) {
+            return false;
+        }
+    }
+    blank_floats(planes, h * PLANE_WIDTH, PLANE_FLOATS)
+}
+
+// The two slices of floats.
+pub fn floats_sound(points: &[f64], planes: &[f64], d: usize, v: usize, h: usize) -> bool
+    requires { ⌜ (d ≤ 4) × (v ≤ 256) × (h ≤ 64) × (length (now points) ≡ 1024) × (length (now planes) ≡ 320) ⌝ }
+    ensures { λ r. ⌜ r ≡ floatsSound desk d v h (now (points .entry)) (now (planes .entry)) ⌝ }
+{
+    if !points_sound(points, d, v) {
+        return false;
+    }
+    planes_sound(planes, d, h)
+}

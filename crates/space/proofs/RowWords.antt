@@ -1,0 +1,67 @@
+-- Rows word by word, for the loops over them: a run of stores, a comparison of two rows, and the search for a row.
+use Prim.Native.Nat.{ℕ, _+_, _≤_, _<_}
+use mathlib.Core.Bool.{Bool, true, false}
+use mathlib.Core.List.{List, _++_, map, [], _∷_}
+use mathlib.Core.Option.{Option}
+use mathlib.Core.Path.{_≡_, _∙_, ap, sym, refl}
+use native.Mathlib.Nat.{le-of-lt, le-of-eq, le-trans}
+use native.Mathlib.Numerals.{add-one}
+use native.Mathlib.Omega.{arith}
+use lib.Dec.{eqb}
+use lib.ListN.{set, length, take, drop, getD, length-drop}
+use lib.Seq.{sets, paste, length-take-le, sets-eq, paste-suc, take-all, getD-take, getD-drop}
+use Rattle.rules.specs.Lists.{alike, find, rows}
+use Rattle.rules.proofs.Indexed.{alike-go, alike-no, alike-end, soughtFrom, sought-start}
+
+module _ {A : Type 0} where
+  -- a run of stores is a copy
+  pub sets-paste : (l : List A) (at : ℕ) (s : List A) (j : ℕ) → at + j ≤ length l → j ≤ length s → sets l at (take j s) ≡ paste l at s j
+  sets-paste l at s j h k =
+      let e = length-take-le j s k in
+      sets-eq (take j s) l at (let z : at + length (take j s) ≤ length l = omega (arith, e, h) in z)
+      ∙ ap (λ (n : ℕ). take at l ++ take j s ++ drop (at + n) l) e
+
+  pub sets-more : (l : List A) (at : ℕ) (s : List A) (j : ℕ) (z : A) → at + j < length l → j < length s → set (sets l at (take j s)) (at + j) (getD s j z) ≡ sets l at (take (j + 1) s)
+  sets-more l at s j z h k =
+      ap (λ (m : List A). set m (at + j) (getD s j z)) (sets-paste l at s j (le-of-lt h) (le-of-lt k))
+      ∙ paste-suc l at s j z h k
+      ∙ ap (paste l at s) (sym (add-one j))
+      ∙ sym (sets-paste l at s (j + 1) (let q : at + (j + 1) ≤ length l = omega arith in q) (let q : j + 1 ≤ length s = omega arith in q))
+
+  pub sets-all : (l : List A) (at : ℕ) (s : List A) (n : ℕ) → length s ≡ n → sets l at (take n s) ≡ sets l at s
+  sets-all l at s n e = ap (sets l at) (take-all n s (le-of-eq e))
+
+module _ {A : Type 0} where
+  map-same : (xs : List A) → map (λ x. x) xs ≡ xs
+  map-same [] = refl
+  map-same (x ∷ xs) = ap (λ (l : List A). x ∷ l) (map-same xs)
+
+-- at 36 words, as the code has it
+module _ (es row : List ℕ) (at : ℕ) (r : length row ≡ 36) (h : at + 36 ≤ length es) where
+  in-row : (j : ℕ) → j < 36 → j < length row
+  in-row j k = omega (arith, r, k)
+
+  part-long : length (take 36 (drop at es)) ≡ 36
+  part-long = length-take-le 36 (drop at es) (let e = length-drop at es in let q : 36 ≤ length (drop at es) = omega (arith, e, h) in q)
+
+  in-part : (j : ℕ) → j < 36 → j < length (take 36 (drop at es))
+  in-part j k = let e = part-long in omega (arith, e, k)
+
+  word : (j : ℕ) → j < 36 → eqb (getD row j 0) (getD (take 36 (drop at es)) j 0) ≡ eqb (getD row j 0) (getD es (at + j) 0)
+  word j k = ap (eqb (getD row j 0)) (getD-take 36 (drop at es) j 0 k ∙ getD-drop at es j 0)
+
+  pub same-go : {b : Bool} (j : ℕ) → b ≡ alike eqb (drop j row) (drop j (take 36 (drop at es))) → j < 36 → eqb (getD row j 0) (getD es (at + j) 0) ≡ true → b ≡ alike eqb (drop (j + 1) row) (drop (j + 1) (take 36 (drop at es)))
+  same-go j e k q = alike-go eqb 0 row (take 36 (drop at es)) j e (in-row j k) (in-part j k) (word j k ∙ q)
+
+  pub same-not : {b : Bool} (j : ℕ) → b ≡ alike eqb (drop j row) (drop j (take 36 (drop at es))) → j < 36 → eqb (getD row j 0) (getD es (at + j) 0) ≡ false → false ≡ b
+  same-not j e k q = alike-no eqb 0 row (take 36 (drop at es)) j e (in-row j k) (in-part j k) (word j k ∙ q)
+
+  pub same-end : {b : Bool} (j : ℕ) → b ≡ alike eqb (drop j row) (drop j (take 36 (drop at es))) → 36 ≤ j → true ≡ b
+  same-end j e k = alike-end eqb 0 row (take 36 (drop at es)) j e (le-trans (le-of-eq r) k) (le-trans (le-of-eq part-long) k)
+
+-- what is left of a search for a row
+abbrev pub rowFrom : (List ℕ → Bool) → ℕ → List ℕ → ℕ → Option ℕ
+rowFrom p n l i = soughtFrom (λ row. row) p 36 n l i
+
+pub row-start : (p : List ℕ → Bool) (n : ℕ) (l : List ℕ) → find p (rows n 36 l) ≡ rowFrom p n l 0
+row-start p n l = ap (find p) (sym (map-same (rows n 36 l))) ∙ sought-start (λ row. row) p 36 n l 0

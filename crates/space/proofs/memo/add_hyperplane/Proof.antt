@@ -1,0 +1,54 @@
+-- The search over the memory is the search over the table, and `hyperplane-added` puts the step behind it.
+use Rattle.space.proofs.HyperplaneMemo.{hyperplane-added}
+use borrow.Author.Needs.{needs}
+use Rattle.space.proofs.memo.add_hyperplane.Statement.{statement}
+use Rattle.space.proofs.memo.add_hyperplane.Tie as tie
+
+slice-read-wide : tie.Need-slice-read-wide
+slice-read-wide c = search needs
+
+wide-requires : tie.Need-wide-requires
+wide-requires c κs = search needs
+
+primordials-requires : tie.Need-primordials-requires
+primordials-requires c κs = search needs
+
+slice-read-wide-2 : tie.Need-slice-read-wide-2
+slice-read-wide-2 c = search needs
+
+wide-requires-2 : tie.Need-wide-requires-2
+wide-requires-2 c κs = search needs
+
+find-hyperplane-requires : tie.Need-find-hyperplane-requires
+find-hyperplane-requires c κs = search needs
+
+hyperplane-row-requires : tie.Need-hyperplane-row-requires
+hyperplane-row-requires c κs = search needs
+
+share-hyperplane-requires : tie.Need-share-hyperplane-requires
+share-hyperplane-requires c κs = search needs
+
+same-length : tie.Need-same-length
+same-length c = search needs
+
+same-length-2 : tie.Need-same-length-2
+same-length-2 c = search needs
+
+returns : tie.Need-returns
+returns c = hyperplane-added _ _ _ (c .before .before .before .before .before .before .before .before .before .before .before .before .before .wide .ensures .0) (c .before .before .before .before .before .before .before .before .before .before .before .before .primordials .ensures) (c .before .before .before .before .before .before .before .before .before .before .wide2 .ensures .0) (search needs) (c .before .before .before .before .before .before .before .hyperplane-row .ensures) (c .before .before .before .before .before .before .before .before .find-hyperplane .ensures) (c .before .before .before .before .share-hyperplane .ensures)
+
+pub add-hyperplane-spec : {M : Type 1} → statement M
+add-hyperplane-spec =
+    tie.close
+    (tie.spec
+    slice-read-wide
+    wide-requires
+    primordials-requires
+    slice-read-wide-2
+    wide-requires-2
+    find-hyperplane-requires
+    hyperplane-row-requires
+    share-hyperplane-requires
+    same-length
+    same-length-2
+    returns)

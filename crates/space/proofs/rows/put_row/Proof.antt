@@ -1,0 +1,76 @@
+-- The invariant: the words so far are stored.
+use borrow.Author.Needs.{needs}
+use mathlib.Core.Path.{_≡_, refl, sym, ap, _∙_}
+use Prim.Native.Nat.{ℕ, _+_, _≤_, _-_}
+use mathlib.Core.List.{List}
+use native.Mathlib.Omega.{arith}
+use lib.ListN.{length, getD, set, take, length-set}
+use lib.Seq.{sets}
+use Rattle.space.proofs.RowWords.{sets-more, sets-all}
+use Rattle.space.proofs.rows.put_row.Statement.{statement}
+use Rattle.space.proofs.rows.put_row.Tie as tie
+
+abbrev Inv-loop : tie.InvT-loop
+Inv-loop elements₀ at row j₀ elements j = (j ≤ 36) × (length row ≡ 36) × (length elements ≡ length elements₀) × (elements ≡ sets elements₀ at (take j row))
+
+abbrev μ-loop : tie.MeasureT-loop
+μ-loop elements₀ at row j₀ elements j = 36 - j
+
+loop-holds : tie.Need-loop-holds Inv-loop μ-loop
+loop-holds c = (search needs, search needs, refl, refl)
+
+mul-elements : tie.Need-mul-elements Inv-loop μ-loop
+mul-elements c = search needs
+
+element-copy-out-elements : tie.Need-element-copy-out-elements Inv-loop μ-loop
+element-copy-out-elements c = search needs
+
+add-elements : tie.Need-add-elements Inv-loop μ-loop
+add-elements c = search needs
+
+mul-elements-2 : tie.Need-mul-elements-2 Inv-loop μ-loop
+mul-elements-2 c = search needs
+
+slice-write-elements : tie.Need-slice-write-elements Inv-loop μ-loop
+slice-write-elements c = search needs
+
+add-j : tie.Need-add-j Inv-loop μ-loop
+add-j c = search needs
+
+loop-less : tie.Need-loop-less Inv-loop μ-loop
+loop-less c = search needs
+
+loop-again : tie.Need-loop-again Inv-loop μ-loop
+loop-again c =
+    let at = c .before .before .loop in (
+      search needs,
+      search needs,
+      simp length-set (omega arith),
+      ap (λ (l : List ℕ). set l (c .before .before .before .args .at + at .j) (getD (c .before .before .before .args .row .now) (at .j) 0)) (at .inv .3) ∙ sets-more _ _ _ (at .j) 0 (search needs) (search needs),
+    )
+
+same-length : tie.Need-same-length Inv-loop μ-loop
+same-length c = search needs
+
+returns : tie.Need-returns Inv-loop μ-loop
+returns c =
+    let e : c .before .loop .j ≡ 36 = omega arith in
+    c .before .loop .inv .3 ∙ sets-all _ _ _ _ (c .before .loop .inv .1 ∙ sym e)
+
+pub put-row-spec : {M : Type 1} → statement M
+put-row-spec =
+    tie.close
+    (tie.spec
+    Inv-loop
+    μ-loop
+    loop-holds
+    mul-elements
+    element-copy-out-elements
+    add-elements
+    mul-elements-2
+    slice-write-elements
+    add-j
+    loop-less
+    loop-again
+    same-length
+    returns)

@@ -1,0 +1,28 @@
+-- What a search over rows answers, and what appending a row does. Definitions only.
+use Prim.Native.Nat.{ℕ}
+use mathlib.Core.Path.{_≡_}
+use mathlib.Core.Bool.{true}
+use mathlib.Core.Option.{Option, none, some}
+use mathlib.Core.List.{List}
+use lib.Ieee.{Float}
+use Rattle.rules.specs.Limits.{desk}
+use Rattle.rules.specs.Table.{ElementNumber, Element, Table}
+use Rattle.rules.specs.Held.{Holds, elementWords, fitting, Came}
+use Rattle.rules.specs.Cut.{addElement}
+use Rattle.space.specs.declared.rows.FoundElement.{FoundElement}
+use Rattle.space.specs.declared.rows.FoundElement.the-variants.{None as NoElement, At as AtElement}
+use Rattle.space.specs.declared.rows.Placed.{Placed}
+use Rattle.space.specs.declared.rows.Placed.the-variants as placed
+
+-- the number that a search for a row gives
+abbrev pub elementNumber : FoundElement → Option ElementNumber
+elementNumber NoElement = none
+elementNumber (AtElement e) = some (e .0)
+
+abbrev pub placedAt : ℕ → Placed
+placedAt i = placed.At (record { 0 = i })
+
+-- whatever table the memory holds, and whatever element the row is written of: the element's step
+pub record RowAdded (cs es row : List ℕ) (r : Placed) (cs′ es′ : List ℕ) : Type 0 where
+  pub of : (ps hs : List Float) (t : Table) (e : Element) → Holds desk cs ps hs es t → row ≡ elementWords desk e → fitting desk e ≡ true
+      → Came placedAt placed.Refused (Holds desk cs′ ps hs es′) t (addElement desk e t) r

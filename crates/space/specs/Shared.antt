@@ -1,0 +1,71 @@
+-- What adding a vertex or a hyperplane does to the lent memory: the step of the rules. Definitions only.
+use Prim.Native.Nat.{ℕ, _+_, _*_, _≤_, _<_}
+use mathlib.Core.Path.{_≡_}
+use mathlib.Core.Bool.{true}
+use mathlib.Core.List.{List, [], _∷_}
+use lib.ListN.{length, getD}
+use lib.Ieee.{Float, nan}
+use Rattle.rules.specs.Limits.{desk}
+use Rattle.rules.specs.Lists.{pad}
+use Rattle.rules.specs.Floats.{plusZero}
+use Rattle.rules.specs.Table.{Plane, Table}
+use Rattle.rules.specs.Sound.{sound, soundPoint, soundPlane}
+use Rattle.rules.specs.Memory.{planeRow}
+use Rattle.rules.specs.Cut.{shareVertex, addVertex, sharePlane, addPlane}
+use Rattle.rules.specs.Held.{Holds, Came}
+use Rattle.rules.specs.declared.Hyperplane.{Hyperplane}
+use Rattle.hypermath.specs.Answers.{vertexNumber, hyperplaneNumber}
+use Rattle.hypermath.specs.declared.FoundVertex.{FoundVertex}
+use Rattle.hypermath.specs.declared.FoundVertex.the-variants.{None as NoVertex, At as AtVertex}
+use Rattle.hypermath.specs.declared.FoundHyperplane.{FoundHyperplane}
+use Rattle.space.specs.Found.{placedAt}
+use Rattle.space.specs.declared.rows.Placed.{Placed}
+use Rattle.space.specs.declared.rows.Placed.the-variants as placed
+use Rattle.space.specs.declared.memo.PlacedHyperplane.{PlacedHyperplane}
+use Rattle.space.specs.declared.memo.PlacedHyperplane.the-variants as hyperplane
+
+-- ---- vertices
+
+-- the four floats of a vertex, as the memory has them
+abbrev pub storedPoint : List Float → ℕ → List Float
+storedPoint ps v = getD ps (v * 4) nan ∷ getD ps (v * 4 + 1) nan ∷ getD ps (v * 4 + 2) nan ∷ getD ps (v * 4 + 3) nan ∷ []
+
+abbrev pub four : List Float → List Float
+four p = getD p 0 nan ∷ getD p 1 nan ∷ getD p 2 nan ∷ getD p 3 nan ∷ []
+
+-- what was found is within the room
+abbrev pub InRoom : FoundVertex → Type 0
+InRoom NoVertex = Unit {0}
+InRoom (AtVertex v) = v .0 < 256
+
+-- whatever table the memory holds, and whatever point the four floats are written of: the step, once the search is done
+pub record VertexShared (cs : List ℕ) (ps : List Float) (es : List ℕ) (p : List Float) (m : FoundVertex) (r : Placed) (cs′ : List ℕ) (ps′ : List Float) (es′ : List ℕ) : Type 0 where
+  pub of : (hs : List Float) (t : Table) (q : List Float) → Holds desk cs ps hs es t → p ≡ pad plusZero 4 q → length q ≤ 4
+      → Came placedAt placed.Refused (Holds desk cs′ ps′ hs es′) t (shareVertex desk q (vertexNumber m) t) r
+
+-- the same of the whole step, on a sound table
+pub record VertexAdded (cs : List ℕ) (ps : List Float) (es : List ℕ) (p : List Float) (r : Placed) (cs′ : List ℕ) (ps′ : List Float) (es′ : List ℕ) : Type 0 where
+  pub of : (hs : List Float) (t : Table) (q : List Float) → Holds desk cs ps hs es t → sound desk t ≡ true → p ≡ pad plusZero 4 q → soundPoint (t .dimension) q ≡ true
+      → Came placedAt placed.Refused (Holds desk cs′ ps′ hs es′) t (addVertex desk q t) r
+
+-- ---- hyperplanes
+
+-- the row of a lent hyperplane
+abbrev pub rowOf : Hyperplane → List Float
+rowOf h = getD (h .normal) 0 nan ∷ getD (h .normal) 1 nan ∷ getD (h .normal) 2 nan ∷ getD (h .normal) 3 nan ∷ h .distance ∷ []
+
+abbrev pub five : List Float → List Float
+five p = getD p 0 nan ∷ getD p 1 nan ∷ getD p 2 nan ∷ getD p 3 nan ∷ getD p 4 nan ∷ []
+
+abbrev pub hyperplaneAt : ℕ → PlacedHyperplane
+hyperplaneAt i = hyperplane.At (record { 0 = i })
+
+-- whatever table the memory holds, and whatever plane the row is written of: the step, once the search is done
+pub record HyperplaneShared (cs : List ℕ) (hs : List Float) (row : List Float) (m : FoundHyperplane) (r : PlacedHyperplane) (cs′ : List ℕ) (hs′ : List Float) : Type 0 where
+  pub of : (ps : List Float) (es : List ℕ) (t : Table) (g : Plane) → Holds desk cs ps hs es t → row ≡ planeRow desk g → length row ≡ 5
+      → Came hyperplaneAt hyperplane.Refused (Holds desk cs′ ps hs′ es) t (sharePlane desk g (hyperplaneNumber m) t) r
+
+-- the same of the whole step, on a sound table
+pub record HyperplaneAdded (cs : List ℕ) (hs : List Float) (h : Hyperplane) (r : PlacedHyperplane) (cs′ : List ℕ) (hs′ : List Float) : Type 0 where
+  pub of : (ps : List Float) (es : List ℕ) (t : Table) (g : Plane) → Holds desk cs ps hs es t → sound desk t ≡ true → rowOf h ≡ planeRow desk g → soundPlane (t .dimension) g ≡ true
+      → Came hyperplaneAt hyperplane.Refused (Holds desk cs′ ps hs′ es) t (addPlane desk g t) r

@@ -1,0 +1,179 @@
+// What is found again, and what is new: a vertex with its element, and a hyperplane.
+use crate::rows;
+use crate::rows::Placed;
+use crate::words::wide;
+use hypermath::FoundHyperplane;
+use hypermath::FoundVertex;
+use rules::Hyperplane;
+use rules::HyperplaneId;
+use rules::VertexId;
+ghost use Prim.Native.Nat.{_+_, _<_, _≤_};
+ghost use mathlib.Core.Path.{_≡_};
+ghost use lib.Seq.{sets};
+ghost use lib.ListN.{length, getD};
+ghost use Rattle.rules.specs.Limits.{desk};
+ghost use Rattle.rules.specs.Table.{corner};
+ghost use Rattle.rules.specs.Table as table;
+ghost use Rattle.rules.specs.Held.{elementWords};
+ghost use Rattle.space.specs.Shared.{storedPoint, four, InRoom, VertexShared, VertexAdded, rowOf, five, HyperplaneShared, HyperplaneAdded};
+
+// How many floats a row has, and how many rows there is room for.
+const POINT_WIDTH: usize = 4;
+
+const POINT_ROOM: usize = 256;
+
+const PLANE_WIDTH: usize = 5;
+
+const PLANE_ROOM: usize = 64;
+
+// What adding a hyperplane gives.
+pub enum PlacedHyperplane {
+    Refused(u8),
+    At(HyperplaneId),
+}
+
+pub fn read_point(points: &[f64], v: VertexId) -> [f64; 4]
+    requires { ⌜ (length (now points) ≡ 1024) × (v .0 < 256) ⌝ }
+    ensures { λ r. ⌜ r ≡ storedPoint (now (points .entry)) (v .0) ⌝ }
+{
+    let at = v.0 * POINT_WIDTH;
+    [points[at], points[at + 1], points[at + 2], points[at + 3]]
+}
+
+// Rank 0, no mark, no hyperplane, and the vertex's number as the one entry of the boundary.
+pub fn corner_row(v: VertexId) -> [u16; 36]
+    requires { ⌜ v .0 < 256 ⌝ }
+    ensures { λ r. ⌜ r ≡ elementWords desk (corner (v .0)) ⌝ }
+{
+    let mut row = [0u16; 36];
+    row[2] = 65535;
+    row[3] = 1;
+    row[4] = v.0 as u16;
+    row
+}
+
+pub fn put_point(points: &mut [f64], at: usize, p: [f64; 4])
+    requires { ⌜ at + 4 ≤ length (now points) ⌝ }
+    ensures { λ r. ⌜ now (points .exit) ≡ sets (now (points .entry)) at (four p) ⌝ }
+{
+    points[at] = p[0];
+    points[at + 1] = p[1];
+    points[at + 2] = p[2];
+    points[at + 3] = p[3];
+}
+
+// The element of a vertex that was found, or a new vertex (8) and its element (9).
+fn share_vertex(
+    counts: &mut [u16],
+    points: &mut [f64],
+    elements: &mut [u16],
+    p: [f64; 4],
+    m: FoundVertex,
+) -> Placed
+    requires { ⌜ (length (now counts) ≡ 4) × (length (now points) ≡ 1024) × (length (now elements) ≡ 18432) × (getD (now counts) 1 0 ≤ 512) × InRoom m ⌝ }
+    ensures { λ r. ⌜ VertexShared (now (counts .entry)) (now (points .entry)) (now (elements .entry)) p m r (now (counts .exit)) (now (points .exit)) (now (elements .exit)) ⌝ }
+{
+    match m {
+        FoundVertex::At(v) => {
+            let row = corner_row(v);
+            rows::add_row(counts, elements, &row)
+        }
+        FoundVertex::None => {
+            let n = wide(counts[2]);
+            if POINT_ROOM <= n {
+                return Placed::Refused(8);
+            }
+            put_point(points, n * POINT_WIDTH, p);
+            counts[2] = (n + 1) as u16;
+            let row = corner_row(VertexId(n));
+            rows::add_row(counts, elements, &row)
+        }
+    }
+}
+
+// The element of the lowest vertex that matches, or of a new one.
+pub fn add_vertex(
+    counts: &mut [u16],
+    points: &mut [f64],
+    elements: &mut [u16],
+    p: [f64; 4],
+) -> Placed
+    requires { ⌜ (length (now counts) ≡ 4) × (length (now points) ≡ 1024) × (length (now elements) ≡ 18432) × (getD (now counts) 1 0 ≤ 512) × (getD (now counts) 2 0 ≤ 256) ⌝ }
+    ensures { λ r. ⌜ VertexAdded (now (counts .entry)) (now (points .entry)) (now (elements .entry)) p r (now (counts .exit)) (now (points .exit)) (now (elements .exit)) ⌝ }
+{
+    let d = wide(counts[0]);
+    let n = wide(counts[2]);
+    let m = hypermath::find_vertex(d, points, n, p);
+    share_vertex(counts, points, elements, p, m)
+}
+
+// How many hyperplanes are the cube's own.
+pub fn primordials(d: usize) -> usize
+    requires { ⌜ d ≤ 4 ⌝ }
+    ensures { λ r. ⌜ r ≡ table.primordials d ⌝ }
+{
+    if d < 2 {
+        return 0;
+    }
+    2 * d
+}
+
+pub fn hyperplane_row(h: Hyperplane) -> [f64; 5]
+    ensures { λ r. ⌜ r ≡ rowOf h ⌝ }
+{
+    [
+        h.normal[0],
+        h.normal[1],
+        h.normal[2],
+        h.normal[3],
+        h.distance,
+    ]
+}
+
+pub fn put_hyperplane(planes: &mut [f64], at: usize, p: [f64; 5])
+    requires { ⌜ at + 5 ≤ length (now planes) ⌝ }
+    ensures { λ r. ⌜ now (planes .exit) ≡ sets (now (planes .entry)) at (five p) ⌝ }
+{
+    planes[at] = p[0];
+    planes[at + 1] = p[1];
+    planes[at + 2] = p[2];
+    planes[at + 3] = p[3];
+    planes[at + 4] = p[4];
+}
+
+// The hyperplane that was found, or a new one (10).
+fn share_hyperplane(
+    counts: &mut [u16],
+    planes: &mut [f64],
+    row: [f64; 5],
+    m: FoundHyperplane,
+) -> PlacedHyperplane
+    requires { ⌜ (length (now counts) ≡ 4) × (length (now planes) ≡ 320) ⌝ }
+    ensures { λ r. ⌜ HyperplaneShared (now (counts .entry)) (now (planes .entry)) row m r (now (counts .exit)) (now (planes .exit)) ⌝ }
+{
+    match m {
+        FoundHyperplane::At(k) => PlacedHyperplane::At(k),
+        FoundHyperplane::None => {
+            let n = wide(counts[3]);
+            if PLANE_ROOM <= n {
+                return PlacedHyperplane::Refused(10);
+            }
+            put_hyperplane(planes, n * PLANE_WIDTH, row);
+            counts[3] = (n + 1) as u16;
+            PlacedHyperplane::At(HyperplaneId(n))
+        }
+    }
+}
+
+// The lowest hyperplane that matches, or a new one; the cube's own are never matched.
+pub fn add_hyperplane(counts: &mut [u16], planes: &mut [f64], h: Hyperplane) -> PlacedHyperplane
+    requires { ⌜ (length (now counts) ≡ 4) × (length (now planes) ≡ 320) × (getD (now counts) 0 0 ≤ 4) × (getD (now counts) 3 0 ≤ 64) ⌝ }
+    ensures { λ r. ⌜ HyperplaneAdded (now (counts .entry)) (now (planes .entry)) h r (now (counts .exit)) (now (planes .exit)) ⌝ }
+{
+    let d = wide(counts[0]);
+    let first = primordials(d);
+    let n = wide(counts[3]);
+    let m = hypermath::find_hyperplane(d, planes, first, n, h);
+    let row = hyperplane_row(h);
+    share_hyperplane(counts, planes, row, m)
+}

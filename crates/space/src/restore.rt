@@ -1,0 +1,60 @@
+// A refused cut gives all memory back.
+use crate::words::wide;
+ghost use mathlib.Core.Path.{_≡_};
+ghost use Prim.Native.Nat.{_+_, _≤_};
+ghost use lib.Seq.{sets};
+ghost use lib.ListN.{length, getD, replicate};
+ghost use Rattle.rules.specs.Floats.{plusZero};
+ghost use Rattle.space.specs.Restored.{Restored};
+
+// How many words the row of an element, of a vertex and of a hyperplane has.
+const ELEMENT_WIDTH: usize = 36;
+
+const POINT_WIDTH: usize = 4;
+
+const PLANE_WIDTH: usize = 5;
+
+pub fn clear_numbers(words: &mut [u16], at: usize, n: usize)
+    requires { ⌜ at + n ≤ length (now words) ⌝ }
+    ensures { λ r. ⌜ now (words .exit) ≡ sets (now (words .entry)) at (replicate n 0) ⌝ }
+{
+    for j in 0..n {
+        words[at + j] = 0;
+    }
+}
+
+pub fn clear_floats(words: &mut [f64], at: usize, n: usize)
+    requires { ⌜ at + n ≤ length (now words) ⌝ }
+    ensures { λ r. ⌜ now (words .exit) ≡ sets (now (words .entry)) at (replicate n plusZero) ⌝ }
+{
+    for j in 0..n {
+        words[at + j] = 0.0;
+    }
+}
+
+// Elements, vertices and hyperplanes numbered from e, v and h on are taken away.
+pub fn restore(
+    counts: &mut [u16],
+    points: &mut [f64],
+    planes: &mut [f64],
+    elements: &mut [u16],
+    e: u16,
+    v: u16,
+    h: u16,
+)
+    requires { ⌜ (length (now counts) ≡ 4) × (length (now points) ≡ 1024) × (length (now planes) ≡ 320) × (length (now elements) ≡ 18432) × (e ≤ getD (now counts) 1 0) × (v ≤ getD (now counts) 2 0) × (h ≤ getD (now counts) 3 0) × (getD (now counts) 1 0 ≤ 512) × (getD (now counts) 2 0 ≤ 256) × (getD (now counts) 3 0 ≤ 64) ⌝ }
+    ensures { λ r. ⌜ Restored (now (counts .entry)) (now (points .entry)) (now (planes .entry)) (now (elements .entry)) e v h (now (counts .exit)) (now (points .exit)) (now (planes .exit)) (now (elements .exit)) ⌝ }
+{
+    let ne = wide(counts[1]);
+    let nv = wide(counts[2]);
+    let nh = wide(counts[3]);
+    let ae = e as usize * ELEMENT_WIDTH;
+    let av = v as usize * POINT_WIDTH;
+    let ah = h as usize * PLANE_WIDTH;
+    clear_numbers(elements, ae, ne * ELEMENT_WIDTH - ae);
+    clear_floats(points, av, nv * POINT_WIDTH - av);
+    clear_floats(planes, ah, nh * PLANE_WIDTH - ah);
+    counts[1] = e;
+    counts[2] = v;
+    counts[3] = h;
+}

@@ -1,0 +1,149 @@
+// Rows of elements in the lent memory: read, searched, appended.
+use crate::words::wide;
+use rules::ElementId;
+ghost use Prim.Native.Nat.{_+_, _*_, _<_, _≤_};
+ghost use mathlib.Core.Bool.{cond};
+ghost use mathlib.Core.Path.{_≡_};
+ghost use lib.Dec.{eqb};
+ghost use lib.Seq.{sets};
+ghost use lib.ListN.{length, getD, take, drop};
+ghost use Rattle.rules.specs.Limits.{desk};
+ghost use Rattle.rules.specs.Lists.{alike, find, rows};
+ghost use Rattle.rules.specs.Table.{polytope};
+ghost use Rattle.rules.specs.Memory.{planeNamed};
+ghost use Rattle.rules.specs.Held.{elementWords};
+ghost use Rattle.space.specs.Found.{elementNumber, RowAdded};
+
+// How many words a row has, and how many rows there is room for.
+const WIDTH: usize = 36;
+
+const ROOM: usize = 512;
+
+// The lowest element whose row is the given one, or none.
+pub enum FoundElement {
+    None,
+    At(ElementId),
+}
+
+// What adding an element gives.
+pub enum Placed {
+    Refused(u8),
+    At(ElementId),
+}
+
+pub fn rank_of(elements: &[u16], e: ElementId) -> usize
+    requires { ⌜ (length (now elements) ≡ 18432) × (e .0 < 512) ⌝ }
+    ensures { λ r. ⌜ r ≡ getD (now (elements .entry)) (e .0 * 36) 0 ⌝ }
+{
+    let at = e.0 * WIDTH;
+    wide(elements[at])
+}
+
+pub fn is_primordial(elements: &[u16], e: ElementId) -> bool
+    requires { ⌜ (length (now elements) ≡ 18432) × (e .0 < 512) ⌝ }
+    ensures { λ r. ⌜ r ≡ eqb (getD (now (elements .entry)) (e .0 * 36 + 1) 0) 1 ⌝ }
+{
+    let at = e.0 * WIDTH;
+    elements[at + 1] == 1
+}
+
+// A hyperplane's number, or FFFF where there is none.
+pub fn plane_of(elements: &[u16], e: ElementId) -> u16
+    requires { ⌜ (length (now elements) ≡ 18432) × (e .0 < 512) ⌝ }
+    ensures { λ r. ⌜ r ≡ getD (now (elements .entry)) (e .0 * 36 + 2) 0 ⌝ }
+{
+    let at = e.0 * WIDTH;
+    elements[at + 2]
+}
+
+pub fn size_of(elements: &[u16], e: ElementId) -> usize
+    requires { ⌜ (length (now elements) ≡ 18432) × (e .0 < 512) ⌝ }
+    ensures { λ r. ⌜ r ≡ getD (now (elements .entry)) (e .0 * 36 + 3) 0 ⌝ }
+{
+    let at = e.0 * WIDTH;
+    wide(elements[at + 3])
+}
+
+// An element's number; of a corner, its vertex's number.
+pub fn boundary_at(elements: &[u16], e: ElementId, i: usize) -> u16
+    requires { ⌜ (length (now elements) ≡ 18432) × (e .0 < 512) × (i < 32) ⌝ }
+    ensures { λ r. ⌜ r ≡ getD (now (elements .entry)) (e .0 * 36 + (4 + i)) 0 ⌝ }
+{
+    let at = e.0 * WIDTH;
+    elements[at + (4 + i)]
+}
+
+fn same_row(elements: &[u16], at: usize, row: &[u16; 36]) -> bool
+    requires { ⌜ (at + 36 ≤ length (now elements)) × (length (now row) ≡ 36) ⌝ }
+    ensures { λ r. ⌜ r ≡ alike eqb (now (row .entry)) (take 36 (drop at (now (elements .entry)))) ⌝ }
+{
+    for j in 0..WIDTH {
+        if row[j] != elements[at + j] {
+            return false;
+        }
+    }
+    true
+}
+
+fn find_row(elements: &[u16], n: usize, row: &[u16; 36]) -> FoundElement
+    requires { ⌜ (length (now elements) ≡ 18432) × (n ≤ 512) × (length (now row) ≡ 36) ⌝ }
+    ensures { λ r. ⌜ elementNumber r ≡ find (alike eqb (now (row .entry))) (rows n 36 (now (elements .entry))) ⌝ }
+{
+    for i in 0..n {
+        if same_row(elements, i * WIDTH, row) {
+            return FoundElement::At(ElementId(i));
+        }
+    }
+    FoundElement::None
+}
+
+pub fn put_row(elements: &mut [u16], at: usize, row: &[u16; 36])
+    requires { ⌜ (at + 36 ≤ length (now elements)) × (length (now row) ≡ 36) ⌝ }
+    ensures { λ r. ⌜ now (elements .exit) ≡ sets (now (elements .entry)) at (now (row .entry)) ⌝ }
+{
+    for j in 0..WIDTH {
+        elements[at + j] = row[j];
+    }
+}
+
+// The element of an equal row, which is there already; or the row appended (9).
+pub fn add_row(counts: &mut [u16], elements: &mut [u16], row: &[u16; 36]) -> Placed
+    requires { ⌜ (length (now counts) ≡ 4) × (length (now elements) ≡ 18432) × (getD (now counts) 1 0 ≤ 512) × (length (now row) ≡ 36) ⌝ }
+    ensures { λ r. ⌜ RowAdded (now (counts .entry)) (now (elements .entry)) (now (row .entry)) r (now (counts .exit)) (now (elements .exit)) ⌝ }
+{
+    let n = wide(counts[1]);
+    let found = find_row(elements, n, row);
+    match found {
+        FoundElement::At(i) => Placed::At(i),
+        FoundElement::None => {
+            if ROOM <= n {
+                return Placed::Refused(9);
+            }
+            put_row(elements, n * WIDTH, row);
+            counts[1] = (n + 1) as u16;
+            Placed::At(ElementId(n))
+        }
+    }
+}
+
+fn bit(mark: bool) -> u16
+    ensures { λ r. ⌜ r ≡ cond mark 1 0 ⌝ }
+{
+    if mark { 1 } else { 0 }
+}
+
+// The boundary is the front of a list with one place more than a row has: rule 8 refuses a full list before.
+pub fn polytope_row(rank: usize, list: &[u16; 33], n: usize, plane: u16, mark: bool) -> [u16; 36]
+    requires { ⌜ (length (now list) ≡ 33) × (n ≤ 32) × (rank < 65536) ⌝ }
+    ensures { λ r. ⌜ r ≡ elementWords desk (polytope rank (take n (now (list .entry))) (planeNamed plane) mark) ⌝ }
+{
+    let mut row = [0u16; 36];
+    row[0] = rank as u16;
+    row[1] = bit(mark);
+    row[2] = plane;
+    row[3] = n as u16;
+    for j in 0..n {
+        row[4 + j] = list[j];
+    }
+    row
+}
