@@ -61,8 +61,10 @@ fn faces_across(f: Faces, k: u16, e: u16, step: u16) -> Faces
     }
     let n = f.n;
     let mut list = f.list;
-    list[n] = e - 2 * step;
-    list[n + 1] = e - step;
+    let low = e - 2 * step;
+    let high = e - step;
+    list[n] = low;
+    list[n + 1] = high;
     Faces { list, n: n + 2 }
 }
 
