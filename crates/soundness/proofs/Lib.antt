@@ -7,4 +7,3 @@ pub mod PlaneLoops
 pub mod BoundaryLoops
 pub mod ElementLoops
 pub mod TwiceMet
-pub mod PolytopeWords
