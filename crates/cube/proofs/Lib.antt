@@ -1,2 +1,3 @@
 pub mod CubeRows
 pub mod CubeEntries
+pub mod CubeReplies

@@ -5,6 +5,7 @@ use rules::VertexId;
 use space::memo;
 use space::restore;
 use space::rows;
+use space::words::right_size;
 ghost use Prim.Native.Nat.{_+_, _*_, _^_, _<_, _≤_};
 ghost use mathlib.Core.Bool.{cond};
 ghost use mathlib.Core.Path.{_≡_};
@@ -14,7 +15,6 @@ ghost use Rattle.rules.specs.Limits.{desk};
 ghost use Rattle.rules.specs.Lists.{pad};
 ghost use Rattle.rules.specs.Floats.{plusZero};
 ghost use Rattle.rules.specs.Cube.{digits, faces, ofDigits, twos, isVertex, isFacet, chosen, cubeElement, cubePoint, facetNormal, radiusFits};
-ghost use Rattle.rules.specs.Memory.{rightSize};
 ghost use Rattle.rules.specs.Held.{elementWords, memoryOf};
 ghost use Rattle.cube.specs.Cubes.{FacesMore, FacesSoFar, coordinateAt, componentAt, cubeElements, cubePoints, cubePlanes, CornerPut, FacetPut, CubePut};
 ghost use Rattle.rules.specs.Replies.{cubeReply};
@@ -313,21 +313,6 @@ fn put_cube(
     put_rows(elements, d);
     let e = cube_size(d);
     put_counts(counts, d as u16, e, v, h);
-}
-
-fn right_size(counts: &[u16], points: &[f64], planes: &[f64], elements: &[u16]) -> bool
-    ensures { λ r. ⌜ r ≡ rightSize desk (memoryOf (now (counts .entry)) (now (points .entry)) (now (planes .entry)) (now (elements .entry))) ⌝ }
-{
-    if counts.len() != 4 {
-        return false;
-    }
-    if points.len() != 1024 {
-        return false;
-    }
-    if planes.len() != 320 {
-        return false;
-    }
-    elements.len() == 18432
 }
 
 fn radius_fits(radius: f64) -> bool

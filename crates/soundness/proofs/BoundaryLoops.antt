@@ -12,7 +12,7 @@ use lib.Seq.{getD-take, length-take-le, drop-cons, drop-drop, take-take, take-su
 use Rattle.rules.specs.Limits.{noPlane, desk}
 use Rattle.rules.specs.Lists.{if_then_else_, all, rises}
 use Rattle.rules.proofs.Laws.{and-left, and-right, le-test, test-eq, not-eq}
-use Rattle.soundness.specs.Closed.{closedRaw, Low}
+use Rattle.space.specs.Closed.{closedRaw, Low}
 use Rattle.soundness.specs.Words.{facetWords, recordWords, blank, elementSound, boundaryWords, boundaryIn}
 use Rattle.soundness.proofs.ReadBack.{and-assoc, and-when}
 use Rattle.soundness.proofs.RowLoops.{record-polytope, drop-take, row-first, row-word}

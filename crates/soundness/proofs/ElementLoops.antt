@@ -11,12 +11,12 @@ use lib.Ieee.{Float}
 use lib.ListN.{length, getD, take, drop}
 use Rattle.rules.specs.Limits.{desk}
 use Rattle.rules.specs.Lists.{all, rows, allFrom}
-use Rattle.rules.specs.Memory.{soundMemory}
+use Rattle.rules.specs.Memory.{soundMemory, rightSize}
 use Rattle.rules.specs.Table.{primordials}
 use Rattle.rules.proofs.Indexed.{rows-on}
-use Rattle.rules.proofs.Laws.{and-left, and-right, le-test, eq-test}
+use Rattle.rules.proofs.Laws.{and-left, and-right, le-test}
 use Rattle.rules.specs.Held.{memoryOf}
-use Rattle.soundness.specs.Words.{recordsSound, recordWords, blank, elementSound, elementsSound, countsFit, sizesFit, pointsSound, planesSound, floatsSound, cornersSound, rowsDistinct, rowsSound, wordsSound}
+use Rattle.soundness.specs.Words.{recordsSound, recordWords, blank, elementSound, elementsSound, countsFit, pointsSound, planesSound, floatsSound, cornersSound, rowsDistinct, rowsSound, wordsSound}
 use Rattle.soundness.proofs.ReadBack.{rows-length}
 use Rattle.soundness.proofs.SoundElements.{rows-at}
 use Rattle.soundness.proofs.SoundWhole.{words-memory}
@@ -71,22 +71,6 @@ fit-counts d n v h k =
 
 -- ---- the whole, test by test
 
-pub sizes-are : (cs : List ℕ) (ps hs : List Float) (es : List ℕ) (a b c e : Bool) → eqb (length cs) 4 ≡ a → eqb (length ps) 1024 ≡ b → eqb (length hs) 320 ≡ c → eqb (length es) 18432 ≡ e
-    → (a && b && c && e) ≡ sizesFit desk cs ps hs es
-unfolding sizesFit
-sizes-are cs ps hs es a b c e p q r s = sym (λ i. p i && q i && r i && s i)
-
-pub fit-sizes : (cs : List ℕ) (ps hs : List Float) (es : List ℕ) → sizesFit desk cs ps hs es ≡ true → (length cs ≡ 4) × (length ps ≡ 1024) × (length hs ≡ 320) × (length es ≡ 18432)
-unfolding sizesFit
-fit-sizes cs ps hs es k =
-    let k₁ = and-left (eqb (length cs) 4 && eqb (length ps) 1024 && eqb (length hs) 320) (eqb (length es) 18432) k in
-    let k₂ = and-left (eqb (length cs) 4 && eqb (length ps) 1024) (eqb (length hs) 320) k₁ in (
-      eq-test _ _ (and-left (eqb (length cs) 4) (eqb (length ps) 1024) k₂),
-      eq-test _ _ (and-right (eqb (length cs) 4) (eqb (length ps) 1024) k₂),
-      eq-test _ _ (and-right (eqb (length cs) 4 && eqb (length ps) 1024) (eqb (length hs) 320) k₁),
-      eq-test _ _ (and-right (eqb (length cs) 4 && eqb (length ps) 1024 && eqb (length hs) 320) (eqb (length es) 18432) k),
-    )
-
 pub floats-are : (d v h : ℕ) (ps hs : List Float) (a b : Bool) → pointsSound desk d v ps ≡ a → planesSound desk d h hs ≡ b → (a && b) ≡ floatsSound desk d v h ps hs
 unfolding floatsSound
 floats-are d v h ps hs a b p q = sym (λ i. p i && q i)
@@ -104,11 +88,11 @@ grouped true true true false e o r d = refl
 grouped true true true true e o r d = refl
 
 pub memory-is : (cs : List ℕ) (ps hs : List Float) (es : List ℕ) (d n v h : ℕ) (s c f r : Bool) → d ≡ getD cs 0 0 → n ≡ getD cs 1 0 → v ≡ getD cs 2 0 → h ≡ getD cs 3 0
-    → sizesFit desk cs ps hs es ≡ s → countsFit desk d n v h ≡ c → floatsSound desk d v h ps hs ≡ f → rowsSound desk d n v h es ≡ r
+    → rightSize desk (memoryOf cs ps hs es) ≡ s → countsFit desk d n v h ≡ c → floatsSound desk d v h ps hs ≡ f → rowsSound desk d n v h es ≡ r
     → (s && c && f && r) ≡ soundMemory desk (memoryOf cs ps hs es)
 unfolding wordsSound floatsSound rowsSound
 memory-is cs ps hs es d n v h s c f r ed en ev eh p₁ p₂ p₃ p₄ =
-    sym (words-memory cs ps hs es ∙ grouped (sizesFit desk cs ps hs es) (countsFit desk (getD cs 0 0) (getD cs 1 0) (getD cs 2 0) (getD cs 3 0)) _ _ _ _ _ _
-    ∙ (λ i. sizesFit desk cs ps hs es && countsFit desk ((sym ed) i) ((sym en) i) ((sym ev) i) ((sym eh) i) && floatsSound desk ((sym ed) i) ((sym ev) i) ((sym eh) i) ps hs
+    sym (words-memory cs ps hs es ∙ grouped (rightSize desk (memoryOf cs ps hs es)) (countsFit desk (getD cs 0 0) (getD cs 1 0) (getD cs 2 0) (getD cs 3 0)) _ _ _ _ _ _
+    ∙ (λ i. rightSize desk (memoryOf cs ps hs es) && countsFit desk ((sym ed) i) ((sym en) i) ((sym ev) i) ((sym eh) i) && floatsSound desk ((sym ed) i) ((sym ev) i) ((sym eh) i) ps hs
     && rowsSound desk ((sym ed) i) ((sym en) i) ((sym ev) i) ((sym eh) i) es)
     ∙ (λ i. p₁ i && p₂ i && p₃ i && p₄ i))

@@ -6,4 +6,3 @@ pub mod RowLoops
 pub mod PlaneLoops
 pub mod BoundaryLoops
 pub mod ElementLoops
-pub mod TwiceMet

@@ -16,7 +16,7 @@ use Rattle.rules.specs.Memory.{readElement, planeNamed}
 use Rattle.rules.specs.Sound.{endsOf, closed, soundBoundary, soundFacet, namesPlane, namesNone, soundElement}
 use Rattle.rules.specs.Table.{rank, rankOf, Element, corner, polytope, boundary, boundaryOf, element, Table}
 use Rattle.rules.proofs.Laws.{eq-test, and-left, and-right, not-eq, test-le}
-use Rattle.soundness.specs.Closed.{rawEnds, closedRaw}
+use Rattle.space.specs.Closed.{rawEnds, closedRaw}
 use Rattle.soundness.specs.Words.{boundaryIn, boundaryWords, facetWords, elementSound, elementsSound}
 use Rattle.soundness.proofs.ReadBack.{rows-length, and-when}
 use Rattle.space.proofs.SameRows.{bool-both}

@@ -15,10 +15,11 @@ use Rattle.rules.specs.Lists.{alike, all, rows, if_then_else_, pad, joined, all
 use Rattle.rules.specs.Memory.{readElement, planeNamed, Memory, readPlane, soundMemory, rightSize, sameMemory, encode, decode, planeRow}
 use Rattle.rules.specs.Sound.{roomFits, sound, cornersInOrder, soundPoint, soundPlane, soundElement}
 use Rattle.rules.specs.Table.{boundaryOf, Element, corner, polytope, Plane, Table, primordials, sameElement, vertexOf, isCorner}
-use Rattle.rules.proofs.Laws.{and-left, and-right, and-true, eqb-self, test-eq, test-le, eq-test, le-test}
-use Rattle.soundness.specs.Words.{sizesFit, countsFit, wordsSound, cornersSound, rowsDistinct, recordsSound, pointsSound, planesSound, elementsSound, recordWords, blank}
+use Rattle.rules.proofs.Laws.{and-left, and-right, and-true, eqb-self, test-eq, test-le, le-test}
+use Rattle.soundness.specs.Words.{countsFit, wordsSound, cornersSound, rowsDistinct, recordsSound, pointsSound, planesSound, elementsSound, recordWords, blank}
 use Rattle.soundness.proofs.ReadBack.{rows-length, and-one, rows-wide}
 use Rattle.space.proofs.SameRows.{bool-both}
+use Rattle.space.proofs.Sizes.{size-known}
 use Rattle.soundness.proofs.SoundElements.{elements-same}
 use Rattle.soundness.proofs.SoundLines.{points-same, planes-same, records-same, order-same, distinct-same, records-own}
 
@@ -121,7 +122,7 @@ module _ (cs : List ℕ) (ps hs : List Float) (es : List ℕ) where
   h = getD cs 3 0
 
   abbrev S : Bool
-  S = sizesFit desk cs ps hs es
+  S = rightSize desk memory
 
   abbrev C : Bool
   C = countsFit desk d n v h
@@ -146,23 +147,6 @@ module _ (cs : List ℕ) (ps hs : List Float) (es : List ℕ) where
 
   nh : length H ≡ h
   nh = length-map (rows h 5 hs) (readPlane desk d) ∙ rows-length h 5 hs
-
-  record Sizes : Type 0 where
-    c : length cs ≡ 4
-    p : length ps ≡ 1024
-    q : length hs ≡ 320
-    e : length es ≡ 18432
-
-  sizes : S ≡ true → Sizes
-  unfolding sizesFit
-  sizes k =
-      let a = eqb (length cs) 4 in
-      let b = eqb (length ps) 1024 in
-      let g = eqb (length hs) 320 in
-      let f = eqb (length es) 18432 in
-      let k₁ = and-left (a && b && g) f k in
-      let k₂ = and-left (a && b) g k₁ in
-      record { c = eq-test _ 4 (and-left a b k₂); p = eq-test _ 1024 (and-right a b k₂); q = eq-test _ 320 (and-right (a && b) g k₁); e = eq-test _ 18432 (and-right (a && b && g) f k) }
 
   record Counts : Type 0 where
     d₄ : d ≤ 4
@@ -192,7 +176,7 @@ module _ (cs : List ℕ) (ps hs : List Float) (es : List ℕ) where
       ∙ (λ i. leb 1 d && leb d 4 && leb (np i) 256 && leb (ne i) 512 && leb (nh i) 64 && leb (primordials d) (nh i))
 
   pub words-memory : soundMemory desk memory ≡ wordsSound desk cs ps hs es
-  unfolding soundMemory rightSize sameMemory encode decode sound cornersInOrder wordsSound sizesFit cornersSound rowsDistinct recordsSound
+  unfolding soundMemory rightSize sameMemory encode decode sound cornersInOrder wordsSound cornersSound rowsDistinct recordsSound
   words-memory =
       both S (alike eqb (d ∷ length E ∷ length P ∷ length H ∷ []) cs)
       (alike sameBits (pad plusZero 1024 (joined (map (pad plusZero 4) P))) ps)
@@ -200,11 +184,11 @@ module _ (cs : List ℕ) (ps hs : List Float) (es : List ℕ) where
       (alike eqb (pad 0 18432 (joined (map (elementWords desk) E))) es)
       (roomFits desk t) (all (soundPoint d) P) (all (soundPlane d) H) (leb (primordials d) (length H)) (cornersInOrder t) (allFrom 0 (soundElement t) E) (distinct sameElement E)
       C (pointsSound desk d v ps) (planesSound desk d h hs) (recordsSound desk n es) (cornersSound desk n v es) (elementsSound desk d n h es) (rowsDistinct desk n es)
-      (λ s k. counts-back cs (length E) (length P) (length H) (sizes s .c) ne np nh)
+      (λ s k. counts-back cs (length E) (length P) (length H) (size-known cs ps hs es s .0) ne np nh)
       room
-      (λ s k. points-same desk d (counts k .d₄) v ps (counts k .v₂) (sizes s .p))
-      (λ s k. planes-same desk d (counts k .d₄) h hs (counts k .h₆) (sizes s .q))
-      (λ s k. records-same desk (lit≤ tt) n es (counts k .n₅) (sizes s .e))
+      (λ s k. points-same desk d (counts k .d₄) v ps (counts k .v₂) (size-known cs ps hs es s .1))
+      (λ s k. planes-same desk d (counts k .d₄) h hs (counts k .h₆) (size-known cs ps hs es s .2))
+      (λ s k. records-same desk (lit≤ tt) n es (counts k .n₅) (size-known cs ps hs es s .3))
       (ap (λ (j : ℕ). alike eqb (map vertexOf (keep isCorner E)) (upTo j)) np ∙ order-same (rows n 36 es) 0 v v (let q : 0 + v ≡ v = omega arith in q))
-      (λ s k. elements-same t es n (sizes s .e) (counts k .n₅) refl h nh (counts k .h₆))
-      (λ s k r. distinct-same desk (rows n 36 es) (records-own desk (lit≤ tt) (rows n 36 es) (rows-wide 36 n 512 es (counts k .n₅) (sizes s .e)) (and-left (all (recordWords desk) (rows n 36 es)) (blank (drop (n * 36) es)) r)))
+      (λ s k. elements-same t es n (size-known cs ps hs es s .3) (counts k .n₅) refl h nh (counts k .h₆))
+      (λ s k r. distinct-same desk (rows n 36 es) (records-own desk (lit≤ tt) (rows n 36 es) (rows-wide 36 n 512 es (counts k .n₅) (size-known cs ps hs es s .3)) (and-left (all (recordWords desk) (rows n 36 es)) (blank (drop (n * 36) es)) r)))

@@ -8,9 +8,10 @@ use lib.ListN.{length, take, drop, getD}
 use Rattle.rules.specs.Floats.{sameBits, plusZero, within, farthest, unit, farthestPlane}
 use Rattle.rules.specs.Limits.{Limits, noPlane}
 use Rattle.rules.specs.Lists.{all, rows, if_then_else_, rises, allFrom, distinct, alike}
-use Rattle.rules.specs.Memory.{planeWidth, elementWidth}
+use Rattle.rules.specs.Memory.{planeWidth, elementWidth, rightSize}
+use Rattle.rules.specs.Held.{memoryOf}
 use Rattle.rules.specs.Table.{primordials}
-use Rattle.soundness.specs.Closed.{closedRaw}
+use Rattle.space.specs.Closed.{closedRaw}
 
 abbrev pub blank : List ℕ → Bool
 blank = all (eqb 0)
@@ -18,12 +19,7 @@ blank = all (eqb 0)
 abbrev pub blankFloats : List Float → Bool
 blankFloats = all (sameBits plusZero)
 
--- ---- lengths of the four slices, and counts: dimension, elements, vertices, hyperplanes
-
-unfoldable pub sizesFit : Limits → List ℕ → List Float → List Float → List ℕ → Bool
-sizesFit L cs ps hs es =
-    eqb (length cs) 4 && eqb (length ps) (L .vertices * L .dimensions)
-    && eqb (length hs) (L .hyperplanes * planeWidth L) && eqb (length es) (L .elements * elementWidth L)
+-- ---- counts: dimension, elements, vertices, hyperplanes
 
 unfoldable pub countsFit : Limits → ℕ → ℕ → ℕ → ℕ → Bool
 countsFit L d n v h =
@@ -101,5 +97,5 @@ rowsSound L d n v h es = recordsSound L n es && cornersSound L n v es && element
 unfoldable pub wordsSound : Limits → List ℕ → List Float → List Float → List ℕ → Bool
 wordsSound L cs ps hs es =
     let d = getD cs 0 0 in let n = getD cs 1 0 in let v = getD cs 2 0 in let h = getD cs 3 0 in
-    sizesFit L cs ps hs es && countsFit L d n v h && pointsSound L d v ps && planesSound L d h hs && recordsSound L n es
+    rightSize L (memoryOf cs ps hs es) && countsFit L d n v h && pointsSound L d v ps && planesSound L d h hs && recordsSound L n es
     && cornersSound L n v es && elementsSound L d n h es && rowsDistinct L n es

@@ -3,6 +3,10 @@ use hypermath::hyperplane_at;
 use hypermath::is_unit;
 use hypermath::is_within;
 use hypermath::is_zero_bits;
+use space::words::AXES;
+use space::words::PLANE_FLOATS;
+use space::words::PLANE_WIDTH;
+use space::words::POINT_FLOATS;
 ghost use Prim.Native.Nat.{_+_, _*_, _<_, _≤_, _-_};
 ghost use mathlib.Core.Path.{_≡_};
 ghost use mathlib.Core.Bool.{true};
@@ -11,17 +15,6 @@ ghost use Rattle.rules.specs.Limits.{desk};
 ghost use Rattle.rules.specs.Lists.{all};
 ghost use Rattle.rules.specs.Floats.{within, farthest};
 ghost use Rattle.soundness.specs.Words.{blank, blankFloats, pointWords, pointsSound, planeWords, planesSound, floatsSound};
-
-// How many floats a point has: the most dimensions.
-const AXES: usize = 4;
-
-// How many floats a hyperplane has.
-const PLANE_WIDTH: usize = 5;
-
-// The lengths of the two slices.
-const POINT_FLOATS: usize = 1024;
-
-const PLANE_FLOATS: usize = 320;
 
 // The farthest a coordinate and a hyperplane may lie.
 const FARTHEST: f64 = 65536.0;

@@ -1,4 +1,3 @@
-// Whether a lent memory is sound, on any four slices: test 7, and the other tests line by line.
-mod closed;
+// Whether a lent memory is sound, on any four slices, line by line.
 mod floats;
 pub mod sound;

@@ -1,7 +1,14 @@
 // Document 01, "A table is sound when", over the words of the lent memory: one function for each of its lines.
-use crate::closed::closed_at;
 use crate::floats::floats_sound;
+use space::closed::closed_at;
+use space::words::AXES;
+use space::words::ELEMENT_WORDS;
+use space::words::ELEMENTS;
+use space::words::HYPERPLANES;
+use space::words::NO_PLANE;
+use space::words::VERTICES;
 use space::words::WIDTH;
+use space::words::right_size;
 use space::words::wide;
 ghost use Prim.Native.Nat.{suc, _+_, _*_, _<_, _≤_, _-_};
 ghost use mathlib.Core.Path.{_≡_};
@@ -13,33 +20,14 @@ ghost use Rattle.rules.specs.Lists.{all, any, alike, rows, rises};
 ghost use Rattle.rules.specs.Memory.{soundMemory};
 ghost use Rattle.rules.specs.Held.{memoryOf};
 ghost use Rattle.rules.specs.Replies.{isSoundReply};
-ghost use Rattle.soundness.specs.Closed.{closedRaw};
-ghost use Rattle.soundness.specs.Words.{sizesFit, blank, countsFit, recordWords, recordsSound, cornerNamed, cornersSound, rowsDistinct, boundaryWords, facetWords, elementSound, elementsSound, rowsSound};
-
-// How many floats a point has: the most dimensions.
-const AXES: usize = 4;
+ghost use Rattle.space.specs.Closed.{closedRaw};
+ghost use Rattle.soundness.specs.Words.{blank, countsFit, recordWords, recordsSound, cornerNamed, cornersSound, rowsDistinct, boundaryWords, facetWords, elementSound, elementsSound, rowsSound};
 
 // How many words stand before a boundary: rank, mark, hyperplane, count.
 const HEAD: usize = 4;
 
-// The room, in vertices, elements, hyperplanes, and numbers in a boundary.
-const VERTICES: usize = 256;
-
-const ELEMENTS: usize = 512;
-
-const HYPERPLANES: usize = 64;
-
+// Room for so many numbers in a boundary.
 const BOUNDARY: u16 = 32;
-
-// The lengths of the slices of points, hyperplanes and elements.
-const POINT_FLOATS: usize = 1024;
-
-const PLANE_FLOATS: usize = 320;
-
-const ELEMENT_WORDS: usize = 18432;
-
-// What an element that names no hyperplane has in its place.
-const NO_PLANE: u16 = 65535;
 
 // The dimension and every count fit the room, and the hyperplanes of the space are there.
 fn counts_fit(d: usize, n: usize, v: usize, h: usize) -> bool
@@ -315,22 +303,6 @@ fn rows_distinct(elements: &[u16], n: usize) -> bool
     true
 }
 
-// Each slice has the length of its room.
-fn sizes_fit(counts: &[u16], points: &[f64], planes: &[f64], elements: &[u16]) -> bool
-    ensures { λ r. ⌜ r ≡ sizesFit desk (now (counts .entry)) (now (points .entry)) (now (planes .entry)) (now (elements .entry)) ⌝ }
-{
-    if counts.len() != 4 {
-        return false;
-    }
-    if points.len() != POINT_FLOATS {
-        return false;
-    }
-    if planes.len() != PLANE_FLOATS {
-        return false;
-    }
-    elements.len() == ELEMENT_WORDS
-}
-
 // The slice of elements: its rows are read only once each is known to be some element's.
 fn rows_sound(elements: &[u16], d: usize, n: usize, v: usize, h: usize) -> bool
     requires { ⌜ (n ≤ 512) × (length (now elements) ≡ 18432) ⌝ }
@@ -352,7 +324,7 @@ fn rows_sound(elements: &[u16], d: usize, n: usize, v: usize, h: usize) -> bool
 fn memory_sound(counts: &[u16], points: &[f64], planes: &[f64], elements: &[u16]) -> bool
     ensures { λ r. ⌜ r ≡ soundMemory desk (memoryOf (now (counts .entry)) (now (points .entry)) (now (planes .entry)) (now (elements .entry))) ⌝ }
 {
-    if !sizes_fit(counts, points, planes, elements) {
+    if !right_size(counts, points, planes, elements) {
         return false;
     }
     let d = wide(counts[0]);

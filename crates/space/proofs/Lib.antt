@@ -8,3 +8,6 @@ pub mod RowAdds
 pub mod RowMade
 pub mod VertexMemo
 pub mod HyperplaneMemo
+pub mod Sizes
+pub mod TwiceMet
+pub mod PolytopeMemo

@@ -1,7 +1,7 @@
--- What adding a vertex or a hyperplane does to the lent memory: the step of the rules. Definitions only.
+-- What adding a vertex, a hyperplane or a polytope does to the lent memory: the step of the rules. Definitions only.
 use Prim.Native.Nat.{ℕ, _+_, _*_, _≤_, _<_}
 use mathlib.Core.Path.{_≡_}
-use mathlib.Core.Bool.{true}
+use mathlib.Core.Bool.{Bool, true}
 use mathlib.Core.List.{List, [], _∷_}
 use lib.ListN.{length, getD}
 use lib.Ieee.{Float, nan}
@@ -10,19 +10,22 @@ use Rattle.rules.specs.Lists.{pad}
 use Rattle.rules.specs.Floats.{plusZero}
 use Rattle.rules.specs.Table.{Plane, Table}
 use Rattle.rules.specs.Sound.{sound, soundPoint, soundPlane}
-use Rattle.rules.specs.Memory.{planeRow}
-use Rattle.rules.specs.Cut.{shareVertex, addVertex, sharePlane, addPlane}
+use Rattle.rules.specs.Memory.{planeRow, planeNamed}
+use Rattle.rules.specs.Cut.{shareVertex, addVertex, sharePlane, addPlane, addPolytope}
 use Rattle.rules.specs.Held.{Holds, Came}
 use Rattle.rules.specs.declared.Hyperplane.{Hyperplane}
 use Rattle.hypermath.specs.Answers.{vertexNumber, hyperplaneNumber}
 use Rattle.hypermath.specs.declared.FoundVertex.{FoundVertex}
 use Rattle.hypermath.specs.declared.FoundVertex.the-variants.{None as NoVertex, At as AtVertex}
 use Rattle.hypermath.specs.declared.FoundHyperplane.{FoundHyperplane}
+use Rattle.space.specs.Closed.{Edges}
 use Rattle.space.specs.Found.{placedAt}
 use Rattle.space.specs.declared.rows.Placed.{Placed}
 use Rattle.space.specs.declared.rows.Placed.the-variants as placed
 use Rattle.space.specs.declared.memo.PlacedHyperplane.{PlacedHyperplane}
 use Rattle.space.specs.declared.memo.PlacedHyperplane.the-variants as hyperplane
+use Rattle.space.specs.declared.memo.Added.{Added}
+use Rattle.space.specs.declared.memo.Added.the-variants as added
 
 -- ---- vertices
 
@@ -69,3 +72,10 @@ pub record HyperplaneShared (cs : List ℕ) (hs : List Float) (row : List Float)
 pub record HyperplaneAdded (cs : List ℕ) (hs : List Float) (h : Hyperplane) (r : PlacedHyperplane) (cs′ : List ℕ) (hs′ : List Float) : Type 0 where
   pub of : (ps : List Float) (es : List ℕ) (t : Table) (g : Plane) → Holds desk cs ps hs es t → sound desk t ≡ true → rowOf h ≡ planeRow desk g → soundPlane (t .dimension) g ≡ true
       → Came hyperplaneAt hyperplane.Refused (Holds desk cs′ ps hs′ es) t (addPlane desk g t) r
+
+-- ---- polytopes
+
+-- whatever table the memory holds, for a boundary of edges where a face is asked for: rule 8
+pub record PolytopeAdded (cs es : List ℕ) (rank : ℕ) (b : List ℕ) (plane : ℕ) (mark : Bool) (r : Added) (cs′ es′ : List ℕ) : Type 0 where
+  pub of : (ps hs : List Float) (t : Table) → Holds desk cs ps hs es t → (rank < length b → 1 ≤ rank) → (rank ≡ 2 → Edges t b)
+      → Came added.Made added.Refused (Holds desk cs′ ps hs es′) t (addPolytope desk rank b (planeNamed plane) mark t) r

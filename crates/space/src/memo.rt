@@ -1,30 +1,30 @@
-// What is found again, and what is new: a vertex with its element, and a hyperplane.
+// What is found again, and what is new: a vertex with its element, a hyperplane, and a polytope.
+use crate::closed::closed_at;
 use crate::rows;
 use crate::rows::Placed;
+use crate::words::AXES;
+use crate::words::BOUNDARY;
+use crate::words::HYPERPLANES;
+use crate::words::NO_PLANE;
+use crate::words::PLANE_WIDTH;
+use crate::words::VERTICES;
 use crate::words::wide;
 use hypermath::FoundHyperplane;
 use hypermath::FoundVertex;
+use rules::ElementOrNone;
 use rules::Hyperplane;
 use rules::HyperplaneId;
 use rules::VertexId;
 ghost use Prim.Native.Nat.{_+_, _<_, _≤_};
 ghost use mathlib.Core.Path.{_≡_};
 ghost use lib.Seq.{sets};
-ghost use lib.ListN.{length, getD};
+ghost use lib.ListN.{length, getD, take};
 ghost use Rattle.rules.specs.Limits.{desk};
 ghost use Rattle.rules.specs.Table.{corner};
 ghost use Rattle.rules.specs.Table as table;
 ghost use Rattle.rules.specs.Held.{elementWords};
-ghost use Rattle.space.specs.Shared.{storedPoint, four, InRoom, VertexShared, VertexAdded, rowOf, five, HyperplaneShared, HyperplaneAdded};
-
-// How many floats a row has, and how many rows there is room for.
-const POINT_WIDTH: usize = 4;
-
-const POINT_ROOM: usize = 256;
-
-const PLANE_WIDTH: usize = 5;
-
-const PLANE_ROOM: usize = 64;
+ghost use Rattle.space.specs.Closed.{Low};
+ghost use Rattle.space.specs.Shared.{storedPoint, four, InRoom, VertexShared, VertexAdded, rowOf, five, HyperplaneShared, HyperplaneAdded, PolytopeAdded};
 
 // What adding a hyperplane gives.
 pub enum PlacedHyperplane {
@@ -32,11 +32,17 @@ pub enum PlacedHyperplane {
     At(HyperplaneId),
 }
 
+// What adding a polytope gives.
+pub enum Added {
+    Refused(u8),
+    Made(ElementOrNone),
+}
+
 pub fn read_point(points: &[f64], v: VertexId) -> [f64; 4]
     requires { ⌜ (length (now points) ≡ 1024) × (v .0 < 256) ⌝ }
     ensures { λ r. ⌜ r ≡ storedPoint (now (points .entry)) (v .0) ⌝ }
 {
-    let at = v.0 * POINT_WIDTH;
+    let at = v.0 * AXES;
     [points[at], points[at + 1], points[at + 2], points[at + 3]]
 }
 
@@ -46,7 +52,7 @@ pub fn corner_row(v: VertexId) -> [u16; 36]
     ensures { λ r. ⌜ r ≡ elementWords desk (corner (v .0)) ⌝ }
 {
     let mut row = [0u16; 36];
-    row[2] = 65535;
+    row[2] = NO_PLANE;
     row[3] = 1;
     row[4] = v.0 as u16;
     row
@@ -80,10 +86,10 @@ fn share_vertex(
         }
         FoundVertex::None => {
             let n = wide(counts[2]);
-            if POINT_ROOM <= n {
+            if VERTICES <= n {
                 return Placed::Refused(8);
             }
-            put_point(points, n * POINT_WIDTH, p);
+            put_point(points, n * AXES, p);
             counts[2] = (n + 1) as u16;
             let row = corner_row(VertexId(n));
             rows::add_row(counts, elements, &row)
@@ -155,7 +161,7 @@ fn share_hyperplane(
         FoundHyperplane::At(k) => PlacedHyperplane::At(k),
         FoundHyperplane::None => {
             let n = wide(counts[3]);
-            if PLANE_ROOM <= n {
+            if HYPERPLANES <= n {
                 return PlacedHyperplane::Refused(10);
             }
             put_hyperplane(planes, n * PLANE_WIDTH, row);
@@ -176,4 +182,34 @@ pub fn add_hyperplane(counts: &mut [u16], planes: &mut [f64], h: Hyperplane) -> 
     let m = hypermath::find_hyperplane(d, planes, first, n, h);
     let row = hyperplane_row(h);
     share_hyperplane(counts, planes, row, m)
+}
+
+// Rule 8: none where the count is not above the rank; 11, 7, an equal entry, 9.
+pub fn add_polytope(
+    counts: &mut [u16],
+    elements: &mut [u16],
+    rank: usize,
+    list: &[u16; 33],
+    n: usize,
+    plane: u16,
+    mark: bool,
+) -> Added
+    requires { ⌜ (length (now counts) ≡ 4) × (length (now elements) ≡ 18432) × (getD (now counts) 1 0 ≤ 512) × (length (now list) ≡ 33) × (n ≤ 33) × (rank < 65536) × Low (now list) n ⌝ }
+    ensures { λ r. ⌜ PolytopeAdded (now (counts .entry)) (now (elements .entry)) rank (take n (now (list .entry))) plane mark r (now (counts .exit)) (now (elements .exit)) ⌝ }
+{
+    if n <= rank {
+        return Added::Made(ElementOrNone::None);
+    }
+    if BOUNDARY < n {
+        return Added::Refused(11);
+    }
+    if !closed_at(elements, rank, list, n) {
+        return Added::Refused(7);
+    }
+    let row = rows::polytope_row(rank, list, n, plane, mark);
+    let placed = rows::add_row(counts, elements, &row);
+    match placed {
+        Placed::Refused(no) => Added::Refused(no),
+        Placed::At(e) => Added::Made(ElementOrNone::Some(e)),
+    }
 }

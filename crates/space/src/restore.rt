@@ -1,4 +1,7 @@
 // A refused cut gives all memory back.
+use crate::words::AXES;
+use crate::words::PLANE_WIDTH;
+use crate::words::WIDTH;
 use crate::words::wide;
 ghost use mathlib.Core.Path.{_≡_};
 ghost use Prim.Native.Nat.{_+_, _≤_};
@@ -6,13 +9,6 @@ ghost use lib.Seq.{sets};
 ghost use lib.ListN.{length, getD, replicate};
 ghost use Rattle.rules.specs.Floats.{plusZero};
 ghost use Rattle.space.specs.Restored.{Restored};
-
-// How many words the row of an element, of a vertex and of a hyperplane has.
-const ELEMENT_WIDTH: usize = 36;
-
-const POINT_WIDTH: usize = 4;
-
-const PLANE_WIDTH: usize = 5;
 
 pub fn clear_numbers(words: &mut [u16], at: usize, n: usize)
     requires { ⌜ at + n ≤ length (now words) ⌝ }
@@ -48,11 +44,11 @@ pub fn restore(
     let ne = wide(counts[1]);
     let nv = wide(counts[2]);
     let nh = wide(counts[3]);
-    let ae = e as usize * ELEMENT_WIDTH;
-    let av = v as usize * POINT_WIDTH;
+    let ae = e as usize * WIDTH;
+    let av = v as usize * AXES;
     let ah = h as usize * PLANE_WIDTH;
-    clear_numbers(elements, ae, ne * ELEMENT_WIDTH - ae);
-    clear_floats(points, av, nv * POINT_WIDTH - av);
+    clear_numbers(elements, ae, ne * WIDTH - ae);
+    clear_floats(points, av, nv * AXES - av);
     clear_floats(planes, ah, nh * PLANE_WIDTH - ah);
     counts[1] = e;
     counts[2] = v;

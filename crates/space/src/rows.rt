@@ -1,4 +1,6 @@
 // Rows of elements in the lent memory: read, searched, appended.
+use crate::words::ELEMENTS;
+use crate::words::WIDTH;
 use crate::words::wide;
 use rules::ElementId;
 ghost use Prim.Native.Nat.{_+_, _*_, _<_, _≤_};
@@ -13,11 +15,6 @@ ghost use Rattle.rules.specs.Table.{polytope};
 ghost use Rattle.rules.specs.Memory.{planeNamed};
 ghost use Rattle.rules.specs.Held.{elementWords};
 ghost use Rattle.space.specs.Found.{elementNumber, RowAdded};
-
-// How many words a row has, and how many rows there is room for.
-const WIDTH: usize = 36;
-
-const ROOM: usize = 512;
 
 // The lowest element whose row is the given one, or none.
 pub enum FoundElement {
@@ -116,7 +113,7 @@ pub fn add_row(counts: &mut [u16], elements: &mut [u16], row: &[u16; 36]) -> Pla
     match found {
         FoundElement::At(i) => Placed::At(i),
         FoundElement::None => {
-            if ROOM <= n {
+            if ELEMENTS <= n {
                 return Placed::Refused(9);
             }
             put_row(elements, n * WIDTH, row);

@@ -2,7 +2,8 @@
 use mathlib.Core.Path.{sym, _∙_}
 use native.Mathlib.Omega.{arith}
 use borrow.Author.Tests.{not-true, not-false}
-use Rattle.cube.proofs.CubeEntries.{too-few, too-many, no-radius, no-room, cube-replied, size-known}
+use Rattle.cube.proofs.CubeReplies.{too-few, too-many, no-radius, no-room, cube-replied}
+use Rattle.space.proofs.Sizes.{size-known}
 use borrow.Author.Needs.{needs}
 use Rattle.cube.proofs.with_primordial_cube_radius.Statement.{statement}
 use Rattle.cube.proofs.with_primordial_cube_radius.Tie as tie

@@ -4,7 +4,7 @@ use mathlib.Core.Path.{_≡_, refl, _∙_, ap}
 use native.Mathlib.Omega.{arith}
 use lib.ListN.{length, take, drop}
 use Rattle.rules.specs.Table.{rank}
-use Rattle.soundness.specs.Closed.{closedRaw}
+use Rattle.space.specs.Closed.{closedRaw}
 use Rattle.soundness.proofs.BoundaryLoops.{copy-go, copy-low, copy-end}
 use borrow.Author.Needs.{needs}
 use Rattle.soundness.proofs.sound.closed_here.Statement.{statement}

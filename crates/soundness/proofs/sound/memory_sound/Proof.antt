@@ -3,37 +3,38 @@ use mathlib.Core.Bool.{false, true}
 use mathlib.Core.Path.{refl, sym, _∙_}
 use native.Mathlib.Omega.{arith}
 use Rattle.rules.proofs.Laws.{not-true, not-false}
-use Rattle.soundness.proofs.ElementLoops.{memory-is, fit-sizes, fit-counts}
+use Rattle.soundness.proofs.ElementLoops.{memory-is, fit-counts}
+use Rattle.space.proofs.Sizes.{size-known}
 use borrow.Author.Needs.{needs}
 use Rattle.soundness.proofs.sound.memory_sound.Statement.{statement}
 use Rattle.soundness.proofs.sound.memory_sound.Tie as tie
 
-sizes-fit-requires : tie.Need-sizes-fit-requires
-sizes-fit-requires c κs = search needs
+right-size-requires : tie.Need-right-size-requires
+right-size-requires c κs = search needs
 
 returns : tie.Need-returns
 returns c =
     let a = c .before .before .before .before .before .before .args in
     memory-is (a .counts .now) (a .points .now) (a .planes .now) (a .elements .now) _ _ _ _ false _ _ _ refl refl refl refl
-    (sym (c .before .sizes-fit .ensures) ∙ not-true _ (c .if1 .taken)) refl refl refl
+    (sym (c .before .right-size .ensures) ∙ not-true _ (c .if1 .taken)) refl refl refl
 
 shared-slice-read-wide : tie.Need-shared-slice-read-wide
-shared-slice-read-wide c = let f = fit-sizes _ _ _ _ (sym (c .before .before .sizes-fit .ensures) ∙ not-false _ (c .before .if1 .left)) .0 in omega (arith, f)
+shared-slice-read-wide c = let f = size-known _ _ _ _ (sym (c .before .before .right-size .ensures) ∙ not-false _ (c .before .if1 .left)) .0 in omega (arith, f)
 
 wide-requires : tie.Need-wide-requires
 wide-requires c κs = search needs
 
 shared-slice-read-wide-2 : tie.Need-shared-slice-read-wide-2
 shared-slice-read-wide-2 c =
-    let f = fit-sizes _ _ _ _ (sym (c .before .before .before .before .sizes-fit .ensures) ∙ not-false _ (c .before .before .before .if1 .left)) .0 in omega (arith, f)
+    let f = size-known _ _ _ _ (sym (c .before .before .before .before .right-size .ensures) ∙ not-false _ (c .before .before .before .if1 .left)) .0 in omega (arith, f)
 
 wide-requires-2 : tie.Need-wide-requires-2
 wide-requires-2 c κs = search needs
 
 shared-slice-read-wide-3 : tie.Need-shared-slice-read-wide-3
 shared-slice-read-wide-3 c =
-    let f = fit-sizes _ _ _ _
-    (sym (c .before .before .before .before .before .before .sizes-fit .ensures) ∙ not-false _ (c .before .before .before .before .before .if1 .left)) .0 in omega
+    let f = size-known _ _ _ _
+    (sym (c .before .before .before .before .before .before .right-size .ensures) ∙ not-false _ (c .before .before .before .before .before .if1 .left)) .0 in omega
     (arith, f)
 
 wide-requires-3 : tie.Need-wide-requires-3
@@ -41,8 +42,8 @@ wide-requires-3 c κs = search needs
 
 shared-slice-read-wide-4 : tie.Need-shared-slice-read-wide-4
 shared-slice-read-wide-4 c =
-    let f = fit-sizes _ _ _ _
-    (sym (c .before .before .before .before .before .before .before .before .sizes-fit .ensures)
+    let f = size-known _ _ _ _
+    (sym (c .before .before .before .before .before .before .before .before .right-size .ensures)
     ∙ not-false _ (c .before .before .before .before .before .before .before .if1 .left)) .0 in omega
     (arith, f)
 
@@ -58,14 +59,14 @@ returns-2 c =
     memory-is (a .counts .now) (a .points .now) (a .planes .now) (a .elements .now) _ _ _ _ true false _ _
     (c .before .before .before .before .before .before .before .before .wide .ensures .0) (c .before .before .before .before .before .before .wide2 .ensures .0)
     (c .before .before .before .before .wide3 .ensures .0) (c .before .before .wide4 .ensures .0)
-    (sym (c .before .before .before .before .before .before .before .before .before .before .before .sizes-fit .ensures)
+    (sym (c .before .before .before .before .before .before .before .before .before .before .before .right-size .ensures)
     ∙ not-false _ (c .before .before .before .before .before .before .before .before .before .before .if1 .left))
     (sym (c .before .counts-fit .ensures) ∙ not-true _ (c .if2 .taken)) refl refl
 
 floats-sound-requires : tie.Need-floats-sound-requires
 floats-sound-requires c κs =
-    let s = fit-sizes _ _ _ _
-    (sym (c .before .before .before .before .before .before .before .before .before .before .before .sizes-fit .ensures)
+    let s = size-known _ _ _ _
+    (sym (c .before .before .before .before .before .before .before .before .before .before .before .right-size .ensures)
     ∙ not-false _ (c .before .before .before .before .before .before .before .before .before .before .if1 .left)) in
     let f = fit-counts _ _ _ _ (sym (c .before .counts-fit .ensures) ∙ not-false _ (c .if2 .left)) in
     (f .0, f .1, f .3, s .1, s .2)
@@ -77,15 +78,15 @@ returns-3 c =
     (c .before .before .before .before .before .before .before .before .before .before .wide .ensures .0)
     (c .before .before .before .before .before .before .before .before .wide2 .ensures .0) (c .before .before .before .before .before .before .wide3 .ensures .0)
     (c .before .before .before .before .wide4 .ensures .0)
-    (sym (c .before .before .before .before .before .before .before .before .before .before .before .before .before .sizes-fit .ensures)
+    (sym (c .before .before .before .before .before .before .before .before .before .before .before .before .before .right-size .ensures)
     ∙ not-false _ (c .before .before .before .before .before .before .before .before .before .before .before .before .if1 .left))
     (sym (c .before .before .before .counts-fit .ensures) ∙ not-false _ (c .before .before .if2 .left))
     (sym (c .before .floats-sound .ensures) ∙ not-true _ (c .if3 .taken)) refl
 
 rows-sound-requires : tie.Need-rows-sound-requires
 rows-sound-requires c κs =
-    let s = fit-sizes _ _ _ _
-    (sym (c .before .before .before .before .before .before .before .before .before .before .before .before .before .sizes-fit .ensures)
+    let s = size-known _ _ _ _
+    (sym (c .before .before .before .before .before .before .before .before .before .before .before .before .before .right-size .ensures)
     ∙ not-false _ (c .before .before .before .before .before .before .before .before .before .before .before .before .if1 .left)) in
     let f = fit-counts _ _ _ _ (sym (c .before .before .before .counts-fit .ensures) ∙ not-false _ (c .before .before .if2 .left)) in
     (f .2, s .3)
@@ -97,7 +98,7 @@ returns-4 c =
     (c .before .before .before .before .before .before .before .before .before .before .before .wide .ensures .0)
     (c .before .before .before .before .before .before .before .before .before .wide2 .ensures .0)
     (c .before .before .before .before .before .before .before .wide3 .ensures .0) (c .before .before .before .before .before .wide4 .ensures .0)
-    (sym (c .before .before .before .before .before .before .before .before .before .before .before .before .before .before .sizes-fit .ensures)
+    (sym (c .before .before .before .before .before .before .before .before .before .before .before .before .before .before .right-size .ensures)
     ∙ not-false _ (c .before .before .before .before .before .before .before .before .before .before .before .before .before .if1 .left))
     (sym (c .before .before .before .before .counts-fit .ensures) ∙ not-false _ (c .before .before .before .if2 .left))
     (sym (c .before .before .floats-sound .ensures) ∙ not-false _ (c .before .if3 .left))
@@ -107,7 +108,7 @@ pub memory-sound-spec : {M : Type 1} → statement M
 memory-sound-spec =
     tie.close
     (tie.spec
-    sizes-fit-requires
+    right-size-requires
     returns
     shared-slice-read-wide
     wide-requires

@@ -3,8 +3,8 @@ use mathlib.Core.Bool.{Bool, cond}
 use mathlib.Core.Path.{sym, ap}
 use Rattle.rules.proofs.Laws.{test-eq, not-eq}
 use borrow.Author.Needs.{needs}
-use Rattle.soundness.proofs.closed.one_if_same.Statement.{statement}
-use Rattle.soundness.proofs.closed.one_if_same.Tie as tie
+use Rattle.space.proofs.closed.one_if_same.Statement.{statement}
+use Rattle.space.proofs.closed.one_if_same.Tie as tie
 
 returns : tie.Need-returns
 returns c = (sym (ap (λ (b : Bool). cond b 1 0) (test-eq _ _ (c .if1 .taken))), search needs)

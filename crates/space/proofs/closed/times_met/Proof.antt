@@ -4,11 +4,11 @@ use mathlib.Core.Path.{_≡_}
 use native.Mathlib.Omega.{arith}
 use lib.ListN.{take, drop}
 use Rattle.rules.specs.Lists.{occurrences}
-use Rattle.soundness.specs.Closed.{rawEnds}
-use Rattle.soundness.proofs.TwiceMet.{count-start, count-go, count-end}
+use Rattle.space.specs.Closed.{rawEnds}
+use Rattle.space.proofs.TwiceMet.{count-start, count-go, count-end}
 use borrow.Author.Needs.{needs}
-use Rattle.soundness.proofs.closed.times_met.Statement.{statement}
-use Rattle.soundness.proofs.closed.times_met.Tie as tie
+use Rattle.space.proofs.closed.times_met.Statement.{statement}
+use Rattle.space.proofs.closed.times_met.Tie as tie
 
 abbrev Inv-loop : tie.InvT-loop
 Inv-loop elements list n v met₀ k₀ met k = (k ≤ n) × (met ≤ 2 * k) × (occurrences v (rawEnds elements (take n list)) ≡ met + occurrences v (rawEnds elements (drop k (take n list))))

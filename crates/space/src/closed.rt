@@ -1,21 +1,22 @@
 // Test 7: whether the boundary of a face goes round.
-use space::words::WIDTH;
-use space::words::wide;
+use crate::rows::boundary_at;
+use crate::words::wide;
+use rules::ElementId;
 ghost use Prim.Native.Nat.{_+_, _*_, _<_, _≤_};
 ghost use mathlib.Core.Path.{_≡_};
 ghost use mathlib.Core.Bool.{cond};
 ghost use lib.Dec.{eqb};
 ghost use lib.ListN.{length, getD, take};
 ghost use Rattle.rules.specs.Lists.{all, occurrences};
-ghost use Rattle.soundness.specs.Closed.{Low, rawEnds, closedRaw};
+ghost use Rattle.space.specs.Closed.{Low, rawEnds, closedRaw};
 
 // Boundary number i of element e.
 fn end_of(elements: &[u16], e: u16, i: usize) -> u16
     requires { ⌜ (length (now elements) ≡ 18432) × (e < 512) × (i < 32) ⌝ }
     ensures { λ r. ⌜ r ≡ getD (now (elements .entry)) (e * 36 + (4 + i)) 0 ⌝ }
 {
-    let at = wide(e) * WIDTH;
-    elements[at + (4 + i)]
+    let edge = ElementId(wide(e));
+    boundary_at(elements, edge, i)
 }
 
 fn one_if_same(a: u16, b: u16) -> usize

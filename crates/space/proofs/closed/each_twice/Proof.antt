@@ -8,11 +8,11 @@ use lib.Dec.{eqb}
 use lib.ListN.{take, drop}
 use Rattle.rules.specs.Lists.{occurrences, all}
 use Rattle.rules.proofs.Laws.{not-eq, test-eq}
-use Rattle.soundness.specs.Closed.{rawEnds}
-use Rattle.soundness.proofs.TwiceMet.{twice-no-1, twice-no-2, twice-go, twice-end}
+use Rattle.space.specs.Closed.{rawEnds}
+use Rattle.space.proofs.TwiceMet.{twice-no-1, twice-no-2, twice-go, twice-end}
 use borrow.Author.Needs.{needs}
-use Rattle.soundness.proofs.closed.each_twice.Statement.{statement}
-use Rattle.soundness.proofs.closed.each_twice.Tie as tie
+use Rattle.space.proofs.closed.each_twice.Statement.{statement}
+use Rattle.space.proofs.closed.each_twice.Tie as tie
 
 abbrev twice : List ℕ → List ℕ → ℕ → ℕ → Bool
 twice es list n v = eqb (occurrences v (rawEnds es (take n list))) 2

@@ -3,10 +3,10 @@ use mathlib.Core.Path.{sym}
 use native.Mathlib.Nat.{le-trans, le-of-eq}
 use lib.ListN.{take}
 use lib.Seq.{length-take-le}
-use Rattle.soundness.proofs.TwiceMet.{closed-one, closed-two, closed-other}
+use Rattle.space.proofs.TwiceMet.{closed-one, closed-two, closed-other}
 use borrow.Author.Needs.{needs}
-use Rattle.soundness.proofs.closed.closed_at.Statement.{statement}
-use Rattle.soundness.proofs.closed.closed_at.Tie as tie
+use Rattle.space.proofs.closed.closed_at.Statement.{statement}
+use Rattle.space.proofs.closed.closed_at.Tie as tie
 
 returns : tie.Need-returns
 returns c =

@@ -15,8 +15,9 @@ use Rattle.rules.specs.Limits.{desk}
 use Rattle.rules.specs.Lists.{occurrences, if_then_else_, keep, all}
 use Rattle.rules.specs.Sound.{closed, endsOf}
 use Rattle.rules.specs.Table.{Table, element, Element, boundaryOf, corner, polytope}
-use Rattle.soundness.specs.Closed.{rawEnds, Edges, closedRaw}
+use Rattle.space.specs.Closed.{rawEnds, Edges, closedRaw}
 use Rattle.space.proofs.Room.{listOf, list-word}
+use Rattle.space.proofs.RowMade.{taken}
 
 pub times-cons : (v x : ℕ) (xs : List ℕ) → occurrences v (x ∷ xs) ≡ cond (eqb v x) 1 0 + occurrences v xs
 times-cons v x xs = go (eqb v x)
@@ -32,17 +33,14 @@ ends-on es b k h =
     ap (rawEnds es) (drop-cons b k 0 h) ∙ ap (λ (j : ℕ). getD es (getD b k 0 * 36 + 4) 0 ∷ getD es (getD b k 0 * 36 + 5) 0 ∷ rawEnds es (drop j b)) (sym (add-one k))
 
 module _ (es list : List ℕ) (n : ℕ) (long : length list ≡ 33) (fit : n ≤ 33) where
-  taken : length (take n list) ≡ n
-  taken = length-take-le n list (le-trans fit (le-of-eq (sym long)))
-
   ends-at : (k : ℕ) → k < n → rawEnds es (drop k (take n list)) ≡ getD es (getD list k 0 * 36 + 4) 0 ∷ getD es (getD list k 0 * 36 + 5) 0 ∷ rawEnds es (drop (k + 1) (take n list))
   ends-at k h =
-      ends-on es (take n list) k (let e = taken in let q : k < length (take n list) = omega (arith, e, h) in q)
+      ends-on es (take n list) k (let e = taken list n long fit in let q : k < length (take n list) = omega (arith, e, h) in q)
       ∙ ap (λ (x : ℕ). getD es (x * 36 + 4) 0 ∷ getD es (x * 36 + 5) 0 ∷ rawEnds es (drop (k + 1) (take n list))) (getD-take n list k 0 h)
 
   pub ends-none : rawEnds es (drop n (take n list)) ≡ []
   unfolding rawEnds
-  ends-none = ap (rawEnds es) (ap (λ (j : ℕ). drop j (take n list)) (sym taken) ∙ drop-length (take n list))
+  ends-none = ap (rawEnds es) (ap (λ (j : ℕ). drop j (take n list)) (sym (taken list n long fit)) ∙ drop-length (take n list))
 
   pub count-go : {reply : ℕ} (v k met a b s₁ s₂ : ℕ) → reply ≡ met + occurrences v (rawEnds es (drop k (take n list))) → k < n
       → a ≡ getD es (getD list k 0 * 36 + 4) 0 → b ≡ getD es (getD list k 0 * 36 + 5) 0 → s₁ ≡ cond (eqb v a) 1 0 → s₂ ≡ cond (eqb v b) 1 0

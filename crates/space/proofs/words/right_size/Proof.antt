@@ -2,9 +2,9 @@
 use mathlib.Core.Path.{refl}
 use mathlib.Core.Bool.{true, false}
 use Rattle.rules.proofs.Laws.{not-eq, test-eq}
-use Rattle.cube.proofs.CubeEntries.{size-of}
-use Rattle.cube.proofs.right_size.Statement.{statement}
-use Rattle.cube.proofs.right_size.Tie as tie
+use Rattle.space.proofs.Sizes.{size-of}
+use Rattle.space.proofs.words.right_size.Statement.{statement}
+use Rattle.space.proofs.words.right_size.Tie as tie
 
 returns : tie.Need-returns
 returns c = size-of _ _ _ _ false _ _ _ (not-eq _ 4 (c .if1 .taken)) refl refl refl
