@@ -8,7 +8,7 @@ use mathlib.Core.List.{List, [], _∷_, _++_, map, append-nil}
 use native.Mathlib.Nat.{pow-le-pow-right, le-of-eq}
 use native.Mathlib.Numerals.{add-one}
 use native.Mathlib.Omega.{arith}
-use lib.Dec.{eqb, leb}
+use lib.Dec.{eqb}
 use lib.ListN.{length, getD, set, take, drop, replicate, length-replicate, length-map, length-append, List·getD-append}
 use lib.Seq.{sets, sets-eq, drop-length, take-suc, take-length, length-take-le, take-append-seam}
 use lib.Ieee.{Float, neg}
@@ -16,16 +16,15 @@ use Rattle.rules.specs.Limits.{desk, noPlane}
 use Rattle.rules.specs.Lists.{if_then_else_, pad, upTo, keep}
 use Rattle.rules.specs.Floats.{plusZero, one}
 use Rattle.rules.specs.Table.{Element, corner, polytope, boundaryOf, primordials}
-use Rattle.rules.specs.Memory.{Memory, elementRow, planeRow, planeNamed, rightSize, encode}
-use Rattle.rules.specs.Cube.{digits, ofDigits, faces, twos, isVertex, isFacet, chosen, cubeElement, cubePoint, facetNormal, facetPlane, cube, radiusFits}
-use Rattle.rules.specs.Replies.{cubeReply}
+use Rattle.rules.specs.Memory.{elementRow, planeRow, planeNamed}
+use Rattle.rules.specs.Cube.{digits, ofDigits, faces, twos, isVertex, isFacet, chosen, cubeElement, cubePoint, facetNormal, facetPlane, cube}
 use Rattle.rules.specs.Held.{laid, Wide, elementWords, memoryOf, countsOf, pointsOf, planesOf, elementsOf}
 use Rattle.rules.proofs.Counting.{before, before-less, upTo-suc, length-up}
 use Rattle.rules.proofs.CubeCounts.{vertex-tally, facet-tally}
 use Rattle.rules.proofs.CubeDigits.{digits-length, digit-low, twos-length}
 use Rattle.rules.proofs.CubeElements.{boundary-of}
 use Rattle.rules.proofs.CubeFaces.{faceNumbers, faces-known}
-use Rattle.rules.proofs.Laws.{eq-test, not-eq, test-eq, test-le, test-above, and-left, and-right}
+use Rattle.rules.proofs.Laws.{not-eq, test-eq}
 use Rattle.rules.proofs.Growing.{keep-append}
 use Rattle.hypermath.proofs.Filling.{fill-next}
 use Rattle.cube.specs.Cubes.{FacesSoFar, coordinateAt, componentAt, cubeElements, cubePoints, cubePlanes, CornerPut, FacetPut, CubePut}

@@ -3,12 +3,12 @@ use Prim.Native.Nat.{ℕ, _+_, suc, zero, _<_, _*_, _≤_}
 use mathlib.Core.Bool.{cond, Bool, true, false, _&&_}
 use mathlib.Core.List.{List, _∷_, [], _++_}
 use mathlib.Core.Path.{_≡_, sym, ap, _∙_, ap₂, refl}
-use native.Mathlib.Nat.{zero-add, le-trans, le-of-eq}
+use native.Mathlib.Nat.{zero-add}
 use native.Mathlib.Numerals.{add-one}
 use native.Mathlib.Omega.{arith}
 use lib.Dec.{eqb, lit≤}
 use lib.ListN.{length, drop, getD, take}
-use lib.Seq.{drop-cons, length-take-le, getD-take, drop-length}
+use lib.Seq.{drop-cons, getD-take, drop-length}
 use Rattle.rules.specs.Floats.{one}
 use Rattle.rules.specs.Held.{Fits, elementsOf}
 use Rattle.rules.specs.Limits.{desk}
