@@ -171,7 +171,7 @@ module _ (L : Limits) (c : Cutting) where
 
   module _ (r : ℕ) (ask : ℕ → Step ElementCutOutput)
       (h : (b : ℕ) (t : Table) → Good L t → c .number < length (t .planes) → b < elementCount t → rank t b ≡ r → Stays L (OutputOf r) t (ask b t)) where
-    boundary-stays : (bs : List ℕ) (g : Gathered) (t : Table) → Good L t → c .number < length (t .planes) → AllOf (Ranked t (suc r)) bs → Sets r g t → Stays L (Sets r) t (cutBoundary ask bs g t)
+    pub boundary-stays : (bs : List ℕ) (g : Gathered) (t : Table) → Good L t → c .number < length (t .planes) → AllOf (Ranked t (suc r)) bs → Sets r g t → Stays L (Sets r) t (cutBoundary ask bs g t)
     boundary-stays [] g t k n hb hg = stays-here L (Sets r) t g k hg
     boundary-stays (b ∷ bs) g t k n hb hg =
         stays-next L (OutputOf r) (Sets r) t (ask b t) _ (h b t k n (hb .0 .0) (suc-inj (hb .0 .1))) (λ a t₁ e₁ k₁ ha.

@@ -23,6 +23,8 @@ use Rattle.rules.specs.declared.ElementOrNone.{ElementOrNone}
 use Rattle.rules.specs.declared.ElementOrNone.the-variants.{None, Some}
 use Rattle.rules.specs.declared.ElementCutOutput.{ElementCutOutput}
 use Rattle.rules.specs.declared.ElementCutOutput.the-variants.{Flush, NonFlush}
+use Rattle.rules.specs.declared.PolytopeFate.{PolytopeFate}
+use Rattle.rules.specs.declared.PolytopeFate.the-variants.{Remove, Keep}
 use Rattle.rules.specs.declared.CutReply.{CutReply}
 use Rattle.rules.specs.declared.CutReply.the-variants.{Refused, Answered}
 use Rattle.rules.specs.declared.ListReply.{ListReply}
@@ -106,6 +108,11 @@ unfoldable pub dividerFits : Limits → ℕ → Hyperplane → Bool
 dividerFits L d h =
     eqb (length (h .normal)) (L .dimensions) && unit (take d (h .normal)) && all (sameBits plusZero) (drop d (h .normal))
     && distanceFits (h .distance)
+
+-- keep or remove
+abbrev pub isKept : PolytopeFate → Bool
+isKept Remove = false
+isKept Keep = true
 
 -- the divider with the dimension's components only
 abbrev pub dividerOf : ℕ → Hyperplane → Plane

@@ -34,6 +34,12 @@ pub enum ElementOrNone {
     Some(ElementId),
 }
 
+// What becomes of what lies on one side of the divider.
+pub enum PolytopeFate {
+    Remove,
+    Keep,
+}
+
 // What a cut of an element gives.
 pub enum ElementCutOutput {
     Flush,

@@ -321,7 +321,7 @@ fn rows_sound(elements: &[u16], d: usize, n: usize, v: usize, h: usize) -> bool
 }
 
 // Lengths and counts come first: the other tests rely on them.
-fn memory_sound(counts: &[u16], points: &[f64], planes: &[f64], elements: &[u16]) -> bool
+pub fn memory_sound(counts: &[u16], points: &[f64], planes: &[f64], elements: &[u16]) -> bool
     ensures { λ r. ⌜ r ≡ soundMemory desk (memoryOf (now (counts .entry)) (now (points .entry)) (now (planes .entry)) (now (elements .entry))) ⌝ }
 {
     if !right_size(counts, points, planes, elements) {

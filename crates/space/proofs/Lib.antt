@@ -1,5 +1,6 @@
 pub mod Laid
 pub mod Room
+pub mod Slices
 pub mod SameRows
 pub mod Lent
 pub mod Zeros

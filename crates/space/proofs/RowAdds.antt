@@ -14,7 +14,7 @@ use Rattle.rules.specs.Limits.{Readable, desk}
 use Rattle.rules.specs.Lists.{if_then_else_, alike, find, rows}
 use Rattle.rules.specs.Table.{Element, Table, sameElement, elementCount}
 use Rattle.rules.specs.Cut.{refused, done, addElement, shareElement, withElement}
-use Rattle.rules.specs.Held.{Holds, pointsOf, planesOf, elementWords, fitting, went, stopped, countsOf, elementsOf}
+use Rattle.rules.specs.Held.{Holds, pointsOf, planesOf, elementWords, fitting, went, stopped, elementsOf}
 use Rattle.rules.proofs.Extends.{extends-refl}
 use Rattle.space.proofs.SameRows.{find-rows}
 use Rattle.space.proofs.Room.{element-fitted, element-counted, element-words-stored, row-short}
@@ -23,18 +23,15 @@ use Rattle.space.specs.Found.{elementNumber, placedAt, RowAdded}
 use Rattle.space.specs.declared.rows.FoundElement.{FoundElement}
 use Rattle.space.specs.declared.rows.FoundElement.the-variants.{None as NoElement, At as AtElement}
 use Rattle.space.specs.declared.rows.Placed.the-variants as placed
+use Rattle.space.proofs.Slices.{slices}
 
 pub readable-desk : Readable desk
 readable-desk = record { planes = lit≤ tt; boundary = lit≤ tt }
 
-pub counted : (t : Table) → getD (countsOf t) 1 0 ≡ elementCount t
-unfolding countsOf
-counted t = refl
-
 module _ (cs es row : List ℕ) (n : ℕ) (found : FoundElement) (k : n ≡ getD cs 1 0) (f : elementNumber found ≡ find (alike eqb row) (rows n 36 es)) where
   module _ (ps hs : List Float) (t : Table) (e : Element) (H : Holds desk cs ps hs es t) (q : row ≡ elementWords desk e) (p : fitting desk e ≡ true) where
     number : n ≡ elementCount t
-    number = k ∙ ap (λ (l : List ℕ). getD l 1 0) (H .counts) ∙ counted t
+    number = k ∙ slices H .elementCount
 
     search-is : find (alike eqb row) (rows n 36 es) ≡ find (sameElement e) (t .elements)
     search-is =

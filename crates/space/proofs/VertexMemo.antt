@@ -12,7 +12,7 @@ use lib.ListN.{getD, length, set, replicate, length-set, drop, length-map, take}
 use lib.Seq.{sets, getD-set-other}
 use Rattle.rules.specs.Cut.{shareVertex, addElement, withPoint, refused, addVertex}
 use Rattle.rules.specs.Floats.{plusZero, within, farthest, pointMatches}
-use Rattle.rules.specs.Held.{countsOf, Holds, elementWords, Came, stopped, elementsOf, planesOf, went, pointsOf}
+use Rattle.rules.specs.Held.{Holds, elementWords, Came, stopped, elementsOf, planesOf, went, pointsOf}
 use Rattle.rules.specs.Limits.{desk}
 use Rattle.rules.specs.Lists.{if_then_else_, pad, rows, find, all}
 use Rattle.rules.specs.Memory.{elementRow}
@@ -36,20 +36,13 @@ use Rattle.space.proofs.Room.{point-counted, point-words-stored, point-
 use Rattle.space.proofs.RowAdds.{readable-desk}
 use borrow.Author.Tests.{le-ltb, lt-ltb}
 use Rattle.space.specs.declared.rows.Placed.the-variants as placed
-
-pointed : (t : Table) → getD (countsOf t) 2 0 ≡ length (t .points)
-unfolding countsOf
-pointed t = refl
-
-dimensioned : (t : Table) → getD (countsOf t) 0 0 ≡ t .dimension
-unfolding countsOf
-dimensioned t = refl
+use Rattle.space.proofs.Slices.{slices}
 
 number : {cs : List ℕ} {ps hs : List Float} {es : List ℕ} {t : Table} (n : ℕ) → n ≡ getD cs 2 0 → Holds desk cs ps hs es t → n ≡ length (t .points)
-number {t = t} n k H = k ∙ ap (λ (l : List ℕ). getD l 2 0) (H .counts) ∙ pointed t
+number n k H = k ∙ slices H .pointCount
 
 pub dimension-is : {cs : List ℕ} {ps hs : List Float} {es : List ℕ} {t : Table} (d : ℕ) → d ≡ getD cs 0 0 → Holds desk cs ps hs es t → d ≡ t .dimension
-dimension-is {t = t} d k H = k ∙ ap (λ (l : List ℕ). getD l 0 0) (H .counts) ∙ dimensioned t
+dimension-is d k H = k ∙ slices H .dimension
 
 pub four-is : (p : List Float) → length p ≡ 4 → four p ≡ p
 four-is [] h = absurd (let z : ⊥ = omega (arith, h) in z)

@@ -1,0 +1,205 @@
+-- The whole cut: the hyperplane's step, then the root's; a refusal of either gives back the memory, since all that was done is to append.
+use Prim.Native.Nat.{ℕ, _*_, _≤_, _<_}
+use mathlib.Core.Path.{_≡_, sym, ap, ap₂, _∙_, subst}
+use mathlib.Core.Bool.{Bool}
+use mathlib.Core.List.{List}
+use native.Mathlib.Nat.{le-trans, le-of-eq}
+use native.Mathlib.Omega.{arith}
+use lib.ListN.{length, getD}
+use lib.Ieee.{Float}
+use Rattle.rules.specs.Limits.{desk}
+use Rattle.rules.specs.Memory.{Memory}
+use Rattle.rules.specs.Table.{Table, elementCount, rank}
+use Rattle.rules.specs.Held as held
+use Rattle.rules.specs.Held.{Extends, Holds, Came, memoryOf}
+use Rattle.rules.specs.Cut.{Outcome, done, next, addPlane, cutElement, cutFinite}
+use Rattle.rules.specs.Replies.{dividerOf, written}
+use Rattle.rules.specs.declared.Hyperplane.{Hyperplane}
+use Rattle.rules.specs.declared.HyperplaneId.{HyperplaneId}
+use Rattle.rules.specs.declared.ElementCutOutput.{ElementCutOutput}
+use Rattle.rules.specs.declared.CutReply.{CutReply}
+use Rattle.rules.specs.declared.CutReply.the-variants as reply
+use Rattle.rules.proofs.Extends.{extends-trans, count-more, begins-length}
+use Rattle.rules.proofs.Good.{Good, sound-good, good-sound}
+use Rattle.rules.proofs.Laws.{le-test}
+use Rattle.rules.proofs.Stays.{Stays, Kept, plane-stays}
+use Rattle.space.specs.Shared.{HyperplaneAdded, hyperplaneAt}
+use Rattle.space.specs.Restored.{Restored}
+use Rattle.space.specs.declared.memo.PlacedHyperplane.{PlacedHyperplane}
+use Rattle.space.specs.declared.memo.PlacedHyperplane.the-variants as hyperplane
+use Rattle.space.proofs.Lent.{holds-memory}
+use Rattle.space.proofs.Room.{rank-word}
+use Rattle.space.proofs.RowAdds.{readable-desk}
+use Rattle.space.proofs.Slices.{slices}
+use Rattle.gathered.specs.Cutting.{Fit, cutOf}
+use Rattle.gathered.specs.declared.answer.Cutter.{Cutter}
+use Rattle.ends.specs.Elements.{Ready, ElementCut}
+use Rattle.cut.specs.Whole.{CutFit, CutReady, CutTried, WholeCut}
+
+-- ---- the hyperplane, then the root
+
+abbrev numberOf : PlacedHyperplane → ℕ
+numberOf (hyperplane.Refused n) = n
+numberOf (hyperplane.At n) = n .0
+
+abbrev isRefused : PlacedHyperplane → ℕ
+isRefused (hyperplane.Refused n) = 1
+isRefused (hyperplane.At n) = 0
+
+-- the table once the hyperplane is there
+record Named (ps : List Float) (es : List ℕ) (h : Hyperplane) (cs₁ : List ℕ) (hs₁ : List Float) (v : ℕ) (t : Table) : Type 0 where
+  pub table : Table
+  pub ended : addPlane desk (dividerOf (t .dimension) h) t ≡ done v table
+  pub extends : Extends t table
+  pub good : Good desk table
+  pub numbered : v < length (table .planes)
+  pub holds : Holds desk cs₁ ps hs₁ es table
+
+abbrev Added : List Float → List ℕ → Hyperplane → PlacedHyperplane → List ℕ → List Float → Table → Type 0
+Added ps es h x cs₁ hs₁ t = Came hyperplaneAt hyperplane.Refused (Holds desk cs₁ ps hs₁ es) t (addPlane desk (dividerOf (t .dimension) h) t) x
+
+abbrev cutter : Hyperplane → HyperplaneId → Bool → Bool → Cutter
+cutter h v i o = record { divider = h; number = v; «keep_inside» = i; «keep_outside» = o }
+
+module _ {cs : List ℕ} {ps hs : List Float} {es : List ℕ} {h : Hyperplane} {root : ℕ} where
+  pub counts-ready : CutReady cs ps hs es h root → length cs ≡ 4
+  counts-ready R = slices (R .fit .holds) .counts
+
+  pub plane-asked : CutReady cs ps hs es h root → (length cs ≡ 4) × (length hs ≡ 320) × (getD cs 0 0 ≤ 4) × (getD cs 3 0 ≤ 64)
+  plane-asked R =
+      let s = slices (R .fit .holds) in
+      let g = sound-good desk (R .table) (R .fit .sound) in
+      (s .counts, s .planes, le-trans (le-of-eq (s .dimension)) (le-test (R .table .dimension) 4 (g .high)), s .planesFit)
+
+  module _ {x : PlacedHyperplane} {cs₁ : List ℕ} {hs₁ : List Float} (P : HyperplaneAdded cs hs h x cs₁ hs₁) where
+    added : {t : Table} → CutFit cs ps hs es h root t → Added ps es h x cs₁ hs₁ t
+    added {t} F = P .of ps es t (dividerOf (t .dimension) h) (F .holds) (F .sound) (F .row) (F .plane)
+
+    -- no room for the hyperplane
+    pub plane-refused : (i o : Bool) (n : ℕ) → x ≡ hyperplane.Refused n → CutTried cs ps hs es h i o root (reply.Refused n) cs₁ ps hs₁ es
+    plane-refused i o n q = record { of = λ t F. go t (added F) }
+      where
+        go : (t : Table) → Added ps es h x cs₁ hs₁ t → Came reply.Answered reply.Refused (Holds desk cs₁ ps hs₁ es) t (cutFinite desk (dividerOf (t .dimension) h) i o root t) (reply.Refused n)
+        go t (held.went j u m w H) = let z : _≡_ {A = ℕ} 1 0 = sym (ap isRefused q) ∙ ap isRefused w in absurd (omega (arith, z))
+        go t (held.stopped j u m w y H) =
+            let z : n ≡ j = sym (ap numberOf q) ∙ ap numberOf w in
+            held.stopped j u
+            (ap (λ (p : Outcome ℕ). next p (λ v l. cutElement desk (record { divider = dividerOf (t .dimension) h; number = v; keepInside = i; keepOutside = o }) (rank l root) root l)) m)
+            (ap reply.Refused z) y H
+
+    -- the hyperplane's number is known
+    module _ (v : HyperplaneId) (q : x ≡ hyperplane.At v) where
+      named : {t : Table} → CutFit cs ps hs es h root t → Named ps es h cs₁ hs₁ (v .0) t
+      named {t} F = go (added F)
+        where
+          go : Added ps es h x cs₁ hs₁ t → Named ps es h cs₁ hs₁ (v .0) t
+          go (held.stopped j u m w y H) = let z : _≡_ {A = ℕ} 0 1 = sym (ap isRefused q) ∙ ap isRefused w in absurd (omega (arith, z))
+          go (held.went j u m w H) =
+              let z : j ≡ v .0 = sym (ap numberOf w) ∙ ap numberOf q in
+              let m′ : addPlane desk (dividerOf (t .dimension) h) t ≡ done (v .0) u = m ∙ ap (λ (n : ℕ). done n u) z in
+              let K : Kept desk (λ (n : ℕ) (s : Table). n < length (s .planes)) t (v .0) u =
+              subst (Stays desk (λ (n : ℕ) (s : Table). n < length (s .planes)) t) m′ (plane-stays desk t (sound-good desk t (F .sound)) (dividerOf (t .dimension) h) (F .plane)) in
+              record { table = u; ended = m′; extends = K .extends; good = K .good; numbered = K .value; holds = H }
+
+      pub rank-asked : CutReady cs ps hs es h root → (length es ≡ 18432) × (root < 512)
+      rank-asked R = (slices (R .fit .holds) .elements, le-trans (R .fit .used) (R .fit .holds .fits .elementRoom))
+
+      module _ (r : ℕ) (read : r ≡ getD es (root * 36) 0) (i o : Bool) where
+        root-fit : {t : Table} → (F : CutFit cs ps hs es h root t) → Fit cs₁ ps hs₁ es r root (cutter h v i o) (named F .table)
+        root-fit F =
+            let A = named F in
+            let used : root < elementCount (A .table) = le-trans (F .used) (count-more (A .extends)) in
+            record {
+              holds = A .holds;
+              sound = good-sound desk (A .table) (A .good);
+              plane = A .numbered;
+              used = used;
+              ranked = sym (read ∙ ap (λ (l : List ℕ). getD l (root * 36) 0) (A .holds .elements) ∙ rank-word desk (A .table) (A .holds .fits) root used);
+            }
+
+        pub root-ready : CutReady cs ps hs es h root → Ready cs₁ ps es r root (cutter h v i o)
+        root-ready R = record { planes = hs₁; table = named (R .fit) .table; fit = root-fit (R .fit) }
+
+        pub root-cut : {y : CutReply} {cs₂ : List ℕ} {ps₂ : List Float} {es₂ : List ℕ} → ElementCut cs₁ ps es r root (cutter h v i o) y cs₂ ps₂ es₂
+            → CutTried cs ps hs es h i o root y cs₂ ps₂ hs₁ es₂
+        root-cut {y} {cs₂} {ps₂} {es₂} C = record { of = λ t F. go t F (C .of hs₁ (named F .table) (root-fit F)) }
+          where
+            steps : (t : Table) (F : CutFit cs ps hs es h root t)
+                → cutFinite desk (dividerOf (t .dimension) h) i o root t ≡ cutElement desk (cutOf (named F .table .dimension) (cutter h v i o)) r root (named F .table)
+            steps t F =
+                ap (λ (p : Outcome ℕ). next p (λ n l. cutElement desk (record { divider = dividerOf (t .dimension) h; number = n; keepInside = i; keepOutside = o }) (rank l root) root l)) (named F .ended)
+                ∙ ap₂ (λ (d n : ℕ). cutElement desk (cutOf d (cutter h v i o)) n root (named F .table)) (sym (named F .extends .dimension)) (root-fit F .ranked)
+
+            go : (t : Table) (F : CutFit cs ps hs es h root t)
+                → Came reply.Answered reply.Refused (Holds desk cs₂ ps₂ hs₁ es₂) (named F .table) (cutElement desk (cutOf (named F .table .dimension) (cutter h v i o)) r root (named F .table)) y
+                → Came reply.Answered reply.Refused (Holds desk cs₂ ps₂ hs₁ es₂) t (cutFinite desk (dividerOf (t .dimension) h) i o root t) y
+            go t F (held.went a u m w H) = held.went a u (steps t F ∙ m) w H
+            go t F (held.stopped j u m w z H) = held.stopped j u (steps t F ∙ m) w (extends-trans (named F .extends) z) H
+
+-- ---- the memory given back
+
+abbrev refusal : CutReply → ℕ
+refusal (reply.Refused n) = n
+refusal (reply.Answered a) = 0
+
+abbrev isNo : CutReply → ℕ
+isNo (reply.Refused n) = 1
+isNo (reply.Answered a) = 0
+
+-- what restoring asks
+abbrev RestoreAsks : List ℕ → List ℕ → List Float → List Float → List ℕ → Type 0
+RestoreAsks cs₀ cs ps hs es =
+    (length cs ≡ 4) × (length ps ≡ 1024) × (length hs ≡ 320) × (length es ≡ 18432) × (getD cs₀ 1 0 ≤ getD cs 1 0) × (getD cs₀ 2 0 ≤ getD cs 2 0) × (getD cs₀ 3 0 ≤ getD cs 3 0)
+    × (getD cs 1 0 ≤ 512) × (getD cs 2 0 ≤ 256) × (getD cs 3 0 ≤ 64)
+
+restore-asks : {cs₀ : List ℕ} {ps₀ hs₀ : List Float} {es₀ : List ℕ} {t u : Table} {cs : List ℕ} {ps hs : List Float} {es : List ℕ}
+    → Holds desk cs₀ ps₀ hs₀ es₀ t → Extends t u → Holds desk cs ps hs es u → RestoreAsks cs₀ cs ps hs es
+restore-asks {t = t} {u} H₀ X H =
+    let a = slices H₀ in
+    let b = slices H in (
+      b .counts,
+      b .points,
+      b .planes,
+      b .elements,
+      le-trans (le-of-eq (a .elementCount)) (le-trans (count-more X) (le-of-eq (sym (b .elementCount)))),
+      le-trans (le-of-eq (a .pointCount)) (le-trans (begins-length (t .points) (u .points) (X .points)) (le-of-eq (sym (b .pointCount)))),
+      le-trans (le-of-eq (a .planeCount)) (le-trans (begins-length (t .planes) (u .planes) (X .planes)) (le-of-eq (sym (b .planeCount)))),
+      b .elementsFit,
+      b .pointsFit,
+      b .planesFit,
+    )
+
+module _ {cs : List ℕ} {ps hs : List Float} {es : List ℕ} {h : Hyperplane} {i o : Bool} {root : ℕ} {y : CutReply} {cs₁ : List ℕ} {ps₁ hs₁ : List Float} {es₁ : List ℕ}
+    (T : CutTried cs ps hs es h i o root y cs₁ ps₁ hs₁ es₁) where
+  abbrev Tried : Table → Type 0
+  Tried t = Came reply.Answered reply.Refused (Holds desk cs₁ ps₁ hs₁ es₁) t (cutFinite desk (dividerOf (t .dimension) h) i o root t) y
+
+  pub whole-done : (a : ElementCutOutput) → y ≡ reply.Answered a → WholeCut cs ps hs es h i o root (reply.Answered a) cs₁ ps₁ hs₁ es₁
+  whole-done a w = record { of = λ t F. go t (T .of t F) }
+    where
+      go : (t : Table) → Tried t
+          → _≡_ {A = CutReply × Memory} (reply.Answered a, memoryOf cs₁ ps₁ hs₁ es₁) (written desk (memoryOf cs ps hs es) (cutFinite desk (dividerOf (t .dimension) h) i o root t))
+      go t (held.stopped j u m w′ z H) = let e : _≡_ {A = ℕ} 0 1 = sym (ap isNo w) ∙ ap isNo w′ in absurd (omega (arith, e))
+      go t (held.went b u m w′ H) = (λ l. ((sym w ∙ w′) l, holds-memory desk readable-desk H l)) ∙ sym (ap (written desk (memoryOf cs ps hs es)) m)
+
+  module _ (n : ℕ) (w : y ≡ reply.Refused n) where
+    pub whole-asks : CutReady cs ps hs es h root → RestoreAsks cs cs₁ ps₁ hs₁ es₁
+    whole-asks R = go (T .of (R .table) (R .fit))
+      where
+        go : Tried (R .table) → RestoreAsks cs cs₁ ps₁ hs₁ es₁
+        go (held.went b u m w′ H) = let e : _≡_ {A = ℕ} 1 0 = sym (ap isNo w) ∙ ap isNo w′ in absurd (omega (arith, e))
+        go (held.stopped j u m w′ z H) = restore-asks (R .fit .holds) z H
+
+    pub whole-refused : {cs′ : List ℕ} {ps′ hs′ : List Float} {es′ : List ℕ} → Restored cs₁ ps₁ hs₁ es₁ (getD cs 1 0) (getD cs 2 0) (getD cs 3 0) cs′ ps′ hs′ es′
+        → WholeCut cs ps hs es h i o root (reply.Refused n) cs′ ps′ hs′ es′
+    whole-refused {cs′} {ps′} {hs′} {es′} R = record { of = λ t F. go t F (T .of t F) }
+      where
+        go : (t : Table) → CutFit cs ps hs es h root t → Tried t
+            → _≡_ {A = CutReply × Memory} (reply.Refused n, memoryOf cs′ ps′ hs′ es′) (written desk (memoryOf cs ps hs es) (cutFinite desk (dividerOf (t .dimension) h) i o root t))
+        go t F (held.went b u m w′ H) = let e : _≡_ {A = ℕ} 1 0 = sym (ap isNo w) ∙ ap isNo w′ in absurd (omega (arith, e))
+        go t F (held.stopped j u m w′ z H) =
+            let e : n ≡ j = sym (ap refusal w) ∙ ap refusal w′ in
+            let s = slices (F .holds) in
+            let back : _≡_ {A = Memory} (memoryOf cs′ ps′ hs′ es′) (memoryOf cs ps hs es) =
+            holds-memory desk readable-desk (R .of t u z H (s .elementCount) (s .pointCount) (s .planeCount)) ∙ sym (holds-memory desk readable-desk (F .holds)) in
+            (λ l. (reply.Refused (e l), back l)) ∙ sym (ap (written desk (memoryOf cs ps hs es)) m)

@@ -1,0 +1,40 @@
+-- The whole cut by a divider that is not infinite: its steps, its reply, and the memory after it. Definitions only.
+use Prim.Native.Nat.{ℕ, _<_}
+use mathlib.Core.Path.{_≡_}
+use mathlib.Core.Bool.{Bool, true}
+use mathlib.Core.List.{List}
+use lib.Ieee.{Float}
+use Rattle.rules.specs.Limits.{desk}
+use Rattle.rules.specs.Memory.{Memory, planeRow}
+use Rattle.rules.specs.Table.{Table, elementCount}
+use Rattle.rules.specs.Sound.{sound, soundPlane}
+use Rattle.rules.specs.Held.{Holds, Came, memoryOf}
+use Rattle.rules.specs.Cut.{cutFinite}
+use Rattle.rules.specs.Replies.{dividerOf, written}
+use Rattle.rules.specs.declared.Hyperplane.{Hyperplane}
+use Rattle.rules.specs.declared.CutReply.{CutReply}
+use Rattle.rules.specs.declared.CutReply.the-variants as reply
+use Rattle.space.specs.Shared.{rowOf}
+
+-- a sound table that the memory holds, a root in use, and a divider that fits and is not infinite
+pub record CutFit (cs : List ℕ) (ps hs : List Float) (es : List ℕ) (h : Hyperplane) (root : ℕ) (t : Table) : Type 0 where
+  pub holds : Holds desk cs ps hs es t
+  pub sound : sound desk t ≡ true
+  pub used : root < elementCount t
+  pub plane : soundPlane (t .dimension) (dividerOf (t .dimension) h) ≡ true
+  pub row : rowOf h ≡ planeRow desk (dividerOf (t .dimension) h)
+
+-- there is such a table
+pub record CutReady (cs : List ℕ) (ps hs : List Float) (es : List ℕ) (h : Hyperplane) (root : ℕ) : Type 0 where
+  pub table : Table
+  pub fit : CutFit cs ps hs es h root table
+
+-- whatever such table the memory holds: the steps of the cut, and after a refusal the entries that it has appended
+pub record CutTried (cs : List ℕ) (ps hs : List Float) (es : List ℕ) (h : Hyperplane) (i o : Bool) (root : ℕ) (r : CutReply) (cs′ : List ℕ) (ps′ hs′ : List Float) (es′ : List ℕ) : Type 0 where
+  pub of : (t : Table) → CutFit cs ps hs es h root t
+      → Came reply.Answered reply.Refused (Holds desk cs′ ps′ hs′ es′) t (cutFinite desk (dividerOf (t .dimension) h) i o root t) r
+
+-- whatever such table the memory holds: the reply, and all memory given back where it is a refusal
+pub record WholeCut (cs : List ℕ) (ps hs : List Float) (es : List ℕ) (h : Hyperplane) (i o : Bool) (root : ℕ) (r : CutReply) (cs′ : List ℕ) (ps′ hs′ : List Float) (es′ : List ℕ) : Type 0 where
+  pub of : (t : Table) → CutFit cs ps hs es h root t
+      → _≡_ {A = CutReply × Memory} (r, memoryOf cs′ ps′ hs′ es′) (written desk (memoryOf cs ps hs es) (cutFinite desk (dividerOf (t .dimension) h) i o root t))

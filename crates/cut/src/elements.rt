@@ -1,0 +1,84 @@
+// Rule 5: an element asks for its boundary, and the boundary asks for each element.
+use gathered::answer;
+use gathered::answer::Cutter;
+use gathered::sets;
+use gathered::sets::Answers;
+use rules::CutReply;
+use rules::ElementId;
+use space::rows;
+use space::words::wide;
+ghost use Prim.Native.Nat.{_<_};
+ghost use Rattle.ends.specs.Elements.{Ready, ElementCut};
+ghost use Rattle.cut.specs.Rounds.{BoundaryCut};
+
+// Whether the boundary was asked to its end.
+pub enum Stop {
+    Refused(u8),
+    Done,
+}
+
+// What the boundary answered, up to where it was asked.
+pub struct BoundaryReply {
+    pub stop: Stop,
+    pub answers: Answers,
+}
+
+pub fn cut_element(
+    counts: &mut [u16],
+    points: &mut [f64],
+    elements: &mut [u16],
+    e: ElementId,
+    rank: usize,
+    k: Cutter,
+) -> CutReply
+    requires { ⌜ Ready (now counts) (now points) (now elements) rank (e .0) k ⌝ }
+    ensures { λ r. ⌜ ElementCut (now (counts .entry)) (now (points .entry)) (now (elements .entry)) rank (e .0) k r (now (counts .exit)) (now (points .exit)) (now (elements .exit)) ⌝ }
+{
+    if rank < 2 {
+        return ends::cut_low(counts, points, elements, e, rank, k);
+    }
+    let reply = cut_boundary(counts, points, elements, e, rank, k);
+    let stop = reply.stop;
+    match stop {
+        Stop::Refused(no) => CutReply::Refused(no),
+        Stop::Done => {
+            let s = reply.answers;
+            answer::rule6(counts, elements, e, rank, k, s)
+        }
+    }
+}
+
+// In rising number; a refusal ends the round.
+fn cut_boundary(
+    counts: &mut [u16],
+    points: &mut [f64],
+    elements: &mut [u16],
+    e: ElementId,
+    rank: usize,
+    k: Cutter,
+) -> BoundaryReply
+    requires { ⌜ Ready (now counts) (now points) (now elements) rank (e .0) k × (1 < rank) ⌝ }
+    ensures { λ r. ⌜ BoundaryCut (now (counts .entry)) (now (points .entry)) (now (elements .entry)) rank (e .0) k r (now (counts .exit)) (now (points .exit)) (now (elements .exit)) ⌝ }
+{
+    let n = rows::size_of(elements, e);
+    let mut s = sets::nothing_yet();
+    for i in 0..n {
+        let b = ElementId(wide(rows::boundary_at(elements, e, i)));
+        let step = cut_element(counts, points, elements, b, rank - 1, k);
+        match step {
+            CutReply::Refused(no) => {
+                return BoundaryReply {
+                    stop: Stop::Refused(no),
+                    answers: s,
+                };
+            }
+            CutReply::Answered(a) => {
+                s = sets::gather_in(s, b, a);
+            }
+        }
+    }
+    BoundaryReply {
+        stop: Stop::Done,
+        answers: s,
+    }
+}

@@ -1,0 +1,77 @@
+// Rules 2 to 8, and all memory given back where they refuse.
+use crate::elements::cut_element;
+use gathered::answer::Cutter;
+use rules::CutReply;
+use rules::ElementId;
+use rules::Hyperplane;
+use space::memo::PlacedHyperplane;
+use space::memo::add_hyperplane;
+use space::restore::restore;
+use space::rows::rank_of;
+ghost use Rattle.cut.specs.Whole.{CutReady, CutTried, WholeCut};
+
+// The divider is matched or appended first, also for a flush or vertex root.
+fn cut_named(
+    counts: &mut [u16],
+    points: &mut [f64],
+    planes: &mut [f64],
+    elements: &mut [u16],
+    h: Hyperplane,
+    keep_inside: bool,
+    keep_outside: bool,
+    root: ElementId,
+) -> CutReply
+    requires { ⌜ CutReady (now counts) (now points) (now planes) (now elements) h (root .0) ⌝ }
+    ensures { λ r. ⌜ CutTried (now (counts .entry)) (now (points .entry)) (now (planes .entry)) (now (elements .entry)) h «keep_inside» «keep_outside» (root .0) r (now (counts .exit)) (now (points .exit)) (now (planes .exit)) (now (elements .exit)) ⌝ }
+{
+    let named = add_hyperplane(counts, planes, h);
+    match named {
+        PlacedHyperplane::Refused(no) => CutReply::Refused(no),
+        PlacedHyperplane::At(number) => {
+            let rank = rank_of(elements, root);
+            let k = Cutter {
+                divider: h,
+                number,
+                keep_inside,
+                keep_outside,
+            };
+            cut_element(counts, points, elements, root, rank, k)
+        }
+    }
+}
+
+// A refusal clears what was appended, the hyperplane of rule 2 included.
+pub fn cut_finite(
+    counts: &mut [u16],
+    points: &mut [f64],
+    planes: &mut [f64],
+    elements: &mut [u16],
+    h: Hyperplane,
+    keep_inside: bool,
+    keep_outside: bool,
+    root: ElementId,
+) -> CutReply
+    requires { ⌜ CutReady (now counts) (now points) (now planes) (now elements) h (root .0) ⌝ }
+    ensures { λ r. ⌜ WholeCut (now (counts .entry)) (now (points .entry)) (now (planes .entry)) (now (elements .entry)) h «keep_inside» «keep_outside» (root .0) r (now (counts .exit)) (now (points .exit)) (now (planes .exit)) (now (elements .exit)) ⌝ }
+{
+    let e = counts[1];
+    let v = counts[2];
+    let p = counts[3];
+    let reply = cut_named(
+        counts,
+        points,
+        planes,
+        elements,
+        h,
+        keep_inside,
+        keep_outside,
+        root,
+    );
+    match reply {
+        CutReply::Refused(no) => {
+            restore(counts, points, planes, elements, e, v, p);
+            CutReply::Refused(no)
+        }
+        CutReply::Answered(a) => CutReply::Answered(a),
+    }
+}

@@ -1,0 +1,329 @@
+-- Rule 4: the two numbers of an edge's row are its ends, and each call is at a table that goes on from the one before.
+use Prim.Native.Nat.{ℕ, suc, _+_, _*_, _≤_, _<_}
+use mathlib.Core.Path.{_≡_, refl, sym, ap, ap₂, _∙_, subst}
+use mathlib.Core.List.{List, [], _∷_}
+use native.Mathlib.Nat.{le-trans}
+use native.Mathlib.Omega.{arith}
+use lib.Dec.{lit≤}
+use lib.ListN.{length, getD, take}
+use lib.Ieee.{Float}
+use Rattle.rules.specs.Limits.{desk}
+use Rattle.rules.specs.Lists.{pad}
+use Rattle.rules.specs.Floats.{plusZero, sideOf, edgeTest, crossingPoint}
+use Rattle.rules.specs.Table.{Element, corner, polytope, Table, rankOf, boundaryOf, rank, boundary, element, pointAt}
+use Rattle.rules.specs.Held.{Extends, Holds, Came, went, stopped, Sets, Ranked}
+use Rattle.rules.specs.Cut.{Outcome, done, next, give, Cutting, Gathered, cornerAnswer, gathering, nothingYet, addVertex, crossEdge, cutEnds, cutEdge, cutElement, rule6}
+use Rattle.rules.specs.declared.Side.{Side}
+use Rattle.rules.specs.declared.Side.the-variants.{Inside, On, Outside}
+use Rattle.rules.specs.declared.Crossing.{Crossing}
+use Rattle.rules.specs.declared.Crossing.the-variants.{None as NoCrossing, At}
+use Rattle.rules.specs.declared.ElementId.{ElementId}
+use Rattle.rules.specs.declared.ElementCutOutput.{ElementCutOutput}
+use Rattle.rules.specs.declared.CutReply.{CutReply}
+use Rattle.rules.specs.declared.CutReply.the-variants as reply
+use Rattle.rules.proofs.Extends.{extends-trans, begins-length, count-more, element-same}
+use Rattle.rules.proofs.Good.{Good, sound-good, good-sound}
+use Rattle.rules.proofs.Ranked.{corner-answer, sets-gathering, sets-none}
+use Rattle.rules.proofs.Stays.{Kept, Stays}
+use Rattle.rules.proofs.StaysCut.{Facts, facts, ranked-get, crossing-sound, cross-stays}
+use Rattle.space.specs.Found.{placedAt}
+use Rattle.space.specs.Shared.{VertexAdded}
+use Rattle.space.specs.declared.rows.Placed.{Placed}
+use Rattle.space.specs.declared.rows.Placed.the-variants as placed
+use Rattle.space.proofs.Room.{listOf, list-word}
+use Rattle.space.proofs.VertexMemo.{dimension-is}
+use Rattle.space.proofs.Slices.{slices}
+use Rattle.gathered.specs.Sets.{Gathers, Sized, OutputInRoom, GatheredIn}
+use Rattle.gathered.specs.Cutting.{Fit, cutOf, Rule6Fit, Rule6Ready, Rule6Done}
+use Rattle.gathered.specs.declared.answer.Cutter.{Cutter}
+use Rattle.gathered.specs.declared.sets.Answers.{Answers}
+use Rattle.gathered.proofs.Gathering.{at-most}
+use Rattle.ends.specs.Ends.{distanceTo, EndsReady, EndsRead, endsOf, EndsGathered, crossedOf, Crossed, afterEnds, CrossedFit, CrossedReady, CrossedCut}
+use Rattle.ends.specs.declared.EdgeEnds.{EdgeEnds}
+use Rattle.ends.specs.Elements.{Ready, ElementCut}
+use Rattle.ends.proofs.Vertices as vertex
+
+-- ---- what the two ends answer
+
+pub sized-more : {s : Answers} (i m : ℕ) → i ≤ m → Sized s i → Sized s m
+sized-more i m h z = record {
+  flushes = le-trans (z .flushes) h;
+  inside = at-most i m h (z .inside);
+  outside = at-most i m h (z .outside);
+  intersections = at-most i m h (z .intersections);
+}
+
+pub answer-room : {x : ElementCutOutput} (e : ℕ) (s : Float) → e < 512 → x ≡ cornerAnswer e (sideOf s) → OutputInRoom x
+answer-room e s l q = subst OutputInRoom (sym q) (go (sideOf s))
+  where
+    go : (y : Side) → OutputInRoom (cornerAnswer e y)
+    go Inside = (l, tt, tt)
+    go On = tt
+    go Outside = (tt, l, tt)
+
+module _ {x y : ElementCutOutput} {n o r : Answers} {s u : Float} (a b : ℕ) (sa sb : Float) where
+  pub ends-gathered : Gathers n nothingYet × Sized n 0 → s ≡ sa → x ≡ cornerAnswer a (sideOf s) → GatheredIn n a x o
+      → u ≡ sb → y ≡ cornerAnswer b (sideOf u) → GatheredIn o b y r → EndsGathered a b sa sb r
+  ends-gathered N hs hx G hu hy H =
+      let xa : x ≡ cornerAnswer a (sideOf sa) = hx ∙ ap (λ (z : Float). cornerAnswer a (sideOf z)) hs in
+      let yb : y ≡ cornerAnswer b (sideOf sb) = hy ∙ ap (λ (z : Float). cornerAnswer b (sideOf z)) hu in
+      let first : GatheredIn n a (cornerAnswer a (sideOf sa)) o = subst (λ (z : ElementCutOutput). GatheredIn n a z o) xa G in
+      let both : GatheredIn o b (cornerAnswer b (sideOf sb)) r = subst (λ (z : ElementCutOutput). GatheredIn o b z r) yb H in
+      record {
+        of = both .of (gathering a (cornerAnswer a (sideOf sa)) nothingYet) (first .of nothingYet (N .0));
+        sized = both .sized 1 (first .sized 0 (N .1));
+      }
+
+pub crossed : (s : Answers) (v : ElementId) → Crossed s (v .0) (record { flushes = 1; flush = v; inside = s .inside; outside = s .outside; intersections = s .intersections })
+crossed s v = record {
+  of = λ g G. record { flushes = refl; flush = refl; inside = G .inside; outside = G .outside; intersections = G .intersections };
+  sized = λ m h Z. record { flushes = h; inside = Z .inside; outside = Z .outside; intersections = Z .intersections };
+}
+
+-- ---- the crossing is matched or appended
+
+-- an element that may be cut, in a sound table that goes on from its own
+pub fit-later : {cs : List ℕ} {ps hs : List Float} {es : List ℕ} {r e : ℕ} {k : Cutter} {t u : Table} {cs′ : List ℕ} {ps′ hs′ : List Float} {es′ : List ℕ} → Fit cs ps hs es r e k t
+    → Extends t u → Good desk u → Holds desk cs′ ps′ hs′ es′ u → Fit cs′ ps′ hs′ es′ r e k u
+fit-later {e = e} {t = t} {u} F x g H = record {
+  holds = H;
+  sound = good-sound desk u g;
+  plane = le-trans (F .plane) (begins-length (t .planes) (u .planes) (x .planes));
+  used = le-trans (F .used) (count-more x);
+  ranked = ap rankOf (element-same t u e x (F .used)) ∙ F .ranked;
+}
+
+pub vertex-asked : {cs : List ℕ} {ps : List Float} {es : List ℕ} {e : ℕ} {k : Cutter} {s : Answers} {x : List Float} → CrossedReady cs ps es e k s x
+    → (length cs ≡ 4) × (length ps ≡ 1024) × (length es ≡ 18432) × (getD cs 1 0 ≤ 512) × (getD cs 2 0 ≤ 256)
+vertex-asked R =
+    let H = R .fit .fit .holds in (
+      slices H .counts,
+      slices H .points,
+      slices H .elements,
+      slices H .elementsFit,
+      slices H .pointsFit,
+    )
+
+abbrev numberOf : Placed → ℕ
+numberOf (placed.Refused n) = 0
+numberOf (placed.At i) = i .0
+
+module _ {cs : List ℕ} {ps : List Float} {es : List ℕ} {e : ℕ} {k : Cutter} {s : Answers} {x : List Float} {w : Placed} {cs′ : List ℕ} {ps′ : List Float} {es′ : List ℕ}
+    (N : VertexAdded cs ps es x w cs′ ps′ es′) where
+  module _ {hs : List Float} {t : Table} {p q : List Float} {f : Float} {g : Gathered} (X : CrossedFit cs ps hs es e k s x t p q f g) where
+    added : Came placedAt placed.Refused (Holds desk cs′ ps′ hs es′) t (addVertex desk (crossingPoint f p q) t) w
+    added = N .of hs t (crossingPoint f p q) (X .fit .holds) (X .fit .sound) (X .point) (crossing-sound f (t .dimension) p q (X .first) (X .second))
+
+    crossing-kept : Stays desk (Sets 0) t (crossEdge desk p q (At f) g t)
+    crossing-kept = cross-stays desk (cutOf (t .dimension) k) p q (At f) g t (sound-good desk t (X .fit .sound)) (X .first) (X .second) (X .sets)
+
+    -- the edge, once its crossing is vertex element i
+    record Left (i : ℕ) (s′ : Answers) : Type 0 where
+      pub table : Table
+      pub ended : crossEdge desk p q (At f) g t ≡ done (crossedOf i g) table
+      pub kept : Kept desk (Sets 0) t (crossedOf i g) table
+      pub ready : Rule6Fit cs′ ps′ hs es′ 1 e k s′ table (crossedOf i g)
+
+    left : (i : ℕ) {s′ : Answers} → w ≡ placedAt i → Crossed s i s′ → Left i s′
+    left i {s′} h C = go added
+      where
+        go : Came placedAt placed.Refused (Holds desk cs′ ps′ hs es′) t (addVertex desk (crossingPoint f p q) t) w → Left i s′
+        go (stopped j u o l n H) = let r : _≡_ {A = ℕ} 0 1 = cc in absurd (omega arith)
+        go (went j u o l H) =
+            let r : j ≡ i = sym (ap numberOf l) ∙ ap numberOf h in
+            let z : crossEdge desk p q (At f) g t ≡ done (crossedOf i g) u = ap (λ (y : Outcome ℕ). next y (λ v. give (crossedOf v g))) (o ∙ ap (λ (n : ℕ). done n u) r) in
+            let S : Kept desk (Sets 0) t (crossedOf i g) u = subst (Stays desk (Sets 0) t) z crossing-kept in
+            record {
+              table = u;
+              ended = z;
+              kept = S;
+              ready = record {
+                fit = fit-later (X .fit) (S .extends) (S .good) H;
+                some = lit≤ tt;
+                gathers = C .of g (X .gathers);
+                sized = sized-more 2 32 (lit≤ tt) (C .sized 2 (lit≤ tt) (X .sized));
+                sets = S .value;
+              };
+            }
+
+    abbrev whole : Outcome ElementCutOutput
+    whole = afterEnds (cutOf (t .dimension) k) (element t e) (crossEdge desk p q (At f) g t)
+
+    module _ (i : ℕ) {s′ : Answers} (Q : Left i s′) where
+      abbrev rest : Outcome ElementCutOutput
+      rest = rule6 desk (cutOf (Q .table .dimension) k) (element (Q .table) e) (crossedOf i g) (i ∷ []) (Q .table)
+
+      same : whole ≡ rest
+      same =
+          ap (afterEnds (cutOf (t .dimension) k) (element t e)) (Q .ended)
+          ∙ ap₂ (λ (n : ℕ) (z : Element). rule6 desk (cutOf n k) z (crossedOf i g) (i ∷ []) (Q .table))
+          (sym (Q .kept .extends .dimension)) (sym (element-same t (Q .table) e (Q .kept .extends) (X .fit .used)))
+
+      after-left : {y : CutReply} {cs″ es″ : List ℕ} → Came reply.Answered reply.Refused (Holds desk cs″ ps′ hs es″) (Q .table) rest y
+          → Came reply.Answered reply.Refused (Holds desk cs″ ps′ hs es″) t whole y
+      after-left (went a u o l H) = went a u (same ∙ o) l H
+      after-left (stopped n u o l z H) = stopped n u (same ∙ o) l (extends-trans (Q .kept .extends) z) H
+
+    not-added : (n : ℕ) → w ≡ placed.Refused n → Came placedAt placed.Refused (Holds desk cs′ ps′ hs es′) t (addVertex desk (crossingPoint f p q) t) w
+        → Came reply.Answered reply.Refused (Holds desk cs′ ps′ hs es′) t whole (reply.Refused n)
+    not-added n h (went j u o l H) = let r : _≡_ {A = ℕ} 0 1 = cc in absurd (omega arith)
+    not-added n h (stopped j u o l z H) =
+        let r : n ≡ j = cc in
+        stopped j u (ap (λ (y : Outcome ℕ). afterEnds (cutOf (t .dimension) k) (element t e) (next y (λ v. give (crossedOf v g)))) o) (ap reply.Refused r) z H
+
+  pub crossed-refused : (n : ℕ) → w ≡ placed.Refused n → CrossedCut cs ps es e k s x (reply.Refused n) cs′ ps′ es′
+  crossed-refused n h = record { of = λ hs t p q f g X. not-added X n h (added X) }
+
+  module _ (v : ElementId) (h : w ≡ placed.At v) {s′ : Answers} (C : Crossed s (v .0) s′) where
+    pub crossed-ready : CrossedReady cs ps es e k s x → Rule6Ready cs′ es′ 1 e k s′
+    crossed-ready R =
+        let Q = left (R .fit) (v .0) h C in
+        record { points = ps′; planes = R .planes; table = Q .table; gathered = crossedOf (v .0) (R .gathered); fit = Q .ready }
+
+    pub crossed-done : {y : CutReply} {cs″ es″ : List ℕ} → Rule6Done cs′ es′ 1 e k s′ y cs″ es″ → CrossedCut cs ps es e k s x y cs″ ps′ es″
+    crossed-done D = record { of = λ hs t p q f g X. (let Q = left X (v .0) h C in after-left X (v .0) Q (D .of ps′ hs (Q .table) (crossedOf (v .0) g) (Q .ready))) }
+
+-- ---- what is read of an edge
+
+pub list-bound : (y : Element) (n : ℕ) → rankOf y ≡ suc n → listOf y ≡ boundaryOf y
+list-bound (corner v) n q = absurd (let z : ⊥ = omega (arith, q) in z)
+list-bound (polytope r b h m) n q = refl
+
+module _ {cs : List ℕ} {ps hs : List Float} {es : List ℕ} {e : ℕ} {k : Cutter} {t : Table} (F : Fit cs ps hs es 1 e k t) where
+  own : Facts t 0 (element t e)
+  own = facts desk t e 0 (sound-good desk t (F .sound)) (F .used) (F .ranked)
+
+  module _ (i x : ℕ) (l : i < 2) (h : x ≡ getD es (e * 36 + (4 + i)) 0) where
+    there : i < length (boundary t e)
+    there = le-trans l (own .two)
+
+    end-is : x ≡ getD (boundary t e) i 0
+    end-is =
+        let b : listOf (element t e) ≡ boundary t e = list-bound (element t e) 0 (F .ranked) in
+        h ∙ ap (λ (m : List ℕ). getD m (e * 36 + (4 + i)) 0) (F .holds .elements)
+        ∙ list-word desk t (F .holds .fits) e (F .used) i (subst (λ (m : List ℕ). i < length m) (sym b) there) (let z : 4 + i < 36 = omega (arith, l) in z)
+        ∙ ap (λ (m : List ℕ). getD m i 0) b
+
+    end-ranked : Ranked t 1 x
+    end-ranked = subst (Ranked t 1) (sym end-is) (ranked-get desk (cutOf (t .dimension) k) t 1 (boundary t e) i there (own .bounds))
+
+    end-fit : Fit cs ps hs es 0 x k t
+    end-fit = record {
+      holds = F .holds;
+      sound = F .sound;
+      plane = F .plane;
+      used = end-ranked .0;
+      ranked = (let q = end-ranked .1 in let z : rank t x ≡ 0 = omega (arith, q) in z);
+    }
+
+pub ends-ready : {cs : List ℕ} {ps : List Float} {es : List ℕ} {e : ℕ} {k : Cutter} → Ready cs ps es 1 e k → EndsReady ps es e
+ends-ready {cs} {k = k} R = record { counts = cs; planes = R .planes; cutter = k; table = R .table; fit = R .fit }
+
+module _ {ps : List Float} {es : List ℕ} {e : ℕ} (R : EndsReady ps es e) where
+  pub number-asked : (i : ℕ) → i < 2 → (length es ≡ 18432) × (e < 512) × (i < 32)
+  number-asked i l = (slices (R .fit .holds) .elements, le-trans (R .fit .used) (R .fit .holds .fits .elementRoom), (let z : i < 32 = omega (arith, l) in z))
+
+  pub end-asked : (i x : ℕ) → i < 2 → x ≡ getD es (e * 36 + (4 + i)) 0 → (length ps ≡ 1024) × (length es ≡ 18432) × (x < 512) × (getD es (x * 36 + 4) 0 < 256)
+  end-asked i x l h = vertex.point-asked (end-fit (R .fit) i x l h)
+
+  pub ends-low : {r : EdgeEnds} → EndsRead ps es e r → (r .a .0 < 512) × (r .b .0 < 512)
+  ends-low E = (end-asked 0 _ (lit≤ tt) (E .first) .2, end-asked 1 _ (lit≤ tt) (E .second) .2)
+
+-- ---- the edge
+
+module _ (k : Cutter) (d : ℕ) (r : EdgeEnds) where
+  abbrev a : ℕ
+  a = r .a .0
+
+  abbrev b : ℕ
+  b = r .b .0
+
+  abbrev sa : Float
+  sa = distanceTo d (k .divider) (r .p)
+
+  abbrev sb : Float
+  sb = distanceTo d (k .divider) (r .q)
+
+  abbrev answered : Gathered
+  answered = endsOf a b sa sb
+
+  module _ {cs : List ℕ} {ps : List Float} {es : List ℕ} {e : ℕ} (hd : d ≡ getD cs 0 0) (E : EndsRead ps es e r) where
+    module _ {hs : List Float} {t : Table} (F : Fit cs ps hs es 1 e k t) where
+      abbrev c : Cutting
+      c = cutOf (t .dimension) k
+
+      fa : Fit cs ps hs es 0 a k t
+      fa = end-fit F 0 a (lit≤ tt) (E .first)
+
+      fb : Fit cs ps hs es 0 b k t
+      fb = end-fit F 1 b (lit≤ tt) (E .second)
+
+      -- the rule, on the ends as they were read
+      opened : (z : Crossing) → z ≡ edgeTest sa sb → cutElement desk c 1 e t ≡ afterEnds c (element t e) (crossEdge desk (pointAt t a) (pointAt t b) z answered t)
+      unfolding cutElement cutEdge cutEnds
+      opened z h =
+          ap₂ (λ (x y : ℕ). afterEnds c (element t e) (cutEnds desk c x y (pointAt t x) (pointAt t y) t)) (sym (end-is F 0 a (lit≤ tt) (E .first))) (sym (end-is F 1 b (lit≤ tt) (E .second)))
+          ∙ ap₂ (λ (x y : Float). afterEnds c (element t e) (crossEdge desk (pointAt t a) (pointAt t b) (edgeTest x y) (endsOf a b x y) t))
+          (sym (vertex.distance-is fa d (r .p) hd (E .firstPoint))) (sym (vertex.distance-is fb d (r .q) hd (E .secondPoint)))
+          ∙ ap (λ (x : Crossing). afterEnds c (element t e) (crossEdge desk (pointAt t a) (pointAt t b) x answered t)) (sym h)
+
+      ends-sets : Sets 0 answered t
+      ends-sets =
+          let ra = end-ranked F 0 a (lit≤ tt) (E .first) in
+          let rb = end-ranked F 1 b (lit≤ tt) (E .second) in
+          sets-gathering 0 b (cornerAnswer b (sideOf sb)) _ t rb (corner-answer t b (sideOf sb) rb)
+          (sets-gathering 0 a (cornerAnswer a (sideOf sa)) nothingYet t ra (corner-answer t a (sideOf sa) ra) (sets-none 0 t))
+
+    module _ {s : Answers} (G : EndsGathered a b sa sb s) where
+      -- no crossing
+      missed-fit : {hs : List Float} {t : Table} → Fit cs ps hs es 1 e k t → Rule6Fit cs ps hs es 1 e k s t answered
+      missed-fit F = record { fit = F; some = lit≤ tt; gathers = G .of; sized = sized-more 2 32 (lit≤ tt) (G .sized); sets = ends-sets F }
+
+      pub missed-ready : Ready cs ps es 1 e k → Rule6Ready cs es 1 e k s
+      missed-ready R = record { points = ps; planes = R .planes; table = R .table; gathered = answered; fit = missed-fit (R .fit) }
+
+      pub missed-cut : {y : CutReply} {cs′ es′ : List ℕ} → (z : Crossing) → z ≡ edgeTest sa sb → z ≡ NoCrossing → Rule6Done cs es 1 e k s y cs′ es′ → ElementCut cs ps es 1 e k y cs′ ps es′
+      missed-cut {y} {cs′} {es′} z h m D = record {
+        of = λ hs t F.
+            subst (λ (o : Outcome ElementCutOutput). Came reply.Answered reply.Refused (Holds desk cs′ ps hs es′) t o y) (sym (opened F NoCrossing (sym m ∙ h)))
+            (D .of ps hs t answered (missed-fit F));
+      }
+
+      -- a crossing at parameter f
+      module _ (f : Float) (x : List Float) (hx : x ≡ pad plusZero 4 (crossingPoint f (take d (r .p)) (take d (r .q)))) where
+        crossing-fit : {hs : List Float} {t : Table} → Fit cs ps hs es 1 e k t → CrossedFit cs ps hs es e k s x t (pointAt t a) (pointAt t b) f answered
+        crossing-fit {t = t} F = record {
+          fit = F;
+          point = hx ∙ ap (λ (n : ℕ). pad plusZero 4 (crossingPoint f (take n (r .p)) (take n (r .q)))) (dimension-is d hd (F .holds))
+              ∙ ap₂ (λ (i j : List Float). pad plusZero 4 (crossingPoint f i j)) (vertex.taken-is (fa F) (r .p) (E .firstPoint)) (vertex.taken-is (fb F) (r .q) (E .secondPoint));
+          first = vertex.point-sound (fa F);
+          second = vertex.point-sound (fb F);
+          gathers = G .of;
+          sized = G .sized;
+          sets = ends-sets F;
+        }
+
+        pub crossing-ready : Ready cs ps es 1 e k → CrossedReady cs ps es e k s x
+        crossing-ready R = record {
+          planes = R .planes;
+          table = R .table;
+          low = pointAt (R .table) a;
+          high = pointAt (R .table) b;
+          parameter = f;
+          gathered = answered;
+          fit = crossing-fit (R .fit);
+        }
+
+        pub crossing-cut : {y : CutReply} {cs′ : List ℕ} {ps′ : List Float} {es′ : List ℕ} → (z : Crossing) → z ≡ edgeTest sa sb → z ≡ At f → CrossedCut cs ps es e k s x y cs′ ps′ es′
+            → ElementCut cs ps es 1 e k y cs′ ps′ es′
+        crossing-cut {y} {cs′} {ps′} {es′} z h m D = record {
+          of = λ hs t F.
+              subst (λ (o : Outcome ElementCutOutput). Came reply.Answered reply.Refused (Holds desk cs′ ps′ hs es′) t o y) (sym (opened F (At f) (sym m ∙ h)))
+              (D .of hs t (pointAt t a) (pointAt t b) f answered (crossing-fit F));
+        }
+
+-- ---- an element of rank 1
+
+pub edge-done : {cs : List ℕ} {ps : List Float} {es : List ℕ} {r e : ℕ} {k : Cutter} {y : CutReply} {cs′ : List ℕ} {ps′ : List Float} {es′ : List ℕ} → r ≡ 1
+    → ElementCut cs ps es 1 e k y cs′ ps′ es′ → ElementCut cs ps es r e k y cs′ ps′ es′
+edge-done {cs} {ps} {es} {r} {e} {k} {y} {cs′} {ps′} {es′} q C = subst (λ (n : ℕ). ElementCut cs ps es n e k y cs′ ps′ es′) (sym q) C

@@ -1,0 +1,108 @@
+-- Rule 3: the words of a vertex's row and of its point are the table's, so its signed distance from the divider is the rules'.
+use Prim.Native.Nat.{ℕ, suc, _+_, _*_, _<_}
+use mathlib.Core.Path.{_≡_, refl, sym, ap, ap₂, _∙_, subst}
+use mathlib.Core.Bool.{true}
+use mathlib.Core.List.{List, [], _∷_}
+use native.Mathlib.Nat.{le-trans, add-zero}
+use lib.Dec.{lit≤}
+use lib.ListN.{length, getD, take}
+use lib.Ieee.{Float, nan}
+use Rattle.rules.specs.Limits.{desk}
+use Rattle.rules.specs.Lists.{pad}
+use Rattle.rules.specs.Floats.{plusZero, signedDistance, sideOf}
+use Rattle.rules.specs.Table.{Element, corner, polytope, Table, element, pointAt, pointOf}
+use Rattle.rules.specs.Sound.{soundPoint}
+use Rattle.rules.specs.Held.{pointsOf, went}
+use Rattle.rules.specs.Cut.{cornerAnswer, distanceOf, done, cutElement, cutCorner}
+use Rattle.rules.specs.declared.ElementCutOutput.{ElementCutOutput}
+use Rattle.rules.specs.declared.CutReply.the-variants as reply
+use Rattle.rules.proofs.Corners.{corner-named}
+use Rattle.rules.proofs.Good.{Good, sound-good, above-zero}
+use Rattle.rules.proofs.Laws.{le-test}
+use Rattle.rules.proofs.RoundTrip.{point-back, point-long}
+use Rattle.rules.proofs.StaysCut.{point-at-sound}
+use Rattle.space.specs.Shared.{storedPoint}
+use Rattle.space.proofs.Room.{listOf, list-word, point-word-or}
+use Rattle.space.proofs.RowAdds.{readable-desk}
+use Rattle.space.proofs.VertexMemo.{four-is, dimension-is}
+use Rattle.space.proofs.Slices.{slices}
+use Rattle.gathered.specs.Cutting.{Fit, cutOf}
+use Rattle.gathered.specs.declared.answer.Cutter.{Cutter}
+use Rattle.ends.specs.Ends.{distanceTo, CornerCut}
+use Rattle.ends.specs.Elements.{Ready, ElementCut}
+
+module _ {cs : List ℕ} {ps hs : List Float} {es : List ℕ} {e : ℕ} {k : Cutter} {t : Table} (F : Fit cs ps hs es 0 e k t) where
+  good : Good desk t
+  good = sound-good desk t (F .sound)
+
+  found : (v : ℕ) × (element t e ≡ corner v)
+  found = go (element t e) refl
+    where
+      go : (y : Element) → element t e ≡ y → (v : ℕ) × (element t e ≡ corner v)
+      go (corner v) q = (v, q)
+      go (polytope r b h m) q = absurd (above-zero desk t e r b h m good (F .used) q (F .ranked))
+
+  used : found .0 < length (t .points)
+  used = corner-named desk t good e (found .0) (F .used) (found .1)
+
+  number-is : getD es (e * 36 + 4) 0 ≡ found .0
+  number-is =
+      let x : listOf (element t e) ≡ found .0 ∷ [] = ap listOf (found .1) in
+      ap (λ (l : List ℕ). getD l (e * 36 + 4) 0) (F .holds .elements)
+      ∙ list-word desk t (F .holds .fits) e (F .used) 0 (subst (λ (l : List ℕ). 0 < length l) (sym x) (lit≤ tt)) (lit≤ tt)
+      ∙ ap (λ (l : List ℕ). getD l 0 0) x
+
+  -- what the point's reader asks
+  pub point-asked : (length ps ≡ 1024) × (length es ≡ 18432) × (e < 512) × (getD es (e * 36 + 4) 0 < 256)
+  point-asked = (
+    slices (F .holds) .points,
+    slices (F .holds) .elements,
+    le-trans (F .used) (F .holds .fits .elementRoom),
+    le-trans (subst (λ (i : ℕ). i < length (t .points)) (sym number-is) used) (F .holds .fits .pointRoom),
+  )
+
+  pub point-sound : soundPoint (t .dimension) (pointAt t e) ≡ true
+  point-sound = point-at-sound desk (cutOf (t .dimension) k) t e good (F .used, ap suc (F .ranked))
+
+  float-is : (j : ℕ) → j < 4 → getD (pointsOf desk t) (found .0 * 4 + j) nan ≡ getD (pad plusZero 4 (pointAt t e)) j nan
+  float-is j l =
+      point-word-or desk t (F .holds .fits) (found .0) j nan used l
+      ∙ ap (λ (y : Element). getD (pad plusZero 4 (pointOf (t .points) y)) j nan) (sym (found .1))
+
+  stored-is : storedPoint ps (getD es (e * 36 + 4) 0) ≡ pad plusZero 4 (pointAt t e)
+  stored-is =
+      let first = ap (λ (j : ℕ). getD (pointsOf desk t) j nan) (sym (add-zero (found .0 * 4))) ∙ float-is 0 (lit≤ tt) in
+      ap₂ storedPoint (F .holds .points) number-is
+      ∙ (λ i. first i ∷ float-is 1 (lit≤ tt) i ∷ float-is 2 (lit≤ tt) i ∷ float-is 3 (lit≤ tt) i ∷ [])
+      ∙ four-is (pad plusZero 4 (pointAt t e)) (point-long desk readable-desk (t .dimension) (le-test (t .dimension) 4 (good .high)) (pointAt t e) point-sound)
+
+  pub taken-is : (p : List Float) → p ≡ storedPoint ps (getD es (e * 36 + 4) 0) → take (t .dimension) p ≡ pointAt t e
+  taken-is p h = ap (take (t .dimension)) (h ∙ stored-is) ∙ point-back desk readable-desk (t .dimension) (pointAt t e) point-sound
+
+  pub distance-is : (d : ℕ) (p : List Float) → d ≡ getD cs 0 0 → p ≡ storedPoint ps (getD es (e * 36 + 4) 0)
+      → distanceTo d (k .divider) p ≡ distanceOf (cutOf (t .dimension) k) (pointAt t e)
+  distance-is d p hd hp =
+      ap (λ (n : ℕ). distanceTo n (k .divider) p) (dimension-is d hd (F .holds))
+      ∙ ap (signedDistance (take (t .dimension) (k .divider .normal)) (k .divider .distance)) (taken-is p hp)
+
+pub corner-cut : {cs : List ℕ} {ps : List Float} {es : List ℕ} {e : ℕ} {k : Cutter} {r : ElementCutOutput} (d : ℕ) (p : List Float) (s : Float) → d ≡ getD cs 0 0
+    → p ≡ storedPoint ps (getD es (e * 36 + 4) 0) → s ≡ distanceTo d (k .divider) p → r ≡ cornerAnswer e (sideOf s) → CornerCut cs ps es e k r
+corner-cut {e = e} d p s hd hp hs hr = record {
+  of = λ planes t F. hr ∙ ap (λ (x : Float). cornerAnswer e (sideOf x)) (hs ∙ distance-is F d p hd hp);
+}
+
+-- ---- an element of rank 0
+
+pub ready-at : {cs : List ℕ} {ps : List Float} {es : List ℕ} {r e : ℕ} {k : Cutter} (n : ℕ) → r ≡ n → Ready cs ps es r e k → Ready cs ps es n e k
+ready-at {cs} {ps} {es} {r} {e} {k} n q R = subst (λ (i : ℕ). Ready cs ps es i e k) q R
+
+pub corner-done : {cs : List ℕ} {ps : List Float} {es : List ℕ} {r e : ℕ} {k : Cutter} {a : ElementCutOutput} → r ≡ 0 → CornerCut cs ps es e k a
+    → ElementCut cs ps es r e k (reply.Answered a) cs ps es
+unfolding cutElement cutCorner
+corner-done {cs} {ps} {es} {r} {e} {k} {a} q C = record {
+  of = λ hs t F.
+      (let G : Fit cs ps hs es 0 e k t = subst (λ (n : ℕ). Fit cs ps hs es n e k t) q F in
+      went a t
+      (ap (λ (n : ℕ). cutElement desk (cutOf (t .dimension) k) n e t) q ∙ ap (λ (x : ElementCutOutput). done x t) (sym (C .of hs t G)))
+      refl (F .holds));
+}

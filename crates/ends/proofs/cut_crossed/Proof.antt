@@ -1,0 +1,69 @@
+-- The vertex is refused, or is the flush one of the edge, and rule 6 goes on from its table.
+use Rattle.ends.proofs.Edges.{vertex-asked, crossed-refused, crossed-ready, crossed-done}
+use borrow.Author.Needs.{needs}
+use Rattle.ends.proofs.cut_crossed.Statement.{statement}
+use Rattle.ends.proofs.cut_crossed.Tie as tie
+
+add-vertex-requires : tie.Need-add-vertex-requires
+add-vertex-requires c κs = vertex-asked (c .before .before .before .before .before .before .pre)
+
+enum-known-placed : tie.Need-enum-known-placed
+enum-known-placed c = search needs
+
+enum-known-placed-2 : tie.Need-enum-known-placed-2
+enum-known-placed-2 c = search needs
+
+crossed-at-requires : tie.Need-crossed-at-requires
+crossed-at-requires c κs = search needs
+
+rule6-requires : tie.Need-rule6-requires
+rule6-requires c κs =
+    let made = c .before .before in
+    let added = made .before .before .before .before .before .before .before .before .before .before in
+    crossed-ready (added .add-vertex .ensures) _ (made .before .before .placed2 .given .1) (made .crossed-at .ensures) (added .before .before .before .before .before .before .before .pre)
+
+same-length : tie.Need-same-length
+same-length c = search needs
+
+same-length-2 : tie.Need-same-length-2
+same-length-2 c = search needs
+
+same-length-3 : tie.Need-same-length-3
+same-length-3 c = search needs
+
+returns : tie.Need-returns
+returns c = crossed-refused (c .before .before .before .before .before .before .before .before .before .add-vertex .ensures) _ (c .before .placed .given .1)
+
+same-length-4 : tie.Need-same-length-4
+same-length-4 c = search needs
+
+same-length-5 : tie.Need-same-length-5
+same-length-5 c = search needs
+
+same-length-6 : tie.Need-same-length-6
+same-length-6 c = search needs
+
+returns-2 : tie.Need-returns-2
+returns-2 c =
+    let called = c .before .before .before .before in
+    let made = called .before .before .before in
+    let added = made .before .before .before .before .before .before .before .before .before .before in
+    crossed-done (added .add-vertex .ensures) _ (made .before .before .placed2 .given .1) (made .crossed-at .ensures) (called .rule6 .ensures)
+
+pub cut-crossed-spec : {M : Type 1} → statement M
+cut-crossed-spec =
+    tie.close
+    (tie.spec
+    add-vertex-requires
+    enum-known-placed
+    enum-known-placed-2
+    crossed-at-requires
+    rule6-requires
+    same-length
+    same-length-2
+    same-length-3
+    returns
+    same-length-4
+    same-length-5
+    same-length-6
+    returns-2)

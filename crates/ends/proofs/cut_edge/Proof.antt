@@ -1,0 +1,103 @@
+-- Two ways, by the edge test: rule 6 on what the ends answered, or the crossing first.
+use native.Mathlib.Omega.{arith}
+use Rattle.ends.proofs.Edges.{ends-ready, ends-low, missed-ready, missed-cut, crossing-ready, crossing-cut}
+use borrow.Author.Needs.{needs}
+use Rattle.ends.proofs.cut_edge.Statement.{statement}
+use Rattle.ends.proofs.cut_edge.Tie as tie
+use Rattle.space.proofs.Slices.{slices}
+
+slice-read-wide : tie.Need-slice-read-wide
+slice-read-wide c = omega (arith, slices (c .before .before .before .before .pre .fit .holds) .counts)
+
+wide-requires : tie.Need-wide-requires
+wide-requires c κs = search needs
+
+read-ends-requires : tie.Need-read-ends-requires
+read-ends-requires c κs = ends-ready (c .before .before .before .before .before .before .before .pre)
+
+both-ends-requires : tie.Need-both-ends-requires
+both-ends-requires c κs = ends-low (ends-ready (c .before .before .before .before .before .before .before .before .before .pre)) (c .before .read-ends .ensures)
+
+edge-test-requires : tie.Need-edge-test-requires
+edge-test-requires c κs = search needs
+
+enum-told : tie.Need-enum-told
+enum-told c = search needs
+
+rule6-requires : tie.Need-rule6-requires
+rule6-requires c κs =
+    let answered = c .before .before .before .before .before .before .before in
+    let read = answered .before .before in
+    missed-ready _ _ _ (read .before .before .before .wide .ensures .0) (read .read-ends .ensures) (answered .both-ends .ensures) (read .before .before .before .before .before .before .before .before .pre)
+
+enum-known-crossing : tie.Need-enum-known-crossing
+enum-known-crossing c = search needs
+
+crossing-point-requires : tie.Need-crossing-point-requires
+crossing-point-requires c κs = search needs
+
+cut-crossed-requires : tie.Need-cut-crossed-requires
+cut-crossed-requires c κs =
+    let answered = c .before .before .before .before .before .before .before .before .before .before in
+    let read = answered .before .before in
+    crossing-ready _ _ _ (read .before .before .before .wide .ensures .0) (read .read-ends .ensures) (answered .both-ends .ensures) _ _ (c .before .before .before .crossing-point .ensures)
+    (read .before .before .before .before .before .before .before .before .pre)
+
+same-length : tie.Need-same-length
+same-length c = search needs
+
+same-length-2 : tie.Need-same-length-2
+same-length-2 c = search needs
+
+same-length-3 : tie.Need-same-length-3
+same-length-3 c = search needs
+
+returns : tie.Need-returns
+returns c =
+    let called = c .before .before .before .before in
+    let tested = called .before .before .before .before .before in
+    let answered = tested .before .before .before in
+    let read = answered .before .before in
+    missed-cut _ _ _ (read .before .before .before .wide .ensures .0) (read .read-ends .ensures) (answered .both-ends .ensures)
+    _ (tested .edge-test .ensures) (called .before .before .before .enum-told .given .1) (called .rule6 .ensures)
+
+same-length-4 : tie.Need-same-length-4
+same-length-4 c = search needs
+
+same-length-5 : tie.Need-same-length-5
+same-length-5 c = search needs
+
+same-length-6 : tie.Need-same-length-6
+same-length-6 c = search needs
+
+returns-2 : tie.Need-returns-2
+returns-2 c =
+    let called = c .before .before .before .before .before .before in
+    let tested = called .before .before .before .before .before .before .before .before in
+    let answered = tested .before .before .before in
+    let read = answered .before .before in
+    crossing-cut _ _ _ (read .before .before .before .wide .ensures .0) (read .read-ends .ensures) (answered .both-ends .ensures) _ _ (called .before .before .before .before .crossing-point .ensures)
+    _ (tested .edge-test .ensures) (called .before .before .before .before .before .before .crossing .given .1) (called .cut-crossed .ensures)
+
+pub cut-edge-spec : {M : Type 1} → statement M
+cut-edge-spec =
+    tie.close
+    (tie.spec
+    slice-read-wide
+    wide-requires
+    read-ends-requires
+    both-ends-requires
+    edge-test-requires
+    enum-told
+    rule6-requires
+    enum-known-crossing
+    crossing-point-requires
+    cut-crossed-requires
+    same-length
+    same-length-2
+    same-length-3
+    returns
+    same-length-4
+    same-length-5
+    same-length-6
+    returns-2)

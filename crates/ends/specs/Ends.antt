@@ -1,0 +1,101 @@
+-- What rules 3 and 4 do: the cut of a vertex, and of an edge by its two ends. Definitions only.
+use Prim.Native.Nat.{ℕ, _+_, _*_, _≤_}
+use mathlib.Core.Path.{_≡_}
+use mathlib.Core.Bool.{true}
+use mathlib.Core.List.{List, [], _∷_}
+use lib.ListN.{getD, take}
+use lib.Ieee.{Float}
+use Rattle.rules.specs.Limits.{desk}
+use Rattle.rules.specs.Lists.{pad}
+use Rattle.rules.specs.Floats.{plusZero, signedDistance, sideOf, crossingPoint}
+use Rattle.rules.specs.Table.{Table, Element, element, pointAt}
+use Rattle.rules.specs.Sound.{soundPoint}
+use Rattle.rules.specs.Held.{Holds, Came, Sets}
+use Rattle.rules.specs.Cut.{Outcome, next, Cutting, Gathered, cornerAnswer, distanceOf, gathering, nothingYet, crossEdge, rule6}
+use Rattle.rules.specs.declared.Hyperplane.{Hyperplane}
+use Rattle.rules.specs.declared.Crossing.the-variants.{At}
+use Rattle.rules.specs.declared.ElementCutOutput.{ElementCutOutput}
+use Rattle.rules.specs.declared.CutReply.{CutReply}
+use Rattle.rules.specs.declared.CutReply.the-variants as reply
+use Rattle.space.specs.Shared.{storedPoint}
+use Rattle.gathered.specs.Sets.{Gathers, Sized}
+use Rattle.gathered.specs.Cutting.{Fit, cutOf}
+use Rattle.gathered.specs.declared.answer.Cutter.{Cutter}
+use Rattle.gathered.specs.declared.sets.Answers.{Answers}
+use Rattle.ends.specs.declared.EdgeEnds.{EdgeEnds}
+
+-- ---- a vertex
+
+-- the signed distance of a lent point from a lent hyperplane, in a space of d dimensions
+abbrev pub distanceTo : ℕ → Hyperplane → List Float → Float
+distanceTo d h p = signedDistance (take d (h .normal)) (h .distance) (take d p)
+
+-- whatever table that may be cut the memory holds, in which element e is a vertex: its answer
+pub record CornerCut (cs : List ℕ) (ps : List Float) (es : List ℕ) (e : ℕ) (k : Cutter) (r : ElementCutOutput) : Type 0 where
+  pub of : (hs : List Float) (t : Table) → Fit cs ps hs es 0 e k t → r ≡ cornerAnswer e (sideOf (distanceOf (cutOf (t .dimension) k) (pointAt t e)))
+
+-- ---- the two ends of an edge
+
+-- there is a table that may be cut, in which element e is an edge
+pub record EndsReady (ps : List Float) (es : List ℕ) (e : ℕ) : Type 0 where
+  pub counts : List ℕ
+  pub planes : List Float
+  pub cutter : Cutter
+  pub table : Table
+  pub fit : Fit counts ps planes es 1 e cutter table
+
+-- the two numbers of its row, and the point of each
+pub record EndsRead (ps : List Float) (es : List ℕ) (e : ℕ) (r : EdgeEnds) : Type 0 where
+  pub first : r .a .0 ≡ getD es (e * 36 + 4) 0
+  pub second : r .b .0 ≡ getD es (e * 36 + 5) 0
+  pub firstPoint : r .p ≡ storedPoint ps (getD es (r .a .0 * 36 + 4) 0)
+  pub secondPoint : r .q ≡ storedPoint ps (getD es (r .b .0 * 36 + 4) 0)
+
+-- what the ends a and b answer, gathered
+abbrev pub endsOf : ℕ → ℕ → Float → Float → Gathered
+endsOf a b sa sb = gathering b (cornerAnswer b (sideOf sb)) (gathering a (cornerAnswer a (sideOf sa)) nothingYet)
+
+-- the code holds what the two ends answer
+pub record EndsGathered (a b : ℕ) (sa sb : Float) (r : Answers) : Type 0 where
+  pub of : Gathers r (endsOf a b sa sb)
+  pub sized : Sized r 2
+
+-- ---- a crossing
+
+-- what is gathered, with vertex element v as the flush one
+abbrev pub crossedOf : ℕ → Gathered → Gathered
+crossedOf v g = record { flush = v ∷ []; inside = g .inside; outside = g .outside; intersections = g .intersections }
+
+-- whatever is gathered: that, with vertex element v as the flush one
+pub record Crossed (s : Answers) (v : ℕ) (r : Answers) : Type 0 where
+  pub of : (g : Gathered) → Gathers s g → Gathers r (crossedOf v g)
+  pub sized : (m : ℕ) → 1 ≤ m → Sized s m → Sized r m
+
+-- once the ends of element y are gathered: rule 6
+abbrev pub afterEnds : Cutting → Element → Outcome Gathered → Outcome ElementCutOutput
+afterEnds c y o = next o (λ g. rule6 desk c y g (g .flush))
+
+-- in a table that may be cut, x is the point at parameter f of an edge with ends at p and q, and the code holds what the ends answered
+pub record CrossedFit (cs : List ℕ) (ps hs : List Float) (es : List ℕ) (e : ℕ) (k : Cutter) (s : Answers) (x : List Float) (t : Table) (p q : List Float) (f : Float) (g : Gathered) : Type 0 where
+  pub fit : Fit cs ps hs es 1 e k t
+  pub point : x ≡ pad plusZero 4 (crossingPoint f p q)
+  pub first : soundPoint (t .dimension) p ≡ true
+  pub second : soundPoint (t .dimension) q ≡ true
+  pub gathers : Gathers s g
+  pub sized : Sized s 2
+  pub sets : Sets 0 g t
+
+-- there is such a table
+pub record CrossedReady (cs : List ℕ) (ps : List Float) (es : List ℕ) (e : ℕ) (k : Cutter) (s : Answers) (x : List Float) : Type 0 where
+  pub planes : List Float
+  pub table : Table
+  pub low : List Float
+  pub high : List Float
+  pub parameter : Float
+  pub gathered : Gathered
+  pub fit : CrossedFit cs ps planes es e k s x table low high parameter gathered
+
+-- whatever such table the memory holds: the crossing is matched or appended, and then rule 6
+pub record CrossedCut (cs : List ℕ) (ps : List Float) (es : List ℕ) (e : ℕ) (k : Cutter) (s : Answers) (x : List Float) (y : CutReply) (cs′ : List ℕ) (ps′ : List Float) (es′ : List ℕ) : Type 0 where
+  pub of : (hs : List Float) (t : Table) (p q : List Float) (f : Float) (g : Gathered) → CrossedFit cs ps hs es e k s x t p q f g
+      → Came reply.Answered reply.Refused (Holds desk cs′ ps′ hs es′) t (afterEnds (cutOf (t .dimension) k) (element t e) (crossEdge desk p q (At f) g t)) y

@@ -1,0 +1,196 @@
+// Rules 3 and 4: the cut of a vertex, and of an edge by its two ends.
+use gathered::answer;
+use gathered::answer::Cutter;
+use gathered::sets;
+use gathered::sets::Answers;
+use rules::Crossing;
+use rules::CutReply;
+use rules::ElementCutOutput;
+use rules::ElementId;
+use rules::ElementOrNone;
+use rules::Hyperplane;
+use rules::Side;
+use rules::VertexId;
+use space::memo;
+use space::rows;
+use space::rows::Placed;
+use space::words::wide;
+ghost use Prim.Native.Nat.{_+_, _*_, _<_};
+ghost use mathlib.Core.Path.{_≡_};
+ghost use lib.ListN.{length, getD};
+ghost use Rattle.rules.specs.Floats.{sideOf};
+ghost use Rattle.rules.specs.Cut.{cornerAnswer};
+ghost use Rattle.space.specs.Shared.{storedPoint};
+ghost use Rattle.ends.specs.Ends.{distanceTo, CornerCut, EndsReady, EndsRead, EndsGathered, Crossed, CrossedReady, CrossedCut};
+ghost use Rattle.ends.specs.Elements.{Ready, ElementCut};
+
+// The ends a and b of an edge, a the lower-numbered, at p and q.
+pub struct EdgeEnds {
+    pub a: ElementId,
+    pub b: ElementId,
+    pub p: [f64; 4],
+    pub q: [f64; 4],
+}
+
+// The point of a vertex element, by its vertex number.
+fn corner_point(points: &[f64], elements: &[u16], e: ElementId) -> [f64; 4]
+    requires { ⌜ (length (now points) ≡ 1024) × (length (now elements) ≡ 18432) × (e .0 < 512) × (getD (now elements) (e .0 * 36 + 4) 0 < 256) ⌝ }
+    ensures { λ r. ⌜ r ≡ storedPoint (now (points .entry)) (getD (now (elements .entry)) (e .0 * 36 + 4) 0) ⌝ }
+{
+    let v = VertexId(wide(rows::boundary_at(elements, e, 0)));
+    memo::read_point(points, v)
+}
+
+// Rule 3, by the signed distance: On is flush, else the vertex is given on its side, also when that side is removed.
+fn corner_answer(e: ElementId, s: f64) -> ElementCutOutput
+    ensures { λ r. ⌜ r ≡ cornerAnswer (e .0) (sideOf s) ⌝ }
+{
+    let side = hypermath::side_of(s);
+    match side {
+        Side::Inside => ElementCutOutput::NonFlush {
+            inside: ElementOrNone::Some(e),
+            outside: ElementOrNone::None,
+            intersection: ElementOrNone::None,
+        },
+        Side::On => ElementCutOutput::Flush,
+        Side::Outside => ElementCutOutput::NonFlush {
+            inside: ElementOrNone::None,
+            outside: ElementOrNone::Some(e),
+            intersection: ElementOrNone::None,
+        },
+    }
+}
+
+// A vertex adds nothing to the table.
+fn cut_corner(
+    counts: &[u16],
+    points: &[f64],
+    elements: &[u16],
+    e: ElementId,
+    k: Cutter,
+) -> ElementCutOutput
+    requires { ⌜ Ready (now counts) (now points) (now elements) 0 (e .0) k ⌝ }
+    ensures { λ r. ⌜ CornerCut (now (counts .entry)) (now (points .entry)) (now (elements .entry)) (e .0) k r ⌝ }
+{
+    let d = wide(counts[0]);
+    let p = corner_point(points, elements, e);
+    let h = k.divider;
+    let s = hypermath::signed_distance(d, h, p);
+    corner_answer(e, s)
+}
+
+// The two numbers of an edge's row, and the point of each.
+fn read_ends(points: &[f64], elements: &[u16], e: ElementId) -> EdgeEnds
+    requires { ⌜ EndsReady (now points) (now elements) (e .0) ⌝ }
+    ensures { λ r. ⌜ EndsRead (now (points .entry)) (now (elements .entry)) (e .0) r ⌝ }
+{
+    let a = ElementId(wide(rows::boundary_at(elements, e, 0)));
+    let b = ElementId(wide(rows::boundary_at(elements, e, 1)));
+    let p = corner_point(points, elements, a);
+    let q = corner_point(points, elements, b);
+    EdgeEnds { a, b, p, q }
+}
+
+// Ends on the plane are flush, and other ends go to their side.
+fn both_ends(d: usize, h: Hyperplane, ends: EdgeEnds) -> Answers
+    requires { ⌜ (ends .a .0 < 512) × (ends .b .0 < 512) ⌝ }
+    ensures { λ r. ⌜ EndsGathered (ends .a .0) (ends .b .0) (distanceTo d h (ends .p)) (distanceTo d h (ends .q)) r ⌝ }
+{
+    let none = sets::nothing_yet();
+    let a = ends.a;
+    let p = ends.p;
+    let sa = hypermath::signed_distance(d, h, p);
+    let x = corner_answer(a, sa);
+    let one = sets::gather_in(none, a, x);
+    let b = ends.b;
+    let q = ends.q;
+    let sb = hypermath::signed_distance(d, h, q);
+    let y = corner_answer(b, sb);
+    sets::gather_in(one, b, y)
+}
+
+// A crossing counts as the flush one.
+fn crossed_at(s: Answers, v: ElementId) -> Answers
+    ensures { λ r. ⌜ Crossed s (v .0) r ⌝ }
+{
+    let inside = s.inside;
+    let outside = s.outside;
+    let intersections = s.intersections;
+    Answers {
+        flushes: 1,
+        flush: v,
+        inside,
+        outside,
+        intersections,
+    }
+}
+
+// The crossing is matched or appended: vertex, then its element.
+fn cut_crossed(
+    counts: &mut [u16],
+    points: &mut [f64],
+    elements: &mut [u16],
+    e: ElementId,
+    k: Cutter,
+    s: Answers,
+    x: [f64; 4],
+) -> CutReply
+    requires { ⌜ CrossedReady (now counts) (now points) (now elements) (e .0) k s x ⌝ }
+    ensures { λ r. ⌜ CrossedCut (now (counts .entry)) (now (points .entry)) (now (elements .entry)) (e .0) k s x r (now (counts .exit)) (now (points .exit)) (now (elements .exit)) ⌝ }
+{
+    let placed = memo::add_vertex(counts, points, elements, x);
+    match placed {
+        Placed::Refused(no) => CutReply::Refused(no),
+        Placed::At(v) => {
+            let crossed = crossed_at(s, v);
+            answer::rule6(counts, elements, e, 1, k, crossed)
+        }
+    }
+}
+
+// Rule 4; the edge test finds no crossing where an end is flush.
+fn cut_edge(
+    counts: &mut [u16],
+    points: &mut [f64],
+    elements: &mut [u16],
+    e: ElementId,
+    k: Cutter,
+) -> CutReply
+    requires { ⌜ Ready (now counts) (now points) (now elements) 1 (e .0) k ⌝ }
+    ensures { λ r. ⌜ ElementCut (now (counts .entry)) (now (points .entry)) (now (elements .entry)) 1 (e .0) k r (now (counts .exit)) (now (points .exit)) (now (elements .exit)) ⌝ }
+{
+    let d = wide(counts[0]);
+    let ends = read_ends(points, elements, e);
+    let h = k.divider;
+    let s = both_ends(d, h, ends);
+    let p = ends.p;
+    let q = ends.q;
+    let both = [p, q];
+    let crossing = hypermath::edge_test(d, h, both);
+    match crossing {
+        Crossing::None => answer::rule6(counts, elements, e, 1, k, s),
+        Crossing::At(t) => {
+            let x = hypermath::crossing_point(d, both, t);
+            cut_crossed(counts, points, elements, e, k, s, x)
+        }
+    }
+}
+
+// A vertex element or an edge.
+pub fn cut_low(
+    counts: &mut [u16],
+    points: &mut [f64],
+    elements: &mut [u16],
+    e: ElementId,
+    rank: usize,
+    k: Cutter,
+) -> CutReply
+    requires { ⌜ Ready (now counts) (now points) (now elements) rank (e .0) k × (rank < 2) ⌝ }
+    ensures { λ r. ⌜ ElementCut (now (counts .entry)) (now (points .entry)) (now (elements .entry)) rank (e .0) k r (now (counts .exit)) (now (points .exit)) (now (elements .exit)) ⌝ }
+{
+    if rank == 0 {
+        let a = cut_corner(counts, points, elements, e, k);
+        return CutReply::Answered(a);
+    }
+    cut_edge(counts, points, elements, e, k)
+}

@@ -1,0 +1,57 @@
+-- What sets of elements in use tell of their numbers, and what soundness tells of the element that is cut.
+use Prim.Native.Nat.{ℕ, suc, _-_, _≤_, _<_}
+use mathlib.Core.Path.{_≡_, _∙_, subst}
+use mathlib.Core.Bool.{true}
+use mathlib.Core.List.{List, [], _∷_}
+use native.Mathlib.Nat.{le-trans}
+use native.Mathlib.Omega.{arith}
+use lib.Dec.{lit≤}
+use lib.ListN.{length}
+use lib.Seq.{getD-take}
+use Rattle.rules.specs.Limits.{desk}
+use Rattle.rules.specs.Table.{Element, corner, polytope, Table, rankOf, boundaryOf, elementCount, rank, element}
+use Rattle.rules.specs.Sound.{closed, soundElement}
+use Rattle.rules.specs.Held.{Ranked, AllOf, SomeOf}
+use Rattle.rules.specs.declared.ElementOrNone.{ElementOrNone}
+use Rattle.rules.specs.declared.ElementOrNone.the-variants.{None, Some}
+use Rattle.rules.proofs.Extends.{below-more, below-get}
+use Rattle.rules.proofs.Good.{Good, all-below, sound-at, whole}
+use Rattle.rules.proofs.Laws.{le-test, eq-test}
+use Rattle.rules.proofs.Ranked.{set-under}
+use Rattle.rules.proofs.StaysCut.{Owner, facts}
+use Rattle.space.specs.Closed.{Low, Edges}
+use Rattle.gathered.specs.Sets.{members, InRoom}
+use Rattle.gathered.specs.declared.sets.Set.{Set}
+
+-- what is in use is within the room
+pub some-fits : (t : Table) → elementCount t ≤ 512 → (q : ℕ) (x : ElementOrNone) → SomeOf q x t → InRoom x
+some-fits t c q None h = tt
+some-fits t c q (Some e) h = le-trans (h .0) c
+
+pub low-of : (t : Table) → elementCount t ≤ 512 → (q : ℕ) (s : Set) → AllOf (Ranked t q) (members s) → Low (s .list) (s .n)
+low-of t c q s a = record {
+  at = λ k h.
+      subst (λ (y : ℕ). y < 512) (getD-take (s .n) (s .list) k 0 h)
+      (below-get 512 (members s) k (lit≤ tt) (below-more (members s) c (all-below (elementCount t) (members s) (set-under t q (members s) a))));
+}
+
+-- an element of rank 1 in a sound table has two ends
+pub edges-of : (t : Table) → Good desk t → (xs : List ℕ) → AllOf (Ranked t 2) xs → Edges t xs
+edges-of t g [] h = tt
+edges-of t g (x ∷ xs) h = (h .0 .0, go (element t x) (h .0 .1) (sound-at desk t x g (h .0 .0)), edges-of t g xs (h .1))
+  where
+    go : (y : Element) → suc (rankOf y) ≡ 2 → soundElement t x y ≡ true → length (boundaryOf y) ≡ 2
+    go (corner v) e s = absurd (let z : ⊥ = omega (arith, e) in z)
+    go (polytope r b k m) e s =
+        eq-test (length b) 2 (subst (λ (n : ℕ). closed t n b ≡ true) (let q : r ≡ 1 = omega (arith, e) in q) (whole t x r b k m s .bound .tight))
+
+-- ---- the element that is cut
+
+pub rank-before : (r : ℕ) → 1 ≤ r → r ≡ suc (r - 1)
+rank-before r h = omega (arith, h)
+
+pub owner-of : (t : Table) (e r : ℕ) → Good desk t → e < elementCount t → rank t e ≡ r → 1 ≤ r → Owner t (r - 1) (element t e)
+owner-of t e r g u q h = facts desk t e (r - 1) g u (q ∙ rank-before r h) .owner
+
+pub rank-low : (t : Table) (e r : ℕ) → Good desk t → e < elementCount t → rank t e ≡ r → 1 ≤ r → r ≤ t .dimension
+rank-low t e r g u q h = subst (λ (n : ℕ). n ≤ t .dimension) q (le-test (rank t e) (t .dimension) (owner-of t e r g u q h .low))

@@ -1,0 +1,75 @@
+-- The gathered intersections, added as an element of the rank below: the call of rule 8 is the step of the rules.
+use Prim.Native.Nat.{ℕ, _-_, _≤_, _<_}
+use mathlib.Core.Path.{_≡_, refl, ap, _∙_, subst}
+use mathlib.Core.Bool.{Bool, true, false}
+use mathlib.Core.Option.{Option, none, some}
+use mathlib.Core.List.{List}
+use native.Mathlib.Nat.{le-trans}
+use native.Mathlib.Omega.{arith}
+use lib.Dec.{eqb}
+use lib.ListN.{length, getD}
+use lib.Ieee.{Float}
+use borrow.Author.Tests.{lt-leb, ne-eqb}
+use Rattle.rules.specs.Limits.{desk, noPlane}
+use Rattle.rules.specs.Lists.{if_then_else_}
+use Rattle.rules.specs.Table.{Table}
+use Rattle.rules.specs.Memory.{planeNamed}
+use Rattle.rules.specs.Held.{Holds, Came, Ranked, AllOf}
+use Rattle.rules.specs.Cut.{addPolytope, planeOfIntersection}
+use Rattle.rules.proofs.Good.{sound-good}
+use Rattle.rules.proofs.Laws.{le-test}
+use Rattle.rules.proofs.Stays.{rank-above}
+use Rattle.space.specs.Closed.{Low}
+use Rattle.space.specs.Shared.{PolytopeAdded}
+use Rattle.space.specs.declared.memo.Added.{Added}
+use Rattle.space.specs.declared.memo.Added.the-variants as added
+use Rattle.space.proofs.VertexMemo.{dimension-is}
+use Rattle.space.proofs.Slices.{slices}
+use Rattle.gathered.specs.Sets.{members}
+use Rattle.gathered.specs.Cutting.{cutOf, IntersectionFit, IntersectionReady, IntersectionMade}
+use Rattle.gathered.specs.declared.sets.Set.{Set}
+use Rattle.gathered.specs.declared.answer.Cutter.{Cutter}
+use Rattle.gathered.proofs.Fitting.{low-of, edges-of}
+
+-- FFFF is no number in use
+named : (n : ℕ) → n < 65535 → (b : Bool) → planeNamed (if b then n else noPlane) ≡ (if b then some n else none)
+named n l true = ap (λ (c : Bool). if c then none else some n) (ne-eqb n 65535 (λ e. (let z : ⊥ = omega (arith, e, l) in z)))
+named n l false = refl
+
+module _ {cs es : List ℕ} {r : ℕ} {k : Cutter} {set : Set} where
+  -- what the calls ask for
+  pub plane-asks : IntersectionReady cs es r k set → (length cs ≡ 4) × (k .number .0 < 64)
+  plane-asks R = (slices (R .fit .holds) .counts, le-trans (R .fit .plane) (R .fit .holds .fits .planeRoom))
+
+  pub intersection-asks : IntersectionReady cs es r k set
+      → (length cs ≡ 4) × (length es ≡ 18432) × (getD cs 1 0 ≤ 512) × (length (set .list) ≡ 33) × (set .n ≤ 33) × (r - 1 < 65536) × Low (set .list) (set .n)
+  intersection-asks R =
+      let F = R .fit in
+      let t = R .table in
+      let n = F .sized .most in
+      let low = F .low in
+      let four = le-test (t .dimension) 4 (sound-good desk t (F .sound) .high) in (
+        slices (F .holds) .counts,
+        slices (F .holds) .elements,
+        slices (F .holds) .elementsFit,
+        F .sized .long,
+        (let q : set .n ≤ 33 = omega (arith, n) in q),
+        (let q : r - 1 < 65536 = omega (arith, low, four) in q),
+        low-of t (F .holds .fits .elementRoom) (r - 1) set (F .sets .ranked),
+      )
+
+  plane-is : {ps hs : List Float} {t : Table} (plane : ℕ) → plane ≡ (if eqb r (getD cs 0 0) then k .number .0 else noPlane) → IntersectionFit cs ps hs es r k set t
+      → planeNamed plane ≡ planeOfIntersection t (cutOf (t .dimension) k) r
+  plane-is {t = t} plane p F =
+      let few = le-trans (F .plane) (F .holds .fits .planeRoom) in
+      ap planeNamed (p ∙ ap (λ (d : ℕ). if eqb r d then k .number .0 else noPlane) (dimension-is (getD cs 0 0) refl (F .holds)))
+      ∙ named (k .number .0) (let z : k .number .0 < 65535 = omega (arith, few) in z) (eqb r (t .dimension))
+
+  pub intersection-made : {y : Added} {cs′ es′ : List ℕ} (plane : ℕ) → plane ≡ (if eqb r (getD cs 0 0) then k .number .0 else noPlane)
+      → PolytopeAdded cs es (r - 1) (members set) plane false y cs′ es′ → IntersectionMade cs es r k set y cs′ es′
+  intersection-made {y} {cs′} {es′} plane p A = record {
+    of = λ ps hs t F.
+        subst (λ (h : Option ℕ). Came added.Made added.Refused (Holds desk cs′ ps hs es′) t (addPolytope desk (r - 1) (members set) h false t) y) (plane-is plane p F)
+        (A .of ps hs t (F .holds) (λ l. le-test 1 (r - 1) (rank-above t (r - 1) (members set) (F .sets) (lt-leb (length (members set)) (r - 1) l)))
+        (λ two. edges-of t (sound-good desk t (F .sound)) (members set) (subst (λ (n : ℕ). AllOf (Ranked t n) (members set)) two (F .sets .ranked))));
+  }

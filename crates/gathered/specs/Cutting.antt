@@ -1,0 +1,132 @@
+-- When an element whose boundary has answered may go on, and what rules 6 to 8 then give: the steps of the rules. Definitions only.
+use Prim.Native.Nat.{ℕ, _-_, _≤_, _<_}
+use mathlib.Core.Path.{_≡_}
+use mathlib.Core.Bool.{Bool, true}
+use mathlib.Core.List.{List}
+use lib.ListN.{length, take}
+use lib.Ieee.{Float}
+use Rattle.rules.specs.Limits.{desk}
+use Rattle.rules.specs.Table.{Table, elementCount, rank, element}
+use Rattle.rules.specs.Sound.{sound}
+use Rattle.rules.specs.Cut.{Cutting, Gathered, newIntersection, sideOfCut, rule7, rule6}
+use Rattle.rules.specs.Held.{Holds, Came, Sets, SetOf, SomeOf}
+use Rattle.rules.specs.declared.ElementOrNone.{ElementOrNone}
+use Rattle.rules.specs.declared.CutReply.{CutReply}
+use Rattle.rules.specs.declared.CutReply.the-variants as reply
+use Rattle.space.specs.declared.memo.Added.{Added}
+use Rattle.space.specs.declared.memo.Added.the-variants as added
+use Rattle.gathered.specs.Sets.{members, SizedSet, Sized, Gathers}
+use Rattle.gathered.specs.declared.sets.Set.{Set}
+use Rattle.gathered.specs.declared.sets.Answers.{Answers}
+use Rattle.gathered.specs.declared.answer.Cutter.{Cutter}
+
+-- ---- the cut of one element
+
+-- what the code has at hand, as the rules have it in a space of d dimensions
+abbrev pub cutOf : ℕ → Cutter → Cutting
+cutOf d k = record {
+  divider = record { normal = take d (k .divider .normal); distance = k .divider .distance };
+  number = k .number .0;
+  keepInside = k .«keep_inside»;
+  keepOutside = k .«keep_outside»;
+}
+
+-- the table that the memory holds may be cut: it is sound, and has the divider's hyperplane and element e, of rank r
+pub record Fit (cs : List ℕ) (ps hs : List Float) (es : List ℕ) (r e : ℕ) (k : Cutter) (t : Table) : Type 0 where
+  pub holds : Holds desk cs ps hs es t
+  pub sound : sound desk t ≡ true
+  pub plane : k .number .0 < length (t .planes)
+  pub used : e < elementCount t
+  pub ranked : rank t e ≡ r
+
+-- ---- the intersection
+
+-- in a sound table that the memory holds, the set is of elements in use, two ranks below r
+pub record IntersectionFit (cs : List ℕ) (ps hs : List Float) (es : List ℕ) (r : ℕ) (k : Cutter) (set : Set) (t : Table) : Type 0 where
+  pub holds : Holds desk cs ps hs es t
+  pub sound : sound desk t ≡ true
+  pub plane : k .number .0 < length (t .planes)
+  pub some : 1 ≤ r
+  pub low : r ≤ t .dimension
+  pub sized : SizedSet set 32
+  pub sets : SetOf t (r - 1) (members set)
+
+-- there is such a table
+pub record IntersectionReady (cs es : List ℕ) (r : ℕ) (k : Cutter) (set : Set) : Type 0 where
+  pub points : List Float
+  pub planes : List Float
+  pub table : Table
+  pub fit : IntersectionFit cs points planes es r k set table
+
+-- whatever such table the memory holds: the intersection's step
+pub record IntersectionMade (cs es : List ℕ) (r : ℕ) (k : Cutter) (set : Set) (y : Added) (cs′ es′ : List ℕ) : Type 0 where
+  pub of : (ps hs : List Float) (t : Table) → IntersectionFit cs ps hs es r k set t
+      → Came added.Made added.Refused (Holds desk cs′ ps hs es′) t (newIntersection desk (cutOf (t .dimension) k) r (members set) t) y
+
+-- ---- a side
+
+-- in a sound table that the memory holds, element e is in use and of rank r, and the set and the intersection are in use and of the rank below
+pub record SideFit (cs : List ℕ) (ps hs : List Float) (es : List ℕ) (r e : ℕ) (set : Set) (x : ElementOrNone) (t : Table) : Type 0 where
+  pub holds : Holds desk cs ps hs es t
+  pub sound : sound desk t ≡ true
+  pub used : e < elementCount t
+  pub ranked : rank t e ≡ r
+  pub some : 1 ≤ r
+  pub sized : SizedSet set 32
+  pub sets : SetOf t r (members set)
+  pub intersection : SomeOf r x t
+
+-- there is such a table
+pub record SideReady (cs es : List ℕ) (r e : ℕ) (set : Set) (x : ElementOrNone) : Type 0 where
+  pub points : List Float
+  pub planes : List Float
+  pub table : Table
+  pub fit : SideFit cs points planes es r e set x table
+
+-- whatever such table the memory holds: the side's step
+pub record SideMade (cs es : List ℕ) (r e : ℕ) (keep : Bool) (set : Set) (x : ElementOrNone) (y : Added) (cs′ es′ : List ℕ) : Type 0 where
+  pub of : (ps hs : List Float) (t : Table) → SideFit cs ps hs es r e set x t
+      → Came added.Made added.Refused (Holds desk cs′ ps hs es′) t (sideOfCut desk keep (element t e) x (members set) t) y
+
+-- ---- rule 6
+
+-- the boundary of element e has answered, and the code holds what is gathered, of elements in use
+pub record Rule6Fit (cs : List ℕ) (ps hs : List Float) (es : List ℕ) (r e : ℕ) (k : Cutter) (s : Answers) (t : Table) (g : Gathered) : Type 0 where
+  pub fit : Fit cs ps hs es r e k t
+  pub some : 1 ≤ r
+  pub gathers : Gathers s g
+  pub sized : Sized s 32
+  pub sets : Sets (r - 1) g t
+
+-- there is such a table
+pub record Rule6Ready (cs es : List ℕ) (r e : ℕ) (k : Cutter) (s : Answers) : Type 0 where
+  pub points : List Float
+  pub planes : List Float
+  pub table : Table
+  pub gathered : Gathered
+  pub fit : Rule6Fit cs points planes es r e k s table gathered
+
+-- whatever such table the memory holds, and whatever is gathered: rule 6
+pub record Rule6Done (cs es : List ℕ) (r e : ℕ) (k : Cutter) (s : Answers) (y : CutReply) (cs′ es′ : List ℕ) : Type 0 where
+  pub of : (ps hs : List Float) (t : Table) (g : Gathered) → Rule6Fit cs ps hs es r e k s t g
+      → Came reply.Answered reply.Refused (Holds desk cs′ ps hs es′) t (rule6 desk (cutOf (t .dimension) k) (element t e) g (g .flush) t) y
+
+-- ---- rule 7
+
+-- the same, and the intersection is in use and of the rank below
+pub record Rule7Fit (cs : List ℕ) (ps hs : List Float) (es : List ℕ) (r e : ℕ) (k : Cutter) (s : Answers) (x : ElementOrNone) (t : Table) (g : Gathered) : Type 0 where
+  pub answered : Rule6Fit cs ps hs es r e k s t g
+  pub intersection : SomeOf r x t
+
+-- there is such a table
+pub record Rule7Ready (cs es : List ℕ) (r e : ℕ) (k : Cutter) (s : Answers) (x : ElementOrNone) : Type 0 where
+  pub points : List Float
+  pub planes : List Float
+  pub table : Table
+  pub gathered : Gathered
+  pub fit : Rule7Fit cs points planes es r e k s x table gathered
+
+-- whatever such table the memory holds, and whatever is gathered: rule 7
+pub record Rule7Done (cs es : List ℕ) (r e : ℕ) (k : Cutter) (s : Answers) (x : ElementOrNone) (y : CutReply) (cs′ es′ : List ℕ) : Type 0 where
+  pub of : (ps hs : List Float) (t : Table) (g : Gathered) → Rule7Fit cs ps hs es r e k s x t g
+      → Came reply.Answered reply.Refused (Holds desk cs′ ps hs es′) t (rule7 desk (cutOf (t .dimension) k) (element t e) g x t) y

@@ -1,0 +1,144 @@
+// Rules 6 to 8: what a cut adds for an element whose boundary has answered, and the element's own answer.
+use crate::sets;
+use crate::sets::Answers;
+use crate::sets::Set;
+use rules::CutReply;
+use rules::ElementCutOutput;
+use rules::ElementId;
+use rules::ElementOrNone;
+use rules::Hyperplane;
+use rules::HyperplaneId;
+use space::memo;
+use space::memo::Added;
+use space::rows;
+use space::words::NO_PLANE;
+use space::words::wide;
+ghost use Prim.Native.Nat.{_<_};
+ghost use mathlib.Core.Path.{_≡_};
+ghost use lib.Dec.{eqb};
+ghost use lib.ListN.{length, getD};
+ghost use Rattle.rules.specs.Limits.{noPlane};
+ghost use Rattle.rules.specs.Lists.{if_then_else_};
+ghost use Rattle.gathered.specs.Cutting.{IntersectionReady, IntersectionMade, SideReady, SideMade, Rule7Ready, Rule7Done, Rule6Ready, Rule6Done};
+
+// The divider as given, its hyperplane's number, and which sides are kept.
+pub struct Cutter {
+    pub divider: Hyperplane,
+    pub number: HyperplaneId,
+    pub keep_inside: bool,
+    pub keep_outside: bool,
+}
+
+// The divider's hyperplane if the rank is the dimension.
+fn plane_of_intersection(counts: &[u16], rank: usize, number: HyperplaneId) -> u16
+    requires { ⌜ (length (now counts) ≡ 4) × (number .0 < 64) ⌝ }
+    ensures { λ r. ⌜ r ≡ (if eqb rank (getD (now (counts .entry)) 0 0) then number .0 else noPlane) ⌝ }
+{
+    if rank == wide(counts[0]) {
+        number.0 as u16
+    } else {
+        NO_PLANE
+    }
+}
+
+// The gathered intersections form an element of the rank below, not primordial.
+fn new_intersection(
+    counts: &mut [u16],
+    elements: &mut [u16],
+    rank: usize,
+    k: Cutter,
+    set: Set,
+) -> Added
+    requires { ⌜ IntersectionReady (now counts) (now elements) rank k set ⌝ }
+    ensures { λ r. ⌜ IntersectionMade (now (counts .entry)) (now (elements .entry)) rank k set r (now (counts .exit)) (now (elements .exit)) ⌝ }
+{
+    let number = k.number;
+    let plane = plane_of_intersection(counts, rank, number);
+    let list = set.list;
+    let n = set.n;
+    memo::add_polytope(counts, elements, rank - 1, &list, n, plane, false)
+}
+
+// A side's set and the intersection, with the old rank, hyperplane and mark; a removed side is none.
+fn side_of_cut(
+    counts: &mut [u16],
+    elements: &mut [u16],
+    e: ElementId,
+    rank: usize,
+    keep: bool,
+    set: Set,
+    x: ElementOrNone,
+) -> Added
+    requires { ⌜ SideReady (now counts) (now elements) rank (e .0) set x ⌝ }
+    ensures { λ r. ⌜ SideMade (now (counts .entry)) (now (elements .entry)) rank (e .0) keep set x r (now (counts .exit)) (now (elements .exit)) ⌝ }
+{
+    if !keep {
+        return Added::Made(ElementOrNone::None);
+    }
+    let plane = rows::plane_of(elements, e);
+    let mark = rows::is_primordial(elements, e);
+    let all = sets::including(set, x);
+    let list = all.list;
+    let n = all.n;
+    memo::add_polytope(counts, elements, rank, &list, n, plane, mark)
+}
+
+// The intersection is known: then inside, then outside.
+fn rule7(
+    counts: &mut [u16],
+    elements: &mut [u16],
+    e: ElementId,
+    rank: usize,
+    k: Cutter,
+    s: Answers,
+    x: ElementOrNone,
+) -> CutReply
+    requires { ⌜ Rule7Ready (now counts) (now elements) rank (e .0) k s x ⌝ }
+    ensures { λ r. ⌜ Rule7Done (now (counts .entry)) (now (elements .entry)) rank (e .0) k s x r (now (counts .exit)) (now (elements .exit)) ⌝ }
+{
+    let inner = s.inside;
+    let first = side_of_cut(counts, elements, e, rank, k.keep_inside, inner, x);
+    match first {
+        Added::Refused(no) => CutReply::Refused(no),
+        Added::Made(i) => {
+            let outer = s.outside;
+            let second = side_of_cut(counts, elements, e, rank, k.keep_outside, outer, x);
+            match second {
+                Added::Refused(no) => CutReply::Refused(no),
+                Added::Made(o) => CutReply::Answered(ElementCutOutput::NonFlush {
+                    inside: i,
+                    outside: o,
+                    intersection: x,
+                }),
+            }
+        }
+    }
+}
+
+// More than one flush answer make the element flush, exactly one is the intersection; without one it is worked out, whichever sides are kept.
+pub fn rule6(
+    counts: &mut [u16],
+    elements: &mut [u16],
+    e: ElementId,
+    rank: usize,
+    k: Cutter,
+    s: Answers,
+) -> CutReply
+    requires { ⌜ Rule6Ready (now counts) (now elements) rank (e .0) k s ⌝ }
+    ensures { λ r. ⌜ Rule6Done (now (counts .entry)) (now (elements .entry)) rank (e .0) k s r (now (counts .exit)) (now (elements .exit)) ⌝ }
+{
+    let flushes = s.flushes;
+    if 1 < flushes {
+        return CutReply::Answered(ElementCutOutput::Flush);
+    }
+    if flushes == 1 {
+        let flush = s.flush;
+        return rule7(counts, elements, e, rank, k, s, ElementOrNone::Some(flush));
+    }
+    let set = s.intersections;
+    let middle = new_intersection(counts, elements, rank, k, set);
+    match middle {
+        Added::Refused(no) => CutReply::Refused(no),
+        Added::Made(x) => rule7(counts, elements, e, rank, k, s, x),
+    }
+}

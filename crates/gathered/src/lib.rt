@@ -1,0 +1,3 @@
+// What a boundary's elements answer, gathered, and rules 6 to 8.
+pub mod answer;
+pub mod sets;

@@ -1,0 +1,209 @@
+// Runs the marked examples of document 01 and its example session through the compiled functions, and prints a line for
+// each. The file stdout is written from document 01.
+mod print;
+
+use rules::ElementId;
+use rules::Hyperplane;
+use rules::PolytopeFate;
+
+// 2^-20, and the next float above it.
+const TOLERANCE: f64 = 0.00000095367431640625;
+
+const ABOVE_TOLERANCE: f64 = 0.0000009536743164062502;
+
+fn at_x(distance: f64) -> Hyperplane {
+    Hyperplane {
+        normal: [1.0, 0.0, 0.0, 0.0],
+        distance,
+    }
+}
+
+fn slanted() -> Hyperplane {
+    Hyperplane {
+        normal: [0.6, 0.8, 0.0, 0.0],
+        distance: 1.4,
+    }
+}
+
+// A cube of radius 1 in the memory, and its counts.
+fn start(
+    dimension: u64,
+    counts: &mut [u16],
+    points: &mut [f64],
+    planes: &mut [f64],
+    elements: &mut [u16],
+) {
+    cube::with_primordial_cube_radius(dimension, 1.0, counts, points, planes, elements);
+}
+
+// A cut of the table at hand, and the counts after it.
+fn cut_line(
+    divider: Hyperplane,
+    inside: PolytopeFate,
+    outside: PolytopeFate,
+    root: usize,
+    counts: &mut [u16],
+    points: &mut [f64],
+    planes: &mut [f64],
+    elements: &mut [u16],
+) {
+    let root = ElementId(root);
+    print::reply(cut::cut(
+        counts,
+        points,
+        planes,
+        elements,
+        divider,
+        inside,
+        outside,
+        root,
+    ));
+    print::counts(counts);
+}
+
+// A cut of a new cube.
+fn example(
+    name: &[u8],
+    dimension: u64,
+    divider: Hyperplane,
+    inside: PolytopeFate,
+    outside: PolytopeFate,
+    root: usize,
+    counts: &mut [u16],
+    points: &mut [f64],
+    planes: &mut [f64],
+    elements: &mut [u16],
+) {
+    start(dimension, counts, points, planes, elements);
+    print::text(name);
+    cut_line(
+        divider,
+        inside,
+        outside,
+        root,
+        counts,
+        points,
+        planes,
+        elements,
+    );
+}
+
+// M11: where On ends.
+fn sides() {
+    print::text(b"M11");
+    print::side(hypermath::side_of(TOLERANCE));
+    print::side(hypermath::side_of(ABOVE_TOLERANCE));
+    print::line_end();
+}
+
+// The example session, then M1 to M8 and M11.
+fn main() {
+    let keep = PolytopeFate::Keep;
+    let remove = PolytopeFate::Remove;
+    let mut c = [0u16; 4];
+    let mut p = [0.0; 1024];
+    let mut h = [0.0; 320];
+    let mut e = [0u16; 18432];
+    start(2, &mut c, &mut p, &mut h, &mut e);
+    print::text(b"cube");
+    print::counts(&c);
+    cut_line(at_x(0.0), keep, keep, 8, &mut c, &mut p, &mut h, &mut e);
+    cut_line(at_x(0.0), keep, keep, 8, &mut c, &mut p, &mut h, &mut e);
+    example(
+        b"M1 ",
+        2,
+        at_x(0.0),
+        keep,
+        keep,
+        8,
+        &mut c,
+        &mut p,
+        &mut h,
+        &mut e,
+    );
+    example(
+        b"M2 ",
+        2,
+        at_x(0.0),
+        remove,
+        remove,
+        8,
+        &mut c,
+        &mut p,
+        &mut h,
+        &mut e,
+    );
+    example(
+        b"M3 ",
+        2,
+        at_x(1.0),
+        keep,
+        remove,
+        8,
+        &mut c,
+        &mut p,
+        &mut h,
+        &mut e,
+    );
+    example(
+        b"M4 ",
+        2,
+        at_x(1.0 / 0.0),
+        remove,
+        remove,
+        8,
+        &mut c,
+        &mut p,
+        &mut h,
+        &mut e,
+    );
+    example(
+        b"M5 ",
+        2,
+        at_x(0.0),
+        remove,
+        keep,
+        0,
+        &mut c,
+        &mut p,
+        &mut h,
+        &mut e,
+    );
+    example(
+        b"M6 ",
+        2,
+        at_x(1.0),
+        keep,
+        keep,
+        7,
+        &mut c,
+        &mut p,
+        &mut h,
+        &mut e,
+    );
+    example(
+        b"M7 ",
+        2,
+        slanted(),
+        keep,
+        keep,
+        8,
+        &mut c,
+        &mut p,
+        &mut h,
+        &mut e,
+    );
+    example(
+        b"M8 ",
+        1,
+        at_x(0.0),
+        keep,
+        keep,
+        2,
+        &mut c,
+        &mut p,
+        &mut h,
+        &mut e,
+    );
+    sides();
+}
