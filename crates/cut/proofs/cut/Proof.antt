@@ -9,6 +9,48 @@ use borrow.Author.Needs.{needs}
 use Rattle.cut.proofs.cut.Statement.{statement}
 use Rattle.cut.proofs.cut.Tie as tie
 
+returns : tie.Need-returns
+returns c =
+    let at = c .before .before .before .before .before .before .before .before .before .before in
+    let four = sym (length-map (at .args .divider .normal) _) ∙ at .good .1 .1 .1 .1 .0 .1 .1 .0 .1 .0 .1 in
+    unsound (at .args .divider) _ _ _ _ _ _ _ four (sym (c .before .memory-sound .ensures) ∙ not-true _ (c .if1 .taken))
+
+returns-2 : tie.Need-returns-2
+returns-2 c =
+    let at = c .before .before .before .before .before .before .before .before .before .before .before .before .before .before in
+    let four = sym (length-map (at .args .divider .normal) _) ∙ at .good .1 .1 .1 .1 .0 .1 .1 .0 .1 .0 .1 in
+    unused (at .args .divider) _ _ _ _ _ _ _ four (sym (c .before .before .before .before .before .memory-sound .ensures) ∙ not-false _ (c .before .before .before .before .if1 .left)) _ (c .before .before .wide .ensures .0) (c .if2 .taken)
+
+returns-3 : tie.Need-returns-3
+returns-3 c =
+    let at = c .before .before .before .before .before .before .before .before .before .before .before .before .before .before .before .before .before .before .before in
+    let four = sym (length-map (at .args .divider .normal) _) ∙ at .good .1 .1 .1 .1 .0 .1 .1 .0 .1 .0 .1 in
+    not-unit (at .args .divider) _ _ _ _ _ _ _ four (sym (c .before .before .before .before .before .before .before .before .before .before .memory-sound .ensures) ∙ not-false _ (c .before .before .before .before .before .before .before .before .before .if1 .left)) _ (c .before .before .before .before .before .before .before .wide .ensures .0) (c .before .before .before .before .before .if2 .left) _ (c .before .before .wide2 .ensures .0) (sym (c .before .is-unit .ensures) ∙ not-true _ (c .if3 .taken))
+
+returns-4 : tie.Need-returns-4
+returns-4 c =
+    let at = c .before .before .before .before .before .before .before .before .before .before .before .before .before .before .before .before .before .before .before .before .before .before in
+    let four = sym (length-map (at .args .divider .normal) _) ∙ at .good .1 .1 .1 .1 .0 .1 .1 .0 .1 .0 .1 in
+    unfit (at .args .divider) _ _ _ _ _ _ _ four (sym (c .before .before .before .before .before .before .before .before .before .before .before .before .before .memory-sound .ensures) ∙ not-false _ (c .before .before .before .before .before .before .before .before .before .before .before .before .if1 .left)) _ (c .before .before .before .before .before .before .before .before .before .before .wide .ensures .0) (c .before .before .before .before .before .before .before .before .if2 .left) _ (c .before .before .before .before .before .wide2 .ensures .0) (sym (c .before .before .before .before .is-unit .ensures) ∙ not-false _ (c .before .before .before .if3 .left)) (sym (c .before .before .distance-kind .ensures) ∙ c .enum-told .given .1)
+
+returns-5 : tie.Need-returns-5
+returns-5 c =
+    let at = c .before .before .before .before .before .before .before .before .before .before .before .before .before .before .before .before .before .before .before .before .before .before in
+    let four = sym (length-map (at .args .divider .normal) _) ∙ at .good .1 .1 .1 .1 .0 .1 .1 .0 .1 .0 .1 in
+    all-inside (at .args .divider) _ _ _ _ _ _ _ four (sym (c .before .before .before .before .before .before .before .before .before .before .before .before .before .memory-sound .ensures) ∙ not-false _ (c .before .before .before .before .before .before .before .before .before .before .before .before .if1 .left)) _ (c .before .before .before .before .before .before .before .before .before .before .wide .ensures .0) (c .before .before .before .before .before .before .before .before .if2 .left) _ (c .before .before .before .before .before .wide2 .ensures .0) (sym (c .before .before .before .before .is-unit .ensures) ∙ not-false _ (c .before .before .before .if3 .left)) (sym (c .before .before .distance-kind .ensures) ∙ c .enum-told2 .given .1)
+
+returns-6 : tie.Need-returns-6
+returns-6 c =
+    let at = c .before .before .before .before .before .before .before .before .before .before .before .before .before .before .before .before .before .before .before .before .before .before in
+    let four = sym (length-map (at .args .divider .normal) _) ∙ at .good .1 .1 .1 .1 .0 .1 .1 .0 .1 .0 .1 in
+    all-outside (at .args .divider) _ _ _ _ _ _ _ four (sym (c .before .before .before .before .before .before .before .before .before .before .before .before .before .memory-sound .ensures) ∙ not-false _ (c .before .before .before .before .before .before .before .before .before .before .before .before .if1 .left)) _ (c .before .before .before .before .before .before .before .before .before .before .wide .ensures .0) (c .before .before .before .before .before .before .before .before .if2 .left) _ (c .before .before .before .before .before .wide2 .ensures .0) (sym (c .before .before .before .before .is-unit .ensures) ∙ not-false _ (c .before .before .before .if3 .left)) (sym (c .before .before .distance-kind .ensures) ∙ c .enum-told3 .given .1)
+
+returns-7 : tie.Need-returns-7
+returns-7 c =
+    let at = c .before .before .before .before .before .before .before .before .before .before .before .before .before .before .before .before .before .before .before .before .before .before .before .before .before .before .before .before .before .before .before .before .before .before .before .before .before in
+    let four = sym (length-map (at .args .divider .normal) _) ∙ at .good .1 .1 .1 .1 .0 .1 .1 .0 .1 .0 .1 in
+    replied-as (at .args .divider) _ _ _ _ _ _ _ four (sym (c .before .before .before .before .before .before .before .before .before .before .before .before .before .before .before .before .before .before .before .before .before .before .before .before .before .before .before .before .memory-sound .ensures) ∙ not-false _ (c .before .before .before .before .before .before .before .before .before .before .before .before .before .before .before .before .before .before .before .before .before .before .before .before .before .before .before .if1 .left)) _ (c .before .before .before .before .before .before .before .before .before .before .before .before .before .before .before .before .before .before .before .before .before .before .before .before .before .wide .ensures .0) (c .before .before .before .before .before .before .before .before .before .before .before .before .before .before .before .before .before .before .before .before .before .before .before .if2 .left) _ (c .before .before .before .before .before .before .before .before .before .before .before .before .before .before .before .before .before .before .before .before .wide2 .ensures .0) (sym (c .before .before .before .before .before .before .before .before .before .before .before .before .before .before .before .before .before .before .before .is-unit .ensures) ∙ not-false _ (c .before .before .before .before .before .before .before .before .before .before .before .before .before .before .before .before .before .before .if3 .left)) (sym (c .before .before .before .before .before .before .before .before .before .before .before .before .before .before .before .before .before .distance-kind .ensures) ∙ c .before .before .before .before .before .before .before .before .before .before .before .before .before .before .before .enum-told4 .given .1) (c .before .before .before .before .before .before .before .before .before .before .before .before .before .before .is-kept .ensures) (c .before .before .before .before .before .before .before .before .before .before .before .before .before .is-kept2 .ensures) (c .before .before .before .before .before .before .before .before .cut-finite .ensures)
+
 memory-sound-requires : tie.Need-memory-sound-requires
 memory-sound-requires c κs = search needs
 
@@ -23,12 +65,6 @@ same-length-3 c = search needs
 
 same-length-4 : tie.Need-same-length-4
 same-length-4 c = search needs
-
-returns : tie.Need-returns
-returns c =
-    let at = c .before .before .before .before .before .before .before .before .before .before in
-    let four = sym (length-map (at .args .divider .normal) _) ∙ at .good .1 .1 .1 .1 .0 .1 .1 .0 .1 .0 .1 in
-    unsound (at .args .divider) _ _ _ _ _ _ _ four (sym (c .before .memory-sound .ensures) ∙ not-true _ (c .if1 .taken))
 
 slice-read-wide : tie.Need-slice-read-wide
 slice-read-wide c =
@@ -50,12 +86,6 @@ same-length-7 c = search needs
 
 same-length-8 : tie.Need-same-length-8
 same-length-8 c = search needs
-
-returns-2 : tie.Need-returns-2
-returns-2 c =
-    let at = c .before .before .before .before .before .before .before .before .before .before .before .before .before .before in
-    let four = sym (length-map (at .args .divider .normal) _) ∙ at .good .1 .1 .1 .1 .0 .1 .1 .0 .1 .0 .1 in
-    unused (at .args .divider) _ _ _ _ _ _ _ four (sym (c .before .before .before .before .before .memory-sound .ensures) ∙ not-false _ (c .before .before .before .before .if1 .left)) _ (c .before .before .wide .ensures .0) (c .if2 .taken)
 
 slice-read-wide-2 : tie.Need-slice-read-wide-2
 slice-read-wide-2 c =
@@ -80,12 +110,6 @@ same-length-11 c = search needs
 
 same-length-12 : tie.Need-same-length-12
 same-length-12 c = search needs
-
-returns-3 : tie.Need-returns-3
-returns-3 c =
-    let at = c .before .before .before .before .before .before .before .before .before .before .before .before .before .before .before .before .before .before .before in
-    let four = sym (length-map (at .args .divider .normal) _) ∙ at .good .1 .1 .1 .1 .0 .1 .1 .0 .1 .0 .1 in
-    not-unit (at .args .divider) _ _ _ _ _ _ _ four (sym (c .before .before .before .before .before .before .before .before .before .before .memory-sound .ensures) ∙ not-false _ (c .before .before .before .before .before .before .before .before .before .if1 .left)) _ (c .before .before .before .before .before .before .before .wide .ensures .0) (c .before .before .before .before .before .if2 .left) _ (c .before .before .wide2 .ensures .0) (sym (c .before .is-unit .ensures) ∙ not-true _ (c .if3 .taken))
 
 distance-kind-requires : tie.Need-distance-kind-requires
 distance-kind-requires c κs = search needs
@@ -126,12 +150,6 @@ same-length-15 c = search needs
 same-length-16 : tie.Need-same-length-16
 same-length-16 c = search needs
 
-returns-4 : tie.Need-returns-4
-returns-4 c =
-    let at = c .before .before .before .before .before .before .before .before .before .before .before .before .before .before .before .before .before .before .before .before .before .before in
-    let four = sym (length-map (at .args .divider .normal) _) ∙ at .good .1 .1 .1 .1 .0 .1 .1 .0 .1 .0 .1 in
-    unfit (at .args .divider) _ _ _ _ _ _ _ four (sym (c .before .before .before .before .before .before .before .before .before .before .before .before .before .memory-sound .ensures) ∙ not-false _ (c .before .before .before .before .before .before .before .before .before .before .before .before .if1 .left)) _ (c .before .before .before .before .before .before .before .before .before .before .wide .ensures .0) (c .before .before .before .before .before .before .before .before .if2 .left) _ (c .before .before .before .before .before .wide2 .ensures .0) (sym (c .before .before .before .before .is-unit .ensures) ∙ not-false _ (c .before .before .before .if3 .left)) (sym (c .before .before .distance-kind .ensures) ∙ c .enum-told .given .1)
-
 same-length-17 : tie.Need-same-length-17
 same-length-17 c = search needs
 
@@ -143,12 +161,6 @@ same-length-19 c = search needs
 
 same-length-20 : tie.Need-same-length-20
 same-length-20 c = search needs
-
-returns-5 : tie.Need-returns-5
-returns-5 c =
-    let at = c .before .before .before .before .before .before .before .before .before .before .before .before .before .before .before .before .before .before .before .before .before .before in
-    let four = sym (length-map (at .args .divider .normal) _) ∙ at .good .1 .1 .1 .1 .0 .1 .1 .0 .1 .0 .1 in
-    all-inside (at .args .divider) _ _ _ _ _ _ _ four (sym (c .before .before .before .before .before .before .before .before .before .before .before .before .before .memory-sound .ensures) ∙ not-false _ (c .before .before .before .before .before .before .before .before .before .before .before .before .if1 .left)) _ (c .before .before .before .before .before .before .before .before .before .before .wide .ensures .0) (c .before .before .before .before .before .before .before .before .if2 .left) _ (c .before .before .before .before .before .wide2 .ensures .0) (sym (c .before .before .before .before .is-unit .ensures) ∙ not-false _ (c .before .before .before .if3 .left)) (sym (c .before .before .distance-kind .ensures) ∙ c .enum-told2 .given .1)
 
 same-length-21 : tie.Need-same-length-21
 same-length-21 c = search needs
@@ -162,12 +174,6 @@ same-length-23 c = search needs
 same-length-24 : tie.Need-same-length-24
 same-length-24 c = search needs
 
-returns-6 : tie.Need-returns-6
-returns-6 c =
-    let at = c .before .before .before .before .before .before .before .before .before .before .before .before .before .before .before .before .before .before .before .before .before .before in
-    let four = sym (length-map (at .args .divider .normal) _) ∙ at .good .1 .1 .1 .1 .0 .1 .1 .0 .1 .0 .1 in
-    all-outside (at .args .divider) _ _ _ _ _ _ _ four (sym (c .before .before .before .before .before .before .before .before .before .before .before .before .before .memory-sound .ensures) ∙ not-false _ (c .before .before .before .before .before .before .before .before .before .before .before .before .if1 .left)) _ (c .before .before .before .before .before .before .before .before .before .before .wide .ensures .0) (c .before .before .before .before .before .before .before .before .if2 .left) _ (c .before .before .before .before .before .wide2 .ensures .0) (sym (c .before .before .before .before .is-unit .ensures) ∙ not-false _ (c .before .before .before .if3 .left)) (sym (c .before .before .distance-kind .ensures) ∙ c .enum-told3 .given .1)
-
 same-length-25 : tie.Need-same-length-25
 same-length-25 c = search needs
 
@@ -179,12 +185,6 @@ same-length-27 c = search needs
 
 same-length-28 : tie.Need-same-length-28
 same-length-28 c = search needs
-
-returns-7 : tie.Need-returns-7
-returns-7 c =
-    let at = c .before .before .before .before .before .before .before .before .before .before .before .before .before .before .before .before .before .before .before .before .before .before .before .before .before .before .before .before .before .before .before .before .before .before .before .before .before in
-    let four = sym (length-map (at .args .divider .normal) _) ∙ at .good .1 .1 .1 .1 .0 .1 .1 .0 .1 .0 .1 in
-    replied-as (at .args .divider) _ _ _ _ _ _ _ four (sym (c .before .before .before .before .before .before .before .before .before .before .before .before .before .before .before .before .before .before .before .before .before .before .before .before .before .before .before .before .memory-sound .ensures) ∙ not-false _ (c .before .before .before .before .before .before .before .before .before .before .before .before .before .before .before .before .before .before .before .before .before .before .before .before .before .before .before .if1 .left)) _ (c .before .before .before .before .before .before .before .before .before .before .before .before .before .before .before .before .before .before .before .before .before .before .before .before .before .wide .ensures .0) (c .before .before .before .before .before .before .before .before .before .before .before .before .before .before .before .before .before .before .before .before .before .before .before .if2 .left) _ (c .before .before .before .before .before .before .before .before .before .before .before .before .before .before .before .before .before .before .before .before .wide2 .ensures .0) (sym (c .before .before .before .before .before .before .before .before .before .before .before .before .before .before .before .before .before .before .before .is-unit .ensures) ∙ not-false _ (c .before .before .before .before .before .before .before .before .before .before .before .before .before .before .before .before .before .before .if3 .left)) (sym (c .before .before .before .before .before .before .before .before .before .before .before .before .before .before .before .before .before .distance-kind .ensures) ∙ c .before .before .before .before .before .before .before .before .before .before .before .before .before .before .before .enum-told4 .given .1) (c .before .before .before .before .before .before .before .before .before .before .before .before .before .before .is-kept .ensures) (c .before .before .before .before .before .before .before .before .before .before .before .before .before .is-kept2 .ensures) (c .before .before .before .before .before .before .before .before .cut-finite .ensures)
 
 pub cut-spec : {M : Type 1} → statement M
 cut-spec =
