@@ -2,6 +2,7 @@
 // each. The file stdout is written from document 01.
 mod print;
 
+use elements::questions;
 use rules::ElementId;
 use rules::Hyperplane;
 use rules::PolytopeFate;
@@ -88,6 +89,27 @@ fn example(
     );
 }
 
+// M9: the greatest common sub-elements of some roots of the table at hand.
+fn common_line(roots: &[u16], counts: &[u16], points: &[f64], planes: &[f64], elements: &[u16]) {
+    let mut list = [0u16; 8];
+    print::text(b"M9");
+    print::list_reply(
+        questions::greatest_common_subelements(counts, points, planes, elements, roots, &mut list),
+        &list,
+    );
+}
+
+// M10: the edges of an element of the table at hand, in order.
+fn walk_line(root: usize, counts: &[u16], points: &[f64], planes: &[f64], elements: &[u16]) {
+    let mut list = [0u16; 8];
+    let root = ElementId(root);
+    print::text(b"M10");
+    print::list_reply(
+        walk::edges_in_order(counts, points, planes, elements, root, &mut list),
+        &list,
+    );
+}
+
 // M11: where On ends.
 fn sides() {
     print::text(b"M11");
@@ -96,7 +118,7 @@ fn sides() {
     print::line_end();
 }
 
-// The example session, then M1 to M8 and M11.
+// The example session, then M1 to M11.
 fn main() {
     let keep = PolytopeFate::Keep;
     let remove = PolytopeFate::Remove;
@@ -205,5 +227,10 @@ fn main() {
         &mut h,
         &mut e,
     );
+    start(2, &mut c, &mut p, &mut h, &mut e);
+    common_line(&[2, 6], &c, &p, &h, &e);
+    common_line(&[8], &c, &p, &h, &e);
+    common_line(&[0], &c, &p, &h, &e);
+    walk_line(8, &c, &p, &h, &e);
     sides();
 }

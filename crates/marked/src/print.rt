@@ -2,8 +2,11 @@
 use rules::CutReply;
 use rules::ElementCutOutput;
 use rules::ElementOrNone;
+use rules::ListReply;
 use rules::Side;
 use space::words::wide;
+ghost use Prim.Native.Nat.{_≤_};
+ghost use lib.ListN.{length};
 
 pub fn text(words: &[u8]) {
     io::write_all(1, words);
@@ -67,4 +70,29 @@ pub fn side(s: Side) {
         Side::On => text(b" on"),
         Side::Outside => text(b" outside"),
     }
+}
+
+// The front of a list.
+fn list(words: &[u16], n: usize)
+    requires { ⌜ n ≤ length (now words) ⌝ }
+{
+    for i in 0..n {
+        number(wide(words[i]) as u64);
+    }
+}
+
+// The numbers that a question gave.
+pub fn list_reply(r: ListReply, words: &[u16]) {
+    match r {
+        ListReply::Refused(no) => {
+            text(b" refused");
+            number(no as u64);
+        }
+        ListReply::Listed(n) => {
+            if n <= words.len() {
+                list(words, n);
+            }
+        }
+    }
+    line_end();
 }

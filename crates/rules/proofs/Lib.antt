@@ -15,6 +15,7 @@ pub mod CubeFaces
 pub mod CubeSound
 pub mod CubeSquares
 pub mod Extends
+pub mod FaceEdges
 pub mod Fewer
 pub mod Fine
 pub mod Good
@@ -31,8 +32,10 @@ pub mod OneCorner
 pub mod Promises
 pub mod Ranked
 pub mod Reach
+pub mod Common
 pub mod Refusals
 pub mod Repeat
+pub mod RingWalked
 pub mod Roomier
 pub mod RoundTrip
 pub mod Rows
@@ -40,3 +43,4 @@ pub mod Selves
 pub mod Stays
 pub mod StaysCut
 pub mod VertexSet
+pub mod WalkRound

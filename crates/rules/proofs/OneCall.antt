@@ -5,7 +5,7 @@ use mathlib.Core.Bool.{true, _&&_, Bool, false≢true, false, not}
 use mathlib.Core.Path.{_≡_, subst, sym, refl, _∙_, ap}
 use lib.Dec.{eqb, ltb}
 use lib.Ieee.{inf, fin, Float, nan}
-use lib.ListN.{length, take, drop}
+use lib.ListN.{length, getD, take, drop}
 use lib.Seq.{length-take-le}
 use Rattle.rules.specs.Limits.{Limits, Readable}
 use Rattle.rules.specs.Lists.{all, if_then_else_}
@@ -15,7 +15,7 @@ use Rattle.rules.specs.Sound.{sound, soundPlane}
 use Rattle.rules.specs.Memory.{Memory, soundMemory, decode, rightSize, sameMemory, encode}
 use Rattle.rules.specs.Cut.{refused, cut, done, Outcome}
 use Rattle.rules.specs.Replies.{dividerFits, dividerOf, distanceFits, written, cutReply}
-use Rattle.rules.specs.Promises.{Passes}
+use Rattle.rules.specs.Promises.{Passes, NamesBelow}
 use Rattle.rules.specs.declared.CutReply.{CutReply}
 use Rattle.rules.specs.declared.CutReply.the-variants.{Answered, Refused}
 use Rattle.rules.specs.declared.ElementCutOutput.{ElementCutOutput}
@@ -25,8 +25,8 @@ use Rattle.rules.proofs.Good.{Good, sound-good, good-sound}
 use Rattle.rules.proofs.Laws.{and-true, test-eq, and-right, and-left, eq-test, le-test, test-le}
 use Rattle.rules.proofs.Repeat.{NotInfinite}
 use Rattle.rules.proofs.RoundTrip.{written-sound, table-back}
-use Rattle.rules.proofs.Stays.{Stays}
-use Rattle.rules.proofs.StaysCut.{Any, cut-stays}
+use Rattle.rules.proofs.Stays.{Stays, Kept}
+use Rattle.rules.proofs.StaysCut.{NamesInUse, cut-stays}
 
 -- a divider that fits, and is no infinity, is a sound plane of the table
 pub divider-sound : (L : Limits) (d : ℕ) (h : Hyperplane) → d ≤ L .dimensions → dividerFits L d h ≡ true → NotInfinite (h .distance) → soundPlane d (dividerOf d h) ≡ true
@@ -131,13 +131,20 @@ module _ (L : Limits) (R : Readable L) (h : Hyperplane) (i o : Bool) (root : ℕ
   pub after-built : Built (decode L m) (it .table-after)
   after-built = done-built L (dividerOf (decode L m .dimension) h) i o root (decode L m) (it .table-after) a (it .cuts)
 
+  after-stays : Kept L NamesInUse (decode L m) a (it .table-after)
+  after-stays =
+      subst (Stays L NamesInUse (decode L m)) (it .cuts)
+      (cut-stays L (dividerOf (decode L m .dimension) h) i o root (decode L m) good-before (it .passes .used)
+      (divider-sound L (decode L m .dimension) h (le-test (decode L m .dimension) (L .dimensions) (good-before .high)) (it .passes .fits)))
+
   -- the table left is sound
   pub after-sound : sound L (it .table-after) ≡ true
-  after-sound =
-      good-sound L (it .table-after)
-      (subst (Stays L Any (decode L m)) (it .cuts)
-      (cut-stays L (dividerOf (decode L m .dimension) h) i o root (decode L m) good-before (it .passes .used)
-      (divider-sound L (decode L m .dimension) h (le-test (decode L m .dimension) (L .dimensions) (good-before .high)) (it .passes .fits))) .good)
+  after-sound = good-sound L (it .table-after) (after-stays .good)
+
+  -- what is answered is in use
+  pub names-in-use : NamesBelow (getD (m′ .counts) 1 0) a
+  unfolding encode
+  names-in-use = subst (λ (x : Memory). NamesBelow (getD (x .counts) 1 0) a) (sym (it .writes)) (after-stays .value)
 
   pub memory-sound : soundMemory L m′ ≡ true
   memory-sound = subst (λ (x : Memory). soundMemory L x ≡ true) (sym (it .writes)) (written-sound L R (it .table-after) after-sound)

@@ -22,13 +22,16 @@ use Rattle.rules.proofs.Good.{sound-good}
 use Rattle.rules.proofs.Laws.{and-left, and-right, le-test}
 use Rattle.rules.proofs.Missed.{sideBy, missed-cut}
 use Rattle.rules.proofs.OldRows.{old-entries-stay, enough-boundary}
-use Rattle.rules.proofs.OneCall.{sound-table, passed, divider-sound}
+use Rattle.rules.proofs.OneCall.{sound-table, passed, divider-sound, names-in-use}
 use Rattle.rules.proofs.OneCorner.{stays-unmatched}
 use Rattle.rules.proofs.Reach.{is-below}
+use Rattle.rules.proofs.Common.{sub-elements-are-least, vertex-set-is-the-union, common-are-greatest}
 use Rattle.rules.proofs.Refusals.{cube-by, cubeBy, refused-cut-leaves, refused-cube-leaves, refused-list-leaves, list-fills-front, cut-numbers, cube-numbers, list-numbers, facet-numbers, sound-numbers}
+use Rattle.rules.proofs.RingWalked.{ring-is-walked}
 use Rattle.rules.proofs.Roomier.{roomier-alike}
 use Rattle.rules.proofs.RoundTrip.{written-sound, table-back, memory-back}
 use Rattle.rules.proofs.VertexSet.{vertex-set-rises, no-facet-in-one-dimension}
+use Rattle.rules.proofs.WalkRound.{walk-goes-round}
 
 -- ---- the cube at its public reply
 
@@ -105,8 +108,14 @@ module _ (L : Limits) (R : Readable L) (H : HasCubes L) where
     read-back = (λ t s. (written-sound L R t s, table-back L R t s), memory-back L);
     roomier-alike = roomier-alike L;
     in-the-box = λ a b x na nb. clamp-between a b na nb x;
+    answers-are-in-use = λ h i o root m a m′ e. names-in-use L R h i o root m a m′ e;
     sub-elements-are-reached = λ t s e x u. is-below L t s e x u;
+    sub-elements-are-least = λ t s e u. sub-elements-are-least L t s e u;
+    vertex-set-is-the-union = λ t s e v u. vertex-set-is-the-union L t s e v u;
     vertex-set-rises = λ t s e. vertex-set-rises L t s e;
+    common-are-greatest = λ t s es xs u h. common-are-greatest L t s es xs u h;
+    walk-goes-round = walk-goes-round L;
+    ring-is-walked = ring-is-walked L;
     no-facet-in-one-dimension = no-facet-in-one-dimension L;
   }
 

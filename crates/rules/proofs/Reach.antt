@@ -1,4 +1,4 @@
--- The root and all reaches it: `isBelow` is reachability through boundaries, since a boundary element has the rank reaches.
+-- The root and all below it: `isBelow` is reachability through boundaries, since a boundary element has the rank below.
 use Prim.Native.Nat.{ℕ, _<_, suc, zero, suc-le-suc}
 use mathlib.Core.Bool.{Bool, true, false≢true}
 use mathlib.Core.List.{List, [], _∷_}
@@ -28,7 +28,7 @@ some-at p (y ∷ ys) h =
     up-one : {m n : ℕ} → m < n → suc m < suc n
     up-one h = suc-le-suc h
 
-at-some : (p : ℕ → Bool) (b : List ℕ) (n : ℕ) → n < length b → p (getD b n 0) ≡ true → any p b ≡ true
+pub at-some : (p : ℕ → Bool) (b : List ℕ) (n : ℕ) → n < length b → p (getD b n 0) ≡ true → any p b ≡ true
 at-some p [] n l h = absurd (not-suc-le-zero l)
 at-some p (y ∷ ys) zero l h = or-left (p y) (any p ys) h
 at-some p (y ∷ ys) (suc n) l h = or-right (p y) (any p ys) (at-some p ys n (le-of-suc-le-suc l) h)
@@ -49,7 +49,7 @@ module _ (L : Limits) (t : Table) (s : sound L t ≡ true) where
   top zero e = test-eq e e refl
   top (suc r) e = or-left (eqb e e) _ (test-eq e e refl)
 
-  no-boundary : (e n : ℕ) → rank t e ≡ 0 → e < elementCount t → n < length (boundary t e) → ⊥
+  pub no-boundary : (e n : ℕ) → rank t e ≡ 0 → e < elementCount t → n < length (boundary t e) → ⊥
   no-boundary e n k u l = go (element t e) refl
     where
       go : (y : Element) → element t e ≡ y → ⊥

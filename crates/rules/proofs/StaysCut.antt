@@ -16,15 +16,14 @@ use Rattle.rules.specs.Floats.{crossingPoint, within, farthest, sideOf, 
 use Rattle.rules.specs.Table.{element, rank, Table, Element, rankOf, planeOf, isPrimordial, Plane, corner, pointAt, pointOf, polytope, boundaryOf, elementCount}
 use Rattle.rules.specs.Sound.{soundPoint, soundFacet, namesPlane, namesNone, soundElement, soundPlane}
 use Rattle.rules.specs.Cut.{Cutting, cut, planeOfIntersection, newIntersection, addPolytope, sideOfCut, including, Gathered, rule7, rule6, given, crossEdge, addVertex, cutEnds, distanceOf, gathering, cornerAnswer, nothingYet, cutEdge, Step, cutBoundary, cutHigher, cutElement, Outcome, refused, done, cutCorner, cutFinite, addPlane, cutAtDistance}
-use Rattle.rules.specs.Marked.{Q}
-use Rattle.rules.specs.Examples.{two}
+use Rattle.rules.specs.Promises.{OneBelow, NamesBelow}
 use Rattle.rules.specs.Held.{Extends, SetOf, SomeOf, Sets, OutputOf, AllOf, Ranked}
 use Rattle.rules.specs.declared.Crossing.{Crossing}
 use Rattle.rules.specs.declared.Crossing.the-variants.{None as NoCrossing, At}
 use Rattle.rules.specs.declared.ElementCutOutput.{ElementCutOutput}
 use Rattle.rules.specs.declared.ElementCutOutput.the-variants.{NonFlush, Flush}
 use Rattle.rules.specs.declared.ElementOrNone.{ElementOrNone}
-use Rattle.rules.specs.declared.ElementOrNone.the-variants.{None}
+use Rattle.rules.specs.declared.ElementOrNone.the-variants.{None, Some}
 use Rattle.rules.proofs.Clamp.{clamp-within}
 use Rattle.rules.proofs.Corners.{corner-named}
 use Rattle.rules.proofs.Extends.{begins-length, extends-trans, count-more}
@@ -214,33 +213,42 @@ element-stays L c (suc r) e t k n l q =
     let f = facts L t e (suc r) k l q in
     higher-stays L c (suc r) (cutElement L c (suc r)) (λ b s g m u z. element-stays L c r b s g m u z) (element t e) t k n (f .owner) (f .bounds)
 
-abbrev pub Any : ElementCutOutput → Table → Type 0
-Any a t = Unit {0}
+-- what an answer names is in use
+abbrev pub NamesInUse : ElementCutOutput → Table → Type 0
+NamesInUse a t = NamesBelow (elementCount t) a
 
-pub stays-any : (L : Limits) (Q : ElementCutOutput → Table → Type 0) (t : Table) (o : Outcome ElementCutOutput) → Stays L Q t o → Stays L Any t o
-stays-any L Q t (refused n) h = tt
-stays-any L Q t (done a s) h = record { extends = h .extends; good = h .good; value = tt }
+some-in-use : (q : ℕ) (t : Table) (x : ElementOrNone) → SomeOf q x t → OneBelow (elementCount t) x
+some-in-use q t None h = tt
+some-in-use q t (Some e) h = h .0
 
-pub any-stays : (L : Limits) (c : Cutting) (r e : ℕ) (t : Table) → Good L t → c .number < length (t .planes) → e < elementCount t → rank t e ≡ r → Stays L Any t (cutElement L c r e t)
+output-in-use : (r : ℕ) (t : Table) (a : ElementCutOutput) → OutputOf r a t → NamesInUse a t
+output-in-use r t Flush h = tt
+output-in-use r t (NonFlush i o x) h = (some-in-use (suc r) t i (h .0), some-in-use (suc r) t o (h .1), some-in-use r t x (h .2))
+
+stays-in-use : (L : Limits) (r : ℕ) (t : Table) (o : Outcome ElementCutOutput) → Stays L (OutputOf r) t o → Stays L NamesInUse t o
+stays-in-use L r t (refused n) h = tt
+stays-in-use L r t (done a s) h = record { extends = h .extends; good = h .good; value = output-in-use r s a (h .value) }
+
+pub any-stays : (L : Limits) (c : Cutting) (r e : ℕ) (t : Table) → Good L t → c .number < length (t .planes) → e < elementCount t → rank t e ≡ r → Stays L NamesInUse t (cutElement L c r e t)
 unfolding cutElement cutCorner
-any-stays L c zero e t k n l q = stays-here L Any t _ k tt
-any-stays L c (suc r) e t k n l q = stays-any L (OutputOf (suc r)) t (cutElement L c (suc r) e t) (element-stays L c r e t k n l q)
+any-stays L c zero e t k n l q = stays-here L NamesInUse t _ k (output-in-use 0 t (cornerAnswer e (sideOf (distanceOf c (pointAt t e)))) (corner-answer t e (sideOf (distanceOf c (pointAt t e))) (l, ap suc q)))
+any-stays L c (suc r) e t k n l q = stays-in-use L (suc r) t (cutElement L c (suc r) e t) (element-stays L c r e t k n l q)
 
 -- ---- the whole cut
 
 module _ (L : Limits) (h : Plane) (i o : Bool) (root : ℕ) (t : Table) (k : Good L t) (u : root < elementCount t) where
-  pub finite-stays : soundPlane (t .dimension) h ≡ true → Stays L Any t (cutFinite L h i o root t)
+  pub finite-stays : soundPlane (t .dimension) h ≡ true → Stays L NamesInUse t (cutFinite L h i o root t)
   finite-stays s =
-      stays-next L (λ (n : ℕ) (v : Table). n < length (v .planes)) Any t (addPlane L h t) _ (plane-stays L t k h s) (λ n t₁ e₁ k₁ hn.
+      stays-next L (λ (n : ℕ) (v : Table). n < length (v .planes)) NamesInUse t (addPlane L h t) _ (plane-stays L t k h s) (λ n t₁ e₁ k₁ hn.
       any-stays L (record { divider = h; number = n; keepInside = i; keepOutside = o }) (rank t₁ root) root t₁ k₁ hn (le-trans u (count-more e₁)) refl)
 
-  pub distance-stays : (d : Float) → (NotInfinite d → soundPlane (t .dimension) h ≡ true) → Stays L Any t (cutAtDistance L h d i o root t)
-  distance-stays (inf false) s = stays-here L Any t _ k tt
-  distance-stays (inf true) s = stays-here L Any t _ k tt
+  pub distance-stays : (d : Float) → (NotInfinite d → soundPlane (t .dimension) h ≡ true) → Stays L NamesInUse t (cutAtDistance L h d i o root t)
+  distance-stays (inf false) s = stays-here L NamesInUse t _ k (u, tt, tt)
+  distance-stays (inf true) s = stays-here L NamesInUse t _ k (tt, u, tt)
   distance-stays nan s = finite-stays (s tt)
   distance-stays (fin b m e) s = finite-stays (s tt)
 
   -- the table after an unrefused cut is sound
-  pub cut-stays : (NotInfinite (h .distance) → soundPlane (t .dimension) h ≡ true) → Stays L Any t (cut L h i o root t)
+  pub cut-stays : (NotInfinite (h .distance) → soundPlane (t .dimension) h ≡ true) → Stays L NamesInUse t (cut L h i o root t)
   unfolding cut
   cut-stays s = distance-stays (h .distance) s

@@ -1,25 +1,26 @@
 -- What is promised of the rules, over any room: each statement in the words of the demands. Definitions only.
 -- proofs/Promises.antt proves the record at the end, for every room that can be read back and has place for its cubes: the desk's, and the large one.
-use Prim.Native.Nat.{ℕ, suc, _*_, _≤_, _<_}
+use Prim.Native.Nat.{ℕ, zero, suc, _*_, _≤_, _<_}
 use mathlib.Core.Path.{_≡_}
 use mathlib.Core.Bool.{Bool, true, false, _||_}
 use mathlib.Core.List.{List, [], _∷_}
+use lib.Dec.{eqb, ltb}
 use lib.ListN.{length, getD, take, drop}
 use lib.Ieee.{Float, inf, le, isNan}
 use Rattle.rules.specs.Limits.{Limits, Roomier}
-use Rattle.rules.specs.Lists.{member, rises}
+use Rattle.rules.specs.Lists.{all, any, member, occurrences, rises}
 use Rattle.rules.specs.Floats.{sideOf, signedDistance, clamp, pointMatches}
-use Rattle.rules.specs.Table.{ElementNumber, Plane, Table, rank, boundary, elementCount, pointAt}
+use Rattle.rules.specs.Table.{ElementNumber, VertexNumber, Plane, Table, vertexOf, element, rank, boundary, elementCount, pointAt}
 use Rattle.rules.specs.Sound.{sound}
 use Rattle.rules.specs.Memory.{Memory, elementWidth, planeWidth, encode, decode, soundMemory}
 use Rattle.rules.specs.Cut.{done, give, next, addPlane, cut, given}
-use Rattle.rules.specs.Questions.{answer, isBelow, vertexSet, primordialFacet}
+use Rattle.rules.specs.Questions.{answer, isBelow, vertexSet, greatestCommon, edgesInOrder, primordialFacet}
 use Rattle.rules.specs.Replies.{cutNumber, listNumber, isSoundReply, cubeReply, dividerFits, dividerOf, written, cutReply, subElementsReply, withRankReply, vertexSetReply, greatestCommonReply, edgesInOrderReply, primordialFacetReply}
 use Rattle.rules.specs.declared.Hyperplane.{Hyperplane}
 use Rattle.rules.specs.declared.Side.{Side}
 use Rattle.rules.specs.declared.Side.the-variants.{Inside, Outside}
 use Rattle.rules.specs.declared.ElementOrNone.{ElementOrNone}
-use Rattle.rules.specs.declared.ElementOrNone.the-variants.{None}
+use Rattle.rules.specs.declared.ElementOrNone.the-variants.{None, Some}
 use Rattle.rules.specs.declared.ElementCutOutput.{ElementCutOutput}
 use Rattle.rules.specs.declared.ElementCutOutput.the-variants.{Flush, NonFlush}
 use Rattle.rules.specs.declared.CutReply.{CutReply}
@@ -230,6 +231,20 @@ RoomierAlike L = (M : Limits) → Roomier L M
 
 -- ---- beside the definitions
 
+-- an element of the first n, or none; and so each of an answer's three places
+abbrev pub OneBelow : ℕ → ElementOrNone → Type 0
+OneBelow n None = Unit {0}
+OneBelow n (Some e) = e .0 < n
+
+abbrev pub NamesBelow : ℕ → ElementCutOutput → Type 0
+NamesBelow n Flush = Unit {0}
+NamesBelow n (NonFlush i o x) = OneBelow n i × OneBelow n o × OneBelow n x
+
+-- the elements of an answer are in use in the memory after it
+abbrev pub AnswersAreInUse : Limits → Type 0
+AnswersAreInUse L = (h : Hyperplane) (i o : Bool) (root : ElementNumber) (m : Memory) (a : ElementCutOutput) (m′ : Memory)
+    → cutReply L h i o root m ≡ (Answered a, m′) → NamesBelow (getD (m′ .counts) 1 0) a
+
 -- a crossing never lies outside the box of its edge: a clamped coordinate lies from the lesser end to the greater, whatever was clamped
 pub record Between (a b x : Float) : Type 0 where
   pub above : (le a x || le b x) ≡ true
@@ -248,8 +263,90 @@ abbrev pub SubElementsAreReached : Limits → Type 0
 SubElementsAreReached L = (t : Table) → sound L t ≡ true → (e x : ElementNumber) → e < elementCount t
     → (isBelow t e x ≡ true → Reaches t e x) × (Reaches t e x → isBelow t e x ≡ true)
 
+-- the least set that holds the root and, with an element, its boundary; all of it but the root is earlier than the root
+pub record LeastSet (t : Table) (e : ElementNumber) : Type 0 where
+  pub root : isBelow t e e ≡ true
+  pub closed : (x n : ElementNumber) → isBelow t e x ≡ true → n < length (boundary t x) → isBelow t e (border t x n) ≡ true
+  pub least : (S : ElementNumber → Bool) → S e ≡ true → ((x n : ElementNumber) → S x ≡ true → n < length (boundary t x) → S (border t x n) ≡ true)
+      → (x : ElementNumber) → isBelow t e x ≡ true → S x ≡ true
+  pub earlier : (x : ElementNumber) → isBelow t e x ≡ true → (x ≡ e → ⊥) → x < e
+
+abbrev pub SubElementsAreLeast : Limits → Type 0
+SubElementsAreLeast L = (t : Table) → sound L t ≡ true → (e : ElementNumber) → e < elementCount t → LeastSet t e
+
+-- the recursion of the Rust: a vertex element gives its vertex, any other element the union over its boundary
+unfoldable pub vertexBelow : Table → ℕ → ElementNumber → VertexNumber → Bool
+vertexBelow t zero e v = eqb v (vertexOf (element t e))
+vertexBelow t (suc r) e v = any (λ b. vertexBelow t r b v) (boundary t e)
+
+abbrev pub VertexSetIsTheUnion : Limits → Type 0
+VertexSetIsTheUnion L = (t : Table) → sound L t ≡ true → (e : ElementNumber) (v : VertexNumber) → e < elementCount t
+    → member v (vertexSet t e) ≡ vertexBelow t (rank t e) e v
+
 abbrev pub VertexSetRises : Limits → Type 0
 VertexSetRises L = (t : Table) → sound L t ≡ true → (e : ElementNumber) → rises (vertexSet t e) ≡ true
+
+-- below every input
+abbrev pub isCommon : Table → List ElementNumber → ElementNumber → Bool
+isCommon t es x = all (λ e. isBelow t e x) es
+
+-- members are common, of one rank, and all of it; no common element has a higher rank; where there are none, that rank is 0
+pub record Greatest (t : Table) (es xs : List ElementNumber) : Type 0 where
+  pub level : ℕ
+  pub members : (x : ElementNumber) → member x xs ≡ true → (x < elementCount t) × (rank t x ≡ level) × (isCommon t es x ≡ true)
+  pub whole : (x : ElementNumber) → x < elementCount t → 0 < rank t x → rank t x ≡ level → isCommon t es x ≡ true → member x xs ≡ true
+  pub highest : (x : ElementNumber) → x < elementCount t → level < rank t x → isCommon t es x ≡ true → ⊥
+
+abbrev pub CommonAreGreatest : Limits → Type 0
+CommonAreGreatest L = (t : Table) → sound L t ≡ true → (es xs : List ElementNumber) → all (λ e. ltb e (elementCount t)) es ≡ true
+    → greatestCommon t es ≡ answer xs → Greatest t es xs
+
+-- an edge taken from a vertex to a vertex: they are the two ends of its boundary, one way or the other
+pub data Runs (t : Table) (e : ElementNumber) : VertexNumber → VertexNumber → Type 0 where
+  forth : Runs t e (vertexOf (element t (border t e 0))) (vertexOf (element t (border t e 1)))
+  back : Runs t e (vertexOf (element t (border t e 1))) (vertexOf (element t (border t e 0)))
+
+-- as many pairs as edges, and each pair is the two vertices of the edge in its place
+abbrev pub Paired : Table → List ElementNumber → List (VertexNumber × VertexNumber) → Type 0
+Paired t [] [] = Unit {0}
+Paired t [] (p ∷ ps) = ⊥
+Paired t (e ∷ es) [] = ⊥
+Paired t (e ∷ es) (p ∷ ps) = Runs t e (p .0) (p .1) × Paired t es ps
+
+-- from the vertex a by these pairs to the vertex b: each pair starts where the one before ended
+abbrev pub Chain : VertexNumber → List (VertexNumber × VertexNumber) → VertexNumber → Type 0
+Chain a [] b = a ≡ b
+Chain a (p ∷ ps) b = (p .0 ≡ a) × Chain (p .1) ps b
+
+-- the lowest vertex of an element: the first of its vertex set, which rises
+abbrev pub lowest : Table → ElementNumber → VertexNumber
+lowest t e = getD (vertexSet t e) 0 0
+
+-- the edges in the order taken are the face's, each once; the pairs are their vertices, one after another, from the lowest vertex round to it
+pub record Walked (t : Table) (f : ElementNumber) (ps : List (VertexNumber × VertexNumber)) : Type 0 where
+  pub edges : List ElementNumber
+  pub once : (e : ElementNumber) → member e (boundary t f) ≡ true → occurrences e edges ≡ 1
+  pub own : (e : ElementNumber) → member e edges ≡ true → member e (boundary t f) ≡ true
+  pub ends : Paired t edges ps
+  pub round : Chain (lowest t f) ps (lowest t f)
+
+-- a walk that is answered goes round the face
+abbrev pub WalkGoesRound : Limits → Type 0
+WalkGoesRound L = (t : Table) → sound L t ≡ true → (f : ElementNumber) (ps : List (VertexNumber × VertexNumber)) → f < elementCount t
+    → edgesInOrder t f ≡ answer ps → Walked t f ps
+
+-- the edges of a face hang together: a set that holds one of them, and with an edge each one that shares a corner with it, holds all
+abbrev pub OneRing : Table → ElementNumber → Type 0
+OneRing t f = (S : ElementNumber → Bool) (e : ElementNumber) → member e (boundary t f) ≡ true → S e ≡ true
+    → ((x y v : ElementNumber) → member x (boundary t f) ≡ true → member y (boundary t f) ≡ true
+    → member v (boundary t x) ≡ true → member v (boundary t y) ≡ true → S x ≡ true → S y ≡ true)
+    → (x : ElementNumber) → member x (boundary t f) ≡ true → S x ≡ true
+
+-- a face is walked, with an answer and never 7, when its edges are one ring, and only then
+abbrev pub RingIsWalked : Limits → Type 0
+RingIsWalked L = (t : Table) → sound L t ≡ true → (f : ElementNumber) → f < elementCount t → rank t f ≡ 2
+    → (OneRing t f → (ps : List (VertexNumber × VertexNumber)) × (edgesInOrder t f ≡ answer ps))
+    × ((ps : List (VertexNumber × VertexNumber)) → edgesInOrder t f ≡ answer ps → OneRing t f)
 
 -- always no in one dimension
 abbrev pub NoFacetInOneDimension : Limits → Type 0
@@ -282,6 +379,12 @@ pub record Promises (L : Limits) : Type 0 where
   pub read-back : ReadBack L
   pub roomier-alike : RoomierAlike L
   pub in-the-box : InTheBox
+  pub answers-are-in-use : AnswersAreInUse L
   pub sub-elements-are-reached : SubElementsAreReached L
+  pub sub-elements-are-least : SubElementsAreLeast L
+  pub vertex-set-is-the-union : VertexSetIsTheUnion L
   pub vertex-set-rises : VertexSetRises L
+  pub common-are-greatest : CommonAreGreatest L
+  pub walk-goes-round : WalkGoesRound L
+  pub ring-is-walked : RingIsWalked L
   pub no-facet-in-one-dimension : NoFacetInOneDimension L

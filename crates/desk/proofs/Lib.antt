@@ -1,0 +1,2 @@
+pub mod CutWords
+pub mod ListWords

@@ -1,0 +1,78 @@
+-- The reply, in one number; what is named fits, since it is in use.
+use Rattle.desk.proofs.CutWords.{names-low, word-refused, word-answered}
+use borrow.Author.Needs.{needs}
+use Rattle.desk.proofs.desk_cut.Statement.{statement}
+use Rattle.desk.proofs.desk_cut.Tie as tie
+
+fate-requires : tie.Need-fate-requires
+fate-requires c κs = search needs
+
+fate-requires-2 : tie.Need-fate-requires-2
+fate-requires-2 c κs = search needs
+
+cut-requires : tie.Need-cut-requires
+cut-requires c κs = search needs
+
+enum-known-reply : tie.Need-enum-known-reply
+enum-known-reply c = search needs
+
+cast-result : tie.Need-cast-result
+cast-result c = search needs
+
+enum-known-reply-2 : tie.Need-enum-known-reply-2
+enum-known-reply-2 c = search needs
+
+output-word-requires : tie.Need-output-word-requires
+output-word-requires c κs = names-low _ _ _ _ _ _ (c .before .before .before .before .before .before .before .before .before .before .before .cut .ensures) _ (c .before .reply2 .given .1)
+
+same-length : tie.Need-same-length
+same-length c = search needs
+
+same-length-2 : tie.Need-same-length-2
+same-length-2 c = search needs
+
+same-length-3 : tie.Need-same-length-3
+same-length-3 c = search needs
+
+same-length-4 : tie.Need-same-length-4
+same-length-4 c = search needs
+
+returns : tie.Need-returns
+returns c = word-refused _ _ _ _ _ _ (c .before .before .before .before .before .before .before .before .before .before .before .cut .ensures) (c .before .before .before .before .before .before .before .before .before .before .before .before .before .before .before .before .before .fate .ensures) (c .before .before .before .before .before .before .before .before .before .before .before .before .before .before .before .before .fate2 .ensures) _ (c .before .reply .given .1)
+
+same-length-5 : tie.Need-same-length-5
+same-length-5 c = search needs
+
+same-length-6 : tie.Need-same-length-6
+same-length-6 c = search needs
+
+same-length-7 : tie.Need-same-length-7
+same-length-7 c = search needs
+
+same-length-8 : tie.Need-same-length-8
+same-length-8 c = search needs
+
+returns-2 : tie.Need-returns-2
+returns-2 c = word-answered _ _ _ _ _ _ (c .before .before .before .before .before .before .before .before .before .before .before .before .cut .ensures) (c .before .before .before .before .before .before .before .before .before .before .before .before .before .before .before .before .before .before .fate .ensures) (c .before .before .before .before .before .before .before .before .before .before .before .before .before .before .before .before .before .fate2 .ensures) _ _ (c .before .before .reply2 .given .1) (c .output-word .ensures)
+
+pub desk-cut-spec : {M : Type 1} → statement M
+desk-cut-spec =
+    tie.close
+    (tie.spec
+    fate-requires
+    fate-requires-2
+    cut-requires
+    enum-known-reply
+    cast-result
+    enum-known-reply-2
+    output-word-requires
+    same-length
+    same-length-2
+    same-length-3
+    same-length-4
+    returns
+    same-length-5
+    same-length-6
+    same-length-7
+    same-length-8
+    returns-2)

@@ -1,0 +1,60 @@
+-- The one number that a host is given for a reply. Definitions only.
+use Prim.Native.Nat.{ℕ, _+_, _*_, _≤_}
+use mathlib.Core.Bool.{Bool, not, cond}
+use mathlib.Core.List.{List, [], _∷_}
+use lib.Dec.{eqb}
+use lib.Ieee.{Float}
+use Rattle.rules.specs.Memory.{Memory}
+use Rattle.rules.specs.declared.Hyperplane.{Hyperplane}
+use Rattle.rules.specs.declared.ElementOrNone.{ElementOrNone}
+use Rattle.rules.specs.declared.ElementOrNone.the-variants.{None, Some}
+use Rattle.rules.specs.declared.ElementCutOutput.{ElementCutOutput}
+use Rattle.rules.specs.declared.ElementCutOutput.the-variants.{Flush, NonFlush}
+use Rattle.rules.specs.declared.CutReply.{CutReply}
+use Rattle.rules.specs.declared.CutReply.the-variants.{Refused, Answered}
+use Rattle.rules.specs.declared.ListReply.{ListReply}
+use Rattle.rules.specs.declared.ListReply.the-variants.{Refused as ListRefused, Listed}
+use Rattle.rules.specs.declared.FacetReply.{FacetReply}
+use Rattle.rules.specs.declared.FacetReply.the-variants.{Refused as FacetRefused, Has}
+
+-- an element's number, FFFF for none
+abbrev pub elementWord : ElementOrNone → ℕ
+elementWord None = 0xffff
+elementWord (Some e) = e .0
+
+-- bit 8 for flush; else inside in bits 16 to 31, outside in 32 to 47, intersection in 48 to 63
+abbrev pub outputWord : ElementCutOutput → ℕ
+outputWord Flush = 0x100
+outputWord (NonFlush i o x) = elementWord i * 0x10000 + elementWord o * 0x100000000 + elementWord x * 0x1000000000000
+
+-- bits 0 to 7 are the reply's number
+abbrev pub cutWord : CutReply × Memory → ℕ × Memory
+cutWord (Refused n, m) = (n, m)
+cutWord (Answered a, m) = (outputWord a, m)
+
+-- bits 0 to 7 are the reply's number, and above them stands the size of the list
+abbrev pub listNumber : ListReply → ℕ
+listNumber (ListRefused n) = n
+listNumber (Listed n) = n * 0x100
+
+-- beside it, the list room
+abbrev pub listWord : ListReply × List ℕ → ℕ × List ℕ
+listWord (r, room) = (listNumber r, room)
+
+-- bits 0 to 7 are the reply's number, bit 8 the answer
+abbrev pub facetWord : FacetReply → ℕ
+facetWord (FacetRefused n) = n
+facetWord (Has b) = cond b 0x100 0
+
+-- the divider, of its four components and its distance
+abbrev pub dividerWith : Float → Float → Float → Float → Float → Hyperplane
+dividerWith n0 n1 n2 n3 distance = record { normal = n0 ∷ n1 ∷ n2 ∷ n3 ∷ []; distance = distance }
+
+-- 0 removes a side, and any other byte keeps it
+abbrev pub keptBy : ℕ → Bool
+keptBy byte = not (eqb byte 0)
+
+-- a list of no more than 512 numbers, or a refusal
+abbrev pub SizeFits : ListReply → Type 0
+SizeFits (ListRefused n) = Unit {0}
+SizeFits (Listed n) = n ≤ 512

@@ -1,0 +1,254 @@
+// Every entry point for hosts in C and Rust: plain numbers, and slices as a pointer and a length.
+use elements::questions;
+use rules::CutReply;
+use rules::ElementCutOutput;
+use rules::ElementId;
+use rules::ElementOrNone;
+use rules::FacetReply;
+use rules::Hyperplane;
+use rules::ListReply;
+use rules::PolytopeFate;
+use walk::facet;
+ghost use Prim.Native.Nat.{_<_};
+ghost use mathlib.Core.Path.{_≡_};
+ghost use Rattle.rules.specs.Limits.{desk};
+ghost use Rattle.rules.specs.Held.{memoryOf};
+ghost use Rattle.rules.specs.Replies.{isKept, isSoundReply, cubeReply, cutReply, subElementsReply, withRankReply, vertexSetReply, greatestCommonReply, edgesInOrderReply, primordialFacetReply};
+ghost use Rattle.rules.specs.Promises.{OneBelow, NamesBelow};
+ghost use Rattle.desk.specs.Words.{elementWord, outputWord, cutWord, listNumber, SizeFits, listWord, facetWord, dividerWith, keptBy};
+
+// 0 removes a side, and any other byte keeps it.
+fn fate(byte: u8) -> PolytopeFate
+    ensures { λ r. ⌜ isKept r ≡ keptBy byte ⌝ }
+{
+    if byte == 0 {
+        return PolytopeFate::Remove;
+    }
+    PolytopeFate::Keep
+}
+
+fn element_word(e: ElementOrNone) -> u64
+    requires { ⌜ OneBelow 512 e ⌝ }
+    ensures { λ r. ⌜ (r ≡ elementWord e) × (r < 65536) ⌝ }
+{
+    match e {
+        ElementOrNone::None => 0xffff,
+        ElementOrNone::Some(id) => id.0 as u64,
+    }
+}
+
+fn output_word(a: ElementCutOutput) -> u64
+    requires { ⌜ NamesBelow 512 a ⌝ }
+    ensures { λ r. ⌜ r ≡ outputWord a ⌝ }
+{
+    match a {
+        ElementCutOutput::Flush => 0x100,
+        ElementCutOutput::NonFlush {
+            inside,
+            outside,
+            intersection,
+        } => {
+            let i = element_word(inside);
+            let o = element_word(outside);
+            let x = element_word(intersection);
+            i * 0x10000 + o * 0x1_0000_0000 + x * 0x1_0000_0000_0000
+        }
+    }
+}
+
+// The reply's number, or the size of the list above its eight bits.
+fn list_word(r: ListReply) -> u32
+    requires { ⌜ SizeFits r ⌝ }
+    ensures { λ w. ⌜ w ≡ listNumber r ⌝ }
+{
+    match r {
+        ListReply::Refused(no) => no as u32,
+        ListReply::Listed(n) => n as u32 * 0x100,
+    }
+}
+
+#[no_mangle]
+pub extern "C" fn desk_is_sound(
+    counts: &[u16],
+    points: &[f64],
+    planes: &[f64],
+    elements: &[u16],
+) -> u32
+    ensures { λ r. ⌜ r ≡ isSoundReply desk (memoryOf (now (counts .entry)) (now (points .entry)) (now (planes .entry)) (now (elements .entry))) ⌝ }
+{
+    soundness::sound::is_sound(counts, points, planes, elements) as u32
+}
+
+#[no_mangle]
+pub extern "C" fn desk_cube(
+    counts: &mut [u16],
+    points: &mut [f64],
+    planes: &mut [f64],
+    elements: &mut [u16],
+    ndim: u8,
+    radius: f64,
+) -> u32
+    ensures { λ r. ⌜ (r, memoryOf (now (counts .exit)) (now (points .exit)) (now (planes .exit)) (now (elements .exit))) ≡ cubeReply desk ndim radius (memoryOf (now (counts .entry)) (now (points .entry)) (now (planes .entry)) (now (elements .entry))) ⌝ }
+{
+    let dimension = ndim as u64;
+    cube::with_primordial_cube_radius(dimension, radius, counts, points, planes, elements) as u32
+}
+
+#[no_mangle]
+pub extern "C" fn desk_cut(
+    counts: &mut [u16],
+    points: &mut [f64],
+    planes: &mut [f64],
+    elements: &mut [u16],
+    n0: f64,
+    n1: f64,
+    n2: f64,
+    n3: f64,
+    distance: f64,
+    inside: u8,
+    outside: u8,
+    root: u16,
+) -> u64
+    ensures { λ r. ⌜ (r, memoryOf (now (counts .exit)) (now (points .exit)) (now (planes .exit)) (now (elements .exit))) ≡ cutWord (cutReply desk (dividerWith n0 n1 n2 n3 distance) (keptBy inside) (keptBy outside) root (memoryOf (now (counts .entry)) (now (points .entry)) (now (planes .entry)) (now (elements .entry)))) ⌝ }
+{
+    let normal = [n0, n1, n2, n3];
+    let divider = Hyperplane { normal, distance };
+    let i = fate(inside);
+    let o = fate(outside);
+    let root = ElementId(root as usize);
+    let reply = cut::cut(counts, points, planes, elements, divider, i, o, root);
+    match reply {
+        CutReply::Refused(no) => no as u64,
+        CutReply::Answered(a) => output_word(a),
+    }
+}
+
+#[no_mangle]
+pub extern "C" fn desk_subelements_of(
+    counts: &[u16],
+    points: &[f64],
+    planes: &[f64],
+    elements: &[u16],
+    root: u16,
+    list: &mut [u16],
+) -> u32
+    ensures { λ r. ⌜ (r, now (list .exit)) ≡ listWord (subElementsReply desk (memoryOf (now (counts .entry)) (now (points .entry)) (now (planes .entry)) (now (elements .entry))) root (now (list .entry))) ⌝ }
+{
+    let reply = questions::subelements_of(
+        counts,
+        points,
+        planes,
+        elements,
+        ElementId(root as usize),
+        list,
+    );
+    list_word(reply)
+}
+
+#[no_mangle]
+pub extern "C" fn desk_subelements_with_rank(
+    counts: &[u16],
+    points: &[f64],
+    planes: &[f64],
+    elements: &[u16],
+    root: u16,
+    rank: u8,
+    list: &mut [u16],
+) -> u32
+    ensures { λ r. ⌜ (r, now (list .exit)) ≡ listWord (withRankReply desk (memoryOf (now (counts .entry)) (now (points .entry)) (now (planes .entry)) (now (elements .entry))) rank root (now (list .entry))) ⌝ }
+{
+    let reply = questions::subelements_with_rank(
+        counts,
+        points,
+        planes,
+        elements,
+        ElementId(root as usize),
+        rank,
+        list,
+    );
+    list_word(reply)
+}
+
+#[no_mangle]
+pub extern "C" fn desk_vertex_set(
+    counts: &[u16],
+    points: &[f64],
+    planes: &[f64],
+    elements: &[u16],
+    root: u16,
+    list: &mut [u16],
+) -> u32
+    ensures { λ r. ⌜ (r, now (list .exit)) ≡ listWord (vertexSetReply desk (memoryOf (now (counts .entry)) (now (points .entry)) (now (planes .entry)) (now (elements .entry))) root (now (list .entry))) ⌝ }
+{
+    let reply = questions::vertex_set(
+        counts,
+        points,
+        planes,
+        elements,
+        ElementId(root as usize),
+        list,
+    );
+    list_word(reply)
+}
+
+#[no_mangle]
+pub extern "C" fn desk_greatest_common_subelements(
+    counts: &[u16],
+    points: &[f64],
+    planes: &[f64],
+    elements: &[u16],
+    roots: &[u16],
+    list: &mut [u16],
+) -> u32
+    ensures { λ r. ⌜ (r, now (list .exit)) ≡ listWord (greatestCommonReply desk (memoryOf (now (counts .entry)) (now (points .entry)) (now (planes .entry)) (now (elements .entry))) (now (roots .entry)) (now (list .entry))) ⌝ }
+{
+    let reply = questions::greatest_common_subelements(
+        counts,
+        points,
+        planes,
+        elements,
+        roots,
+        list,
+    );
+    list_word(reply)
+}
+
+#[no_mangle]
+pub extern "C" fn desk_edges_in_order(
+    counts: &[u16],
+    points: &[f64],
+    planes: &[f64],
+    elements: &[u16],
+    root: u16,
+    list: &mut [u16],
+) -> u32
+    ensures { λ r. ⌜ (r, now (list .exit)) ≡ listWord (edgesInOrderReply desk (memoryOf (now (counts .entry)) (now (points .entry)) (now (planes .entry)) (now (elements .entry))) root (now (list .entry))) ⌝ }
+{
+    let reply = walk::edges_in_order(
+        counts,
+        points,
+        planes,
+        elements,
+        ElementId(root as usize),
+        list,
+    );
+    list_word(reply)
+}
+
+#[no_mangle]
+pub extern "C" fn desk_has_primordial_facet(
+    counts: &[u16],
+    points: &[f64],
+    planes: &[f64],
+    elements: &[u16],
+    root: u16,
+) -> u32
+    ensures { λ r. ⌜ r ≡ facetWord (primordialFacetReply desk (memoryOf (now (counts .entry)) (now (points .entry)) (now (planes .entry)) (now (elements .entry))) root) ⌝ }
+{
+    let root = ElementId(root as usize);
+    let reply = facet::has_primordial_facet(counts, points, planes, elements, root);
+    match reply {
+        FacetReply::Refused(no) => no as u32,
+        FacetReply::Has(b) => { if b { 0x100 } else { 0 } }
+    }
+}

@@ -1,0 +1,188 @@
+-- The room behind what is listed takes what is left to list: after each step the whole list is still what is to come.
+use Prim.Native.Nat.{ℕ, suc, _+_, _*_, _-_, _/_, _^_, _<_, _≤_}
+use mathlib.Core.List.{List, [], _∷_, _++_}
+use mathlib.Core.Path.{_≡_, refl, sym, ap, ap₂, subst, _∙_}
+use native.Mathlib.Nat.{div-div-eq-div-mul, div-lt-iff-lt-mul, pos-of-ne-zero}
+use native.Mathlib.Numerals.{add-one}
+use native.Mathlib.Omega.{arith}
+use lib.Count.{trailingZeros}
+use lib.Dec.{leb}
+use lib.ListN.{length, getD, set, drop, length-set, length-append}
+use lib.Pow.{pow-pos, pow-add}
+use lib.Seq.{sets, sets-eq, length-sets}
+use Rattle.rules.specs.Questions.{answer}
+use Rattle.rules.specs.Replies.{listed}
+use Rattle.rules.specs.declared.ListReply.the-variants.{Refused, Listed}
+use Rattle.rules.proofs.Laws.{if-true, if-false, test-le, test-above}
+use Rattle.elements.specs.Marks.{bitsFrom, wordsFrom, members, CountOf}
+use Rattle.elements.proofs.MemberLaws.{bits-none, first-bit, first-place}
+
+-- ---- one word
+
+-- left holds the digits from x on, and they go to the places from at on
+pub record Listing (l₀ : List ℕ) (from word base : ℕ) (l : List ℕ) (at x left : ℕ) : Type 0 where
+  pub long : length l ≡ length l₀
+  pub low : base ≤ x
+  pub span : x ≤ base + 64
+  pub fits : left < 2 ^ (base + 64 - x)
+  pub size : at + length (bitsFrom (base + 64 - x) left x) ≡ from + length (bitsFrom 64 word base)
+  pub list : sets l at (bitsFrom (base + 64 - x) left x) ≡ sets l₀ from (bitsFrom 64 word base)
+
+pub listing-start : (l : List ℕ) (from word base : ℕ) → word < 2 ^ 64 → Listing l from word base l from base word
+listing-start l from word base h =
+    let e : 64 ≡ base + 64 - base = omega arith in record {
+      long = refl;
+      low = omega arith;
+      span = omega arith;
+      fits = subst (λ (k : ℕ). word < 2 ^ k) e h;
+      size = ap (λ (k : ℕ). from + length (bitsFrom k word base)) (sym e);
+      list = ap (λ (k : ℕ). sets l from (bitsFrom k word base)) (sym e);
+    }
+
+module _ (l₀ : List ℕ) (from word base : ℕ) (l : List ℕ) (at x left : ℕ) (i : Listing l₀ from word base l at x left) where
+  pub listing-end : left ≡ 0 → (at ≡ from + length (bitsFrom 64 word base)) × (l ≡ sets l₀ from (bitsFrom 64 word base))
+  listing-end e =
+      let none : bitsFrom (base + 64 - x) left x ≡ [] = ap (λ (w : ℕ). bitsFrom (base + 64 - x) w x) e ∙ bits-none (base + 64 - x) x in
+      ((let s = i .size in let n = ap length none in omega (arith, s, n)), sym (ap (sets l at) none) ∙ i .list)
+
+  module _ (z : ℕ) (q : z ≡ trailingZeros 64 left) (n : left ≡ 0 → ⊥) where
+    abbrev width : ℕ
+    width = base + 64 - x
+
+    some : 0 < left
+    some = pos-of-ne-zero n
+
+    placed : (z ≡ trailingZeros width left) × (trailingZeros width left < width)
+    placed = let s = i .low in let f = first-place width 64 left (i .fits) some (omega (arith, s)) in (q ∙ f .0, f .1)
+
+    pub zeros-inside : x + z < base + 64
+    zeros-inside = let e = placed .0 in let f = placed .1 in let s = i .span in omega (arith, e, f, s)
+
+    split : bitsFrom width left x ≡ (x + z) ∷ bitsFrom (base + 64 - (x + z + 1)) (left / 2 ^ z / 2 ^ 1) (x + z + 1)
+    split =
+        first-bit width left x (i .fits) some
+        ∙ ap (λ (y : ℕ). (x + y) ∷ bitsFrom (width - (y + 1)) (left / 2 ^ (y + 1)) (x + y + 1)) (sym (placed .0))
+        ∙ ap₂ (λ (k w : ℕ). (x + z) ∷ bitsFrom k w (x + z + 1)) (let e : width - (z + 1) ≡ base + 64 - (x + z + 1) = omega arith in e)
+        (ap (λ (m : ℕ). left / m) (pow-add 2 z 1) ∙ sym (div-div-eq-div-mul left (2 ^ z) (2 ^ 1)))
+
+    pub listing-room : from + length (bitsFrom 64 word base) ≤ length l₀ → at < length l
+    listing-room r =
+        let s = ap length split in
+        let e = i .size in
+        let m = i .long in
+        omega (arith, s, e, m, r)
+
+    pub listing-next : Listing l₀ from word base (set l at (x + z)) (at + 1) (x + z + 1) (left / 2 ^ z / 2 ^ 1)
+    listing-next = record {
+      long = length-set l at (x + z) ∙ i .long;
+      low = let b = i .low in omega (arith, b);
+      span = let h = zeros-inside in omega (arith, h);
+      fits = small;
+      size = let e = i .size in let s = ap length split in omega (arith, e, s);
+      list = ap (λ (k : ℕ). sets (set l at (x + z)) k (bitsFrom (base + 64 - (x + z + 1)) (left / 2 ^ z / 2 ^ 1) (x + z + 1))) (add-one at) ∙ sym (ap (sets l at) split) ∙ i .list;
+    }
+      where
+        small : left / 2 ^ z / 2 ^ 1 < 2 ^ (base + 64 - (x + z + 1))
+        small =
+            let h = zeros-inside in
+            let e : width ≡ base + 64 - (x + z + 1) + (z + 1) = omega (arith, h) in
+            subst (λ (v : ℕ). v < 2 ^ (base + 64 - (x + z + 1))) (ap (λ (m : ℕ). left / m) (pow-add 2 z 1) ∙ sym (div-div-eq-div-mul left (2 ^ z) (2 ^ 1)))
+            (div-lt-iff-lt-mul {k = 2 ^ (z + 1)} {x = left} {y = 2 ^ (base + 64 - (x + z + 1))} (pow-pos (z + 1)) .1
+            (subst (λ (v : ℕ). left < v) (ap (λ (k : ℕ). 2 ^ k) e ∙ pow-add 2 (base + 64 - (x + z + 1)) (z + 1)) (i .fits)))
+
+-- ---- all words
+
+words-on : (n j : ℕ) (ws : List ℕ) → wordsFrom (suc n) j ws ≡ bitsFrom 64 (getD ws j 0) (j * 64) ++ wordsFrom n (j + 1) ws
+unfolding wordsFrom
+words-on n j ws = refl
+
+words-end : (j : ℕ) (ws : List ℕ) → wordsFrom 0 j ws ≡ []
+unfolding wordsFrom
+words-end j ws = refl
+
+sets-append : (xs ys l : List ℕ) (at : ℕ) → sets l at (xs ++ ys) ≡ sets (sets l at xs) (at + length xs) ys
+sets-append [] ys l at = ap (λ (k : ℕ). sets l k ys) (let q : at ≡ at + 0 = omega arith in q)
+sets-append (x ∷ xs) ys l at = sets-append xs ys (set l at x) (suc at) ∙ ap (λ (k : ℕ). sets (sets (set l at x) (suc at) xs) k ys) (let q : suc at + length xs ≡ at + suc (length xs) = omega arith in q)
+
+-- the words from w on are left, and go to the places from at on
+pub record Filling (ws l₀ l : List ℕ) (at w : ℕ) : Type 0 where
+  pub long : length l ≡ length l₀
+  pub size : at + length (wordsFrom (8 - w) w ws) ≡ length (members ws)
+  pub list : sets l at (wordsFrom (8 - w) w ws) ≡ sets l₀ 0 (members ws)
+
+pub filling-start : (ws l : List ℕ) → Filling ws l l 0 0
+unfolding members
+filling-start ws l = record { long = refl; size = omega arith; list = refl }
+
+module _ (ws l₀ l : List ℕ) (at w : ℕ) (f : Filling ws l₀ l at w) where
+  pub filling-end : w ≡ 8 → l ≡ sets l₀ 0 (members ws)
+  filling-end e =
+      let none : wordsFrom (8 - w) w ws ≡ [] = ap (λ (n : ℕ). wordsFrom n w ws) (let q : 8 - w ≡ 0 = omega (arith, e) in q) ∙ words-end w ws in
+      sym (ap (sets l at) none) ∙ f .list
+
+  module _ (less : w < 8) where
+    word : List ℕ
+    word = bitsFrom 64 (getD ws w 0) (w * 64)
+
+    word-split : wordsFrom (8 - w) w ws ≡ word ++ wordsFrom (8 - (w + 1)) (w + 1) ws
+    unfolding word
+    word-split = ap (λ (n : ℕ). wordsFrom n w ws) (let q : 8 - w ≡ suc (8 - (w + 1)) = omega (arith, less) in q) ∙ words-on (8 - (w + 1)) w ws
+
+    lengths : at + length word + length (wordsFrom (8 - (w + 1)) (w + 1) ws) ≡ length (members ws)
+    lengths = let e = ap length word-split in let s = length-append word (wordsFrom (8 - (w + 1)) (w + 1) ws) in let z = f .size in omega (arith, e, s, z)
+
+    pub filling-room : length (members ws) ≤ length l₀ → at + length (bitsFrom 64 (getD ws w 0) (w * 64)) ≤ length l
+    unfolding word
+    filling-room r = let e = lengths in let m = f .long in omega (arith, e, m, r)
+
+    pub filling-next : (at′ : ℕ) (l′ : List ℕ) → at′ ≡ at + length (bitsFrom 64 (getD ws w 0) (w * 64)) → l′ ≡ sets l at (bitsFrom 64 (getD ws w 0) (w * 64)) → Filling ws l₀ l′ at′ (w + 1)
+    unfolding word
+    filling-next at′ l′ p q = record {
+      long = ap length q ∙ length-sets l at word ∙ f .long;
+      size = ap (λ (k : ℕ). k + length (wordsFrom (8 - (w + 1)) (w + 1) ws)) p ∙ lengths;
+      list =
+          ap₂ (λ (m : List ℕ) (k : ℕ). sets m k (wordsFrom (8 - (w + 1)) (w + 1) ws)) q p
+          ∙ sym (sets-append word (wordsFrom (8 - (w + 1)) (w + 1) ws) l at)
+          ∙ sym (ap (sets l at) word-split)
+          ∙ f .list;
+    }
+
+-- ---- the size
+
+-- n marks so far, the words from w on are left
+pub record Counting (ws : List ℕ) (n w : ℕ) : Type 0 where
+  pub size : n + length (wordsFrom (8 - w) w ws) ≡ length (members ws)
+  pub most : n ≤ 64 * w
+
+pub counting-start : (ws : List ℕ) → Counting ws 0 0
+unfolding members
+counting-start ws = record { size = omega arith; most = omega arith }
+
+pub counting-next : (ws : List ℕ) (n w c : ℕ) → w < 8 → CountOf (getD ws w 0) c → Counting ws n w → Counting ws (n + c) (w + 1)
+counting-next ws n w c less h k = record {
+  size =
+      let s = ap (λ (j : ℕ). length (wordsFrom j w ws)) (let q : 8 - w ≡ suc (8 - (w + 1)) = omega (arith, less) in q) in
+      let t = ap length (words-on (8 - (w + 1)) w ws) in
+      let u = length-append (bitsFrom 64 (getD ws w 0) (w * 64)) (wordsFrom (8 - (w + 1)) (w + 1) ws) in
+      let v = h .of (w * 64) in
+      let z = k .size in
+      omega (arith, s, t, u, v, z);
+  most = let z = k .most in let m = h .most in omega (arith, z, m);
+}
+
+pub counting-end : (ws : List ℕ) (n w : ℕ) → w ≡ 8 → Counting ws n w → n ≡ length (members ws)
+counting-end ws n w e k =
+    let z = k .size in
+    let s = ap (λ (j : ℕ). length (wordsFrom j w ws)) (let q : 8 - w ≡ 0 = omega (arith, e) in q) in
+    let t = ap length (words-end w ws) in
+    omega (arith, z, s, t)
+
+-- ---- the reply
+
+pub no-room : (xs l : List ℕ) (n : ℕ) → n ≡ length xs → length l < n → (Refused 12, l) ≡ listed (answer xs) l
+no-room xs l n e h = sym (if-false (leb (length xs) (length l)) (Listed (length xs), xs ++ drop (length xs) l) (Refused 12, l) (test-above (length xs) (length l) (omega (arith, e, h))))
+
+pub in-front : (xs l l′ : List ℕ) (n : ℕ) → n ≡ length xs → n ≤ length l → l′ ≡ sets l 0 xs → (Listed n, l′) ≡ listed (answer xs) l
+in-front xs l l′ n e h q =
+    ap₂ (λ (k : ℕ) (m : List ℕ). (Listed k, m)) e (q ∙ sets-eq xs l 0 (omega (arith, e, h)) ∙ ap (λ (k : ℕ). xs ++ drop k l) (let z : 0 + length xs ≡ length xs = omega arith in z))
+    ∙ sym (if-true (leb (length xs) (length l)) (Listed (length xs), xs ++ drop (length xs) l) (Refused 12, l) (test-le (length xs) (length l) (omega (arith, e, h))))

@@ -1,0 +1,80 @@
+-- The marks, and the roots that are left, are all roots.
+use Prim.Native.Nat.{_-_, _≤_}
+use mathlib.Core.Path.{_≡_}
+use native.Mathlib.Omega.{arith}
+use lib.ListN.{length}
+use Rattle.elements.specs.Ranks.{AllUsed}
+use Rattle.elements.proofs.CommonLoops.{roots-used-at, Narrowing, narrowing-start, narrowing-next, narrowing-end}
+use borrow.Author.Needs.{needs}
+use Rattle.elements.proofs.common.common.Statement.{statement}
+use Rattle.elements.proofs.common.common.Tie as tie
+
+abbrev Inv-loop : tie.InvT-loop
+Inv-loop elements roots s₀ i₀ i-end s i = (i ≤ i-end) × (i-end ≡ length roots) × AllUsed elements roots × Narrowing elements roots i (s .words)
+
+abbrev μ-loop : tie.MeasureT-loop
+μ-loop elements roots s₀ i₀ i-end s i = i-end - i
+
+shared-slice-read-wide : tie.Need-shared-slice-read-wide Inv-loop μ-loop
+shared-slice-read-wide c = search needs
+
+wide-requires : tie.Need-wide-requires Inv-loop μ-loop
+wide-requires c κs = search needs
+
+below-requires : tie.Need-below-requires Inv-loop μ-loop
+below-requires c κs = roots-used-at _ _ 0 _ (c .before .before .before .before .pre .0) (c .before .before .before .before .pre .1) (c .wide .ensures .0)
+
+loop-holds : tie.Need-loop-holds Inv-loop μ-loop
+loop-holds c =
+    let some = c .before .before .before .before .before .pre .1 in
+    (search (needs, some), search needs, c .before .before .before .before .before .pre .0, narrowing-start _ _ _ _ some (c .before .wide .ensures .0) (c .below .ensures))
+
+mul-wide : tie.Need-mul-wide Inv-loop μ-loop
+mul-wide c = search needs
+
+shared-slice-read-wide-2 : tie.Need-shared-slice-read-wide-2 Inv-loop μ-loop
+shared-slice-read-wide-2 c = search needs
+
+wide-requires-2 : tie.Need-wide-requires-2 Inv-loop μ-loop
+wide-requires-2 c κs = search needs
+
+below-requires-2 : tie.Need-below-requires-2 Inv-loop μ-loop
+below-requires-2 c κs = roots-used-at _ _ _ _ (c .before .before .before .loop .inv .2) (search needs) (c .wide2 .ensures .0)
+
+both-requires : tie.Need-both-requires Inv-loop μ-loop
+both-requires c κs = search needs
+
+add-i : tie.Need-add-i Inv-loop μ-loop
+add-i c = search needs
+
+loop-less : tie.Need-loop-less Inv-loop μ-loop
+loop-less c = search needs
+
+loop-again : tie.Need-loop-again Inv-loop μ-loop
+loop-again c =
+    let at = c .before .before .before .before .before .loop in
+    let wide = c .before .before .wide2 .ensures .0 in
+    (search needs, search needs, at .inv .2, narrowing-next _ _ _ _ _ _ _ (search needs) wide (c .before .below2 .ensures) (c .both .ensures) (at .inv .3))
+
+returns : tie.Need-returns Inv-loop μ-loop
+returns c = narrowing-end _ _ _ _ (omega arith) (c .before .loop .inv .3)
+
+pub common-spec : {M : Type 1} → statement M
+common-spec =
+    tie.close
+    (tie.spec
+    Inv-loop
+    μ-loop
+    shared-slice-read-wide
+    wide-requires
+    below-requires
+    loop-holds
+    mul-wide
+    shared-slice-read-wide-2
+    wide-requires-2
+    below-requires-2
+    both-requires
+    add-i
+    loop-less
+    loop-again
+    returns)

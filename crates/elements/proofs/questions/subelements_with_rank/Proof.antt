@@ -1,0 +1,46 @@
+-- The refusals in their order; then the members of the marks are the sub-elements of the rank.
+use Rattle.elements.specs.Marks.{members}
+use Rattle.elements.proofs.BelowLoops.{lent-long}
+use Rattle.elements.proofs.RankLoops.{with-rank-marked}
+use Rattle.elements.proofs.QuestionReplies.{with-rank, root-refused, root-used, root-answered}
+use borrow.Author.Needs.{needs}
+use Rattle.elements.proofs.questions.subelements_with_rank.Statement.{statement}
+use Rattle.elements.proofs.questions.subelements_with_rank.Tie as tie
+
+root-refusal-requires : tie.Need-root-refusal-requires
+root-refusal-requires c κs = search needs
+
+returns : tie.Need-returns
+returns c = root-refused _ _ _ _ _ _ (c .before .root-refusal .ensures) (with-rank (c .before .before .before .before .before .before .before .args .rank)) _ (c .if1 .taken)
+
+below-requires : tie.Need-below-requires
+below-requires c κs = root-used _ _ _ _ _ _ (c .before .root-refusal .ensures) (c .if1 .left)
+
+with-rank-requires : tie.Need-with-rank-requires
+with-rank-requires c κs = lent-long _ _ (root-used _ _ _ _ _ _ (c .before .before .root-refusal .ensures) (c .before .if1 .left) .lent)
+
+list-marks-requires : tie.Need-list-marks-requires
+list-marks-requires c κs = search needs
+
+same-length : tie.Need-same-length
+same-length c = search needs
+
+returns-2 : tie.Need-returns-2
+returns-2 c =
+    let a = c .before .before .before .before .before .before .before .before .before .before .before .before .before .args in
+    let f = c .before .before .before .before .before .before .before .root-refusal .ensures in
+    let on = c .before .before .before .before .before .before .if1 .left in
+    root-answered _ _ _ _ _ _ f on (with-rank (a .rank)) _ (members (c .before .before .before .before .with-rank .result .words)) _ (c .before .before .list-marks .ensures)
+    (λ t l u. with-rank-marked _ t l _ u _ (c .before .before .before .before .before .below .ensures) _ _ (c .before .before .before .before .with-rank .ensures))
+
+pub subelements-with-rank-spec : {M : Type 1} → statement M
+subelements-with-rank-spec =
+    tie.close
+    (tie.spec
+    root-refusal-requires
+    returns
+    below-requires
+    with-rank-requires
+    list-marks-requires
+    same-length
+    returns-2)

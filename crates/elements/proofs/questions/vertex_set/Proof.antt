@@ -1,0 +1,49 @@
+-- The refusals in their order; then what the vertex elements name is the vertex set.
+use mathlib.Core.List.{map}
+use mathlib.Core.Path.{refl}
+use Rattle.elements.specs.Marks.{members}
+use Rattle.elements.specs.Ranks.{vertexWord}
+use Rattle.elements.proofs.BelowLoops.{lent-long}
+use Rattle.elements.proofs.RankLoops.{vertices-named}
+use Rattle.elements.proofs.QuestionReplies.{vertices, root-refused, root-used, root-answered}
+use borrow.Author.Needs.{needs}
+use Rattle.elements.proofs.questions.vertex_set.Statement.{statement}
+use Rattle.elements.proofs.questions.vertex_set.Tie as tie
+
+root-refusal-requires : tie.Need-root-refusal-requires
+root-refusal-requires c κs = search needs
+
+returns : tie.Need-returns
+returns c = root-refused _ _ _ _ _ _ (c .before .root-refusal .ensures) vertices _ (c .if1 .taken)
+
+below-requires : tie.Need-below-requires
+below-requires c κs = root-used _ _ _ _ _ _ (c .before .root-refusal .ensures) (c .if1 .left)
+
+with-rank-requires : tie.Need-with-rank-requires
+with-rank-requires c κs = lent-long _ _ (root-used _ _ _ _ _ _ (c .before .before .root-refusal .ensures) (c .before .if1 .left) .lent)
+
+list-vertices-requires : tie.Need-list-vertices-requires
+list-vertices-requires c κs = lent-long _ _ (root-used _ _ _ _ _ _ (c .before .before .before .before .root-refusal .ensures) (c .before .before .before .if1 .left) .lent)
+
+same-length : tie.Need-same-length
+same-length c = search needs
+
+returns-2 : tie.Need-returns-2
+returns-2 c =
+    let a = c .before .before .before .before .before .before .before .before .before .before .before .before .before .args in
+    let f = c .before .before .before .before .before .before .before .root-refusal .ensures in
+    let xs = members (c .before .before .before .before .with-rank .result .words) in
+    root-answered _ _ _ _ _ _ f (c .before .before .before .before .before .before .if1 .left) vertices _ (map (vertexWord (a .elements .now)) xs) _ (c .before .before .list-vertices .ensures)
+    (λ t l u. vertices-named _ t l _ u _ (c .before .before .before .before .before .below .ensures) _ _ (c .before .before .before .before .with-rank .ensures) refl)
+
+pub vertex-set-spec : {M : Type 1} → statement M
+vertex-set-spec =
+    tie.close
+    (tie.spec
+    root-refusal-requires
+    returns
+    below-requires
+    with-rank-requires
+    list-vertices-requires
+    same-length
+    returns-2)

@@ -1,0 +1,52 @@
+// All that lies below a root, in one pass downwards: a boundary has earlier numbers, so each element is gone by once.
+use crate::marks::Marks;
+use crate::marks::mark;
+use crate::marks::marked;
+use crate::marks::no_marks;
+use rules::ElementId;
+use space::rows::boundary_at;
+use space::rows::rank_of;
+use space::rows::size_of;
+use space::words::wide;
+ghost use mathlib.Core.Path.{_≡_};
+ghost use Rattle.elements.specs.Marks.{markingAll};
+ghost use Rattle.elements.specs.Below.{boundaryWords, BoundaryReady, Used, Onward, Below};
+
+fn mark_boundary(elements: &[u16], e: ElementId, s: Marks) -> Marks
+    requires { ⌜ BoundaryReady (now elements) (e .0) ⌝ }
+    ensures { λ r. ⌜ r .words ≡ markingAll (s .words) (boundaryWords (now (elements .entry)) (e .0)) ⌝ }
+{
+    let n = size_of(elements, e);
+    let mut out = s;
+    for i in 0..n {
+        let x = wide(boundary_at(elements, e, i));
+        out = mark(out, x);
+    }
+    out
+}
+
+// A vertex has no boundary: its row has its vertex's number there, which is no element's.
+fn onward(elements: &[u16], e: ElementId, s: Marks) -> Marks
+    requires { ⌜ Used (now elements) (e .0) ⌝ }
+    ensures { λ r. ⌜ Onward (now (elements .entry)) (e .0) (s .words) (r .words) ⌝ }
+{
+    if !marked(s, e.0) {
+        return s;
+    }
+    if rank_of(elements, e) == 0 {
+        return s;
+    }
+    mark_boundary(elements, e, s)
+}
+
+// The root and all below it.
+pub fn below(elements: &[u16], root: ElementId) -> Marks
+    requires { ⌜ Used (now elements) (root .0) ⌝ }
+    ensures { λ r. ⌜ Below (now (elements .entry)) (root .0) (r .words) ⌝ }
+{
+    let mut s = mark(no_marks(), root.0);
+    for i in 0..root.0 + 1 {
+        s = onward(elements, ElementId(root.0 - i), s);
+    }
+    s
+}
