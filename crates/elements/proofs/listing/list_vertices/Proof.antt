@@ -11,15 +11,25 @@ use borrow.Author.Needs.{needs}
 use Rattle.elements.proofs.listing.list_vertices.Statement.{statement}
 use Rattle.elements.proofs.listing.list_vertices.Tie as tie
 
-size-requires : tie.Need-size-requires
-size-requires c κs = search needs
-
 returns : tie.Need-returns
 returns c =
     let a = c .before .before .before .before .args in
     let xs = members (a .s .words) in
     let f = vertexWord (a .elements .now) in
     no-room (map f xs) _ _ (c .before .size .ensures ∙ sym (length-map xs f)) (c .if1 .taken)
+
+returns-2 : tie.Need-returns-2
+returns-2 c =
+    let a = c .before .before .before .before .before .before .before .before .before .before .before .before .args in
+    let e = c .before .before .before .before .before .before .before .before .before .size .ensures in
+    let q = c .before .before .before .before .before .before .list-all .ensures in
+    let es = a .elements .now in
+    let ws = a .s .words in
+    in-front (map (vertexWord es) (members ws)) (a .list .now) _ _ (e ∙ sym (length-map (members ws) (vertexWord es))) (omega arith)
+    (replaced ws (a .list .now) _ _ e (omega arith) q es _ (c .before .before .name-vertices .ensures))
+
+size-requires : tie.Need-size-requires
+size-requires c κs = search needs
 
 list-all-requires : tie.Need-list-all-requires
 list-all-requires c κs =
@@ -36,16 +46,6 @@ name-vertices-requires c κs =
 
 same-length : tie.Need-same-length
 same-length c = search needs
-
-returns-2 : tie.Need-returns-2
-returns-2 c =
-    let a = c .before .before .before .before .before .before .before .before .before .before .before .before .args in
-    let e = c .before .before .before .before .before .before .before .before .before .size .ensures in
-    let q = c .before .before .before .before .before .before .list-all .ensures in
-    let es = a .elements .now in
-    let ws = a .s .words in
-    in-front (map (vertexWord es) (members ws)) (a .list .now) _ _ (e ∙ sym (length-map (members ws) (vertexWord es))) (omega arith)
-    (replaced ws (a .list .now) _ _ e (omega arith) q es _ (c .before .before .name-vertices .ensures))
 
 pub list-vertices-spec : {M : Type 1} → statement M
 list-vertices-spec =
