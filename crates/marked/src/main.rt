@@ -37,56 +37,59 @@ fn start(
     cube::with_primordial_cube_radius(dimension, 1.0, counts, points, planes, elements);
 }
 
-// A cut of the table at hand, and the counts after it.
-fn cut_line(
+// What an example cuts: a cube of so many dimensions, by a divider, at a root.
+struct Given {
+    dimension: u64,
     divider: Hyperplane,
     inside: PolytopeFate,
     outside: PolytopeFate,
     root: usize,
+}
+
+fn cut_of(
+    dimension: u64,
+    divider: Hyperplane,
+    inside: PolytopeFate,
+    outside: PolytopeFate,
+    root: usize,
+) -> Given {
+    Given {
+        dimension,
+        divider,
+        inside,
+        outside,
+        root,
+    }
+}
+
+// A cut of the table at hand, and the counts after it.
+fn cut_line(
+    g: Given,
     counts: &mut [u16],
     points: &mut [f64],
     planes: &mut [f64],
     elements: &mut [u16],
 ) {
-    let root = ElementId(root);
-    print::reply(cut::cut(
-        counts,
-        points,
-        planes,
-        elements,
-        divider,
-        inside,
-        outside,
-        root,
-    ));
+    let h = g.divider;
+    let i = g.inside;
+    let o = g.outside;
+    let root = ElementId(g.root);
+    print::reply(cut::cut(counts, points, planes, elements, h, i, o, root));
     print::counts(counts);
 }
 
 // A cut of a new cube.
 fn example(
     name: &[u8],
-    dimension: u64,
-    divider: Hyperplane,
-    inside: PolytopeFate,
-    outside: PolytopeFate,
-    root: usize,
+    g: Given,
     counts: &mut [u16],
     points: &mut [f64],
     planes: &mut [f64],
     elements: &mut [u16],
 ) {
-    start(dimension, counts, points, planes, elements);
+    start(g.dimension, counts, points, planes, elements);
     print::text(name);
-    cut_line(
-        divider,
-        inside,
-        outside,
-        root,
-        counts,
-        points,
-        planes,
-        elements,
-    );
+    cut_line(g, counts, points, planes, elements);
 }
 
 // M9: the greatest common sub-elements of some roots of the table at hand.
@@ -129,104 +132,24 @@ fn main() {
     start(2, &mut c, &mut p, &mut h, &mut e);
     print::text(b"cube");
     print::counts(&c);
-    cut_line(at_x(0.0), keep, keep, 8, &mut c, &mut p, &mut h, &mut e);
-    cut_line(at_x(0.0), keep, keep, 8, &mut c, &mut p, &mut h, &mut e);
-    example(
-        b"M1 ",
-        2,
-        at_x(0.0),
-        keep,
-        keep,
-        8,
-        &mut c,
-        &mut p,
-        &mut h,
-        &mut e,
-    );
-    example(
-        b"M2 ",
-        2,
-        at_x(0.0),
-        remove,
-        remove,
-        8,
-        &mut c,
-        &mut p,
-        &mut h,
-        &mut e,
-    );
-    example(
-        b"M3 ",
-        2,
-        at_x(1.0),
-        keep,
-        remove,
-        8,
-        &mut c,
-        &mut p,
-        &mut h,
-        &mut e,
-    );
-    example(
-        b"M4 ",
-        2,
-        at_x(1.0 / 0.0),
-        remove,
-        remove,
-        8,
-        &mut c,
-        &mut p,
-        &mut h,
-        &mut e,
-    );
-    example(
-        b"M5 ",
-        2,
-        at_x(0.0),
-        remove,
-        keep,
-        0,
-        &mut c,
-        &mut p,
-        &mut h,
-        &mut e,
-    );
-    example(
-        b"M6 ",
-        2,
-        at_x(1.0),
-        keep,
-        keep,
-        7,
-        &mut c,
-        &mut p,
-        &mut h,
-        &mut e,
-    );
-    example(
-        b"M7 ",
-        2,
-        slanted(),
-        keep,
-        keep,
-        8,
-        &mut c,
-        &mut p,
-        &mut h,
-        &mut e,
-    );
-    example(
-        b"M8 ",
-        1,
-        at_x(0.0),
-        keep,
-        keep,
-        2,
-        &mut c,
-        &mut p,
-        &mut h,
-        &mut e,
-    );
+    let m1 = cut_of(2, at_x(0.0), keep, keep, 8);
+    cut_line(m1, &mut c, &mut p, &mut h, &mut e);
+    cut_line(m1, &mut c, &mut p, &mut h, &mut e);
+    example(b"M1 ", m1, &mut c, &mut p, &mut h, &mut e);
+    let m2 = cut_of(2, at_x(0.0), remove, remove, 8);
+    example(b"M2 ", m2, &mut c, &mut p, &mut h, &mut e);
+    let m3 = cut_of(2, at_x(1.0), keep, remove, 8);
+    example(b"M3 ", m3, &mut c, &mut p, &mut h, &mut e);
+    let m4 = cut_of(2, at_x(1.0 / 0.0), remove, remove, 8);
+    example(b"M4 ", m4, &mut c, &mut p, &mut h, &mut e);
+    let m5 = cut_of(2, at_x(0.0), remove, keep, 0);
+    example(b"M5 ", m5, &mut c, &mut p, &mut h, &mut e);
+    let m6 = cut_of(2, at_x(1.0), keep, keep, 7);
+    example(b"M6 ", m6, &mut c, &mut p, &mut h, &mut e);
+    let m7 = cut_of(2, slanted(), keep, keep, 8);
+    example(b"M7 ", m7, &mut c, &mut p, &mut h, &mut e);
+    let m8 = cut_of(1, at_x(0.0), keep, keep, 2);
+    example(b"M8 ", m8, &mut c, &mut p, &mut h, &mut e);
     start(2, &mut c, &mut p, &mut h, &mut e);
     common_line(&[2, 6], &c, &p, &h, &e);
     common_line(&[8], &c, &p, &h, &e);
