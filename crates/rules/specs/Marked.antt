@@ -1,4 +1,4 @@
--- Document 01, "Marked examples": one table, each row what the public replies give and what document 01 says. proofs/Answers.antt has its one theorem. Definitions only.
+-- Document 01, "Marked examples": one table, each row what the public replies give and what document 01 says. Its one theorem is proofs/Marked.antt of crate marked. Definitions only.
 use Prim.Native.Nat.{ℕ}
 use mathlib.Core.Bool.{Bool, true, false}
 use mathlib.Core.Option.{Option, none, some}

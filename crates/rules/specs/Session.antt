@@ -1,7 +1,6 @@
 -- Document 01, "The session program": what `cutlist` prints for the bytes of a session, record by record. Definitions only.
 use Prim.Native.Nat.{ℕ, zero, suc, _+_, _*_, _/_, _%_}
-use mathlib.Core.Bool.{_&&_}
-use mathlib.Core.Option.{Option, none, some}
+use mathlib.Core.Bool.{Bool, true, false, _&&_}
 use mathlib.Core.List.{List, [], _∷_, _++_, map}
 use lib.Dec.{leb, eqb}
 use lib.ListN.{length, getD, take, drop, replicate}
@@ -57,7 +56,7 @@ backwards [] = []
 backwards (x ∷ xs) = backwards xs ++ x ∷ []
 
 -- a number in decimal has no more digits than its size, and one for 0
-abbrev pub decimal : ℕ → List ℕ
+unfoldable pub decimal : ℕ → List ℕ
 decimal k = backwards (lowDigits (suc k) k)
 
 -- a space and a number for each
@@ -79,10 +78,10 @@ text (badLine n) = (98 ∷ 97 ∷ 100 ∷ []) ++ spaced (n ∷ []) ++ 10 ∷ []
 
 -- ---- one record
 
--- how long the record is, what is printed for it, and the table that stands then; or bad
+-- how long the record is, what is printed for it, whether a table stands then, and the memory; or bad
 pub data Turn : Type 0 where
   bad : Turn
-  taken : ℕ → Line → Option Memory → Turn
+  taken : ℕ → Line → Bool → Memory → Turn
 
 -- a memory of the room's size, for a session that has no table yet
 unfoldable pub blank : Limits → Memory
@@ -93,57 +92,68 @@ blank L = record {
   elements = replicate (L .elements * elementWidth L) 0;
 }
 
-abbrev pub memoryOr : Limits → Option Memory → Memory
-memoryOr L none = blank L
-memoryOr L (some m) = m
-
 abbrev pub countsOf : Memory → List ℕ
 countsOf m = drop 1 (m .counts)
 
--- a refused cube keeps the table before it
-abbrev pub cubeTurn : Option Memory → ℕ × Memory → Turn
-cubeTurn old (zero, m) = taken 11 (cubeLine (countsOf m)) (some m)
-cubeTurn old (suc n, m) = taken 11 (refusedLine (suc n)) old
+-- 43 55, dimension (1 byte), radius (8)
+abbrev pub isCube : List ℕ → Bool
+isCube bs = alike eqb (take 2 bs) (0x43 ∷ 0x55 ∷ []) && leb 11 (length bs)
+
+-- a cut record's length follows the dimension of the table that stands
+abbrev pub cutLength : ℕ → ℕ
+cutLength d = 5 + 8 * suc d
+
+-- 43 54, kept sides (1 byte, 0 to 3), root (2), one component for each of d dimensions, distance
+abbrev pub isCut : ℕ → List ℕ → Bool
+isCut d bs = alike eqb (take 2 bs) (0x43 ∷ 0x54 ∷ []) && leb (cutLength d) (length bs) && leb (numberAt 1 2 bs) 3
+
+-- ---- what a record asks for, and what is printed of its reply
+
+abbrev pub cubeAsked : Limits → Memory → List ℕ → ℕ × Memory
+cubeAsked L m bs = cubeReply L (numberAt 1 2 bs) (floatAt 3 bs) m
+
+abbrev pub dividerAt : Limits → ℕ → List ℕ → Hyperplane
+dividerAt L d bs = record { normal = pad plusZero (L .dimensions) (floatsAt d 5 bs); distance = floatAt (5 + 8 * d) bs }
+
+-- of the kept sides, 1 is the inside and 2 the outside
+abbrev pub cutAsked : Limits → Memory → List ℕ → CutReply × Memory
+cutAsked L m bs =
+    let kept = numberAt 1 2 bs in
+    cutReply L (dividerAt L (getD (m .counts) 0 0) bs) (eqb (kept % 2) 1) (eqb (kept / 2) 1) (numberAt 2 3 bs) m
+
+-- a refused cube leaves the memory, and keeps the table before it
+abbrev pub cubeTurn : Bool → ℕ × Memory → Turn
+cubeTurn stands (zero, m) = taken 11 (cubeLine (countsOf m)) true m
+cubeTurn stands (suc n, m) = taken 11 (refusedLine (suc n)) stands m
 
 abbrev pub cutText : CutReply → List ℕ → Line
 cutText (Refused n) ns = refusedLine n
 cutText (Answered Flush) ns = flushLine ns
 cutText (Answered (NonFlush i o x)) ns = cutLine i o x ns
 
--- a cut record's length follows the dimension of the table that stands
-abbrev pub cutLength : ℕ → ℕ
-cutLength d = 5 + 8 * suc d
+abbrev pub cutTurn : ℕ → CutReply × Memory → Turn
+cutTurn d (r, m) = taken (cutLength d) (cutText r (countsOf m)) true m
 
--- kept sides (1 byte), root (2), one component for each dimension, distance
-abbrev pub cutTurn : Limits → Option Memory → List ℕ → Turn
-cutTurn L none bs = bad
-cutTurn L (some m) bs =
+-- another mark, a short record, a kept byte above 3, or a cut with no table is bad
+unfoldable pub turn : Limits → Bool → Memory → List ℕ → Turn
+turn L stands m bs =
     let d = getD (m .counts) 0 0 in
-    let kept = numberAt 1 2 bs in
-    let divider : Hyperplane = record { normal = pad plusZero (L .dimensions) (floatsAt d 5 bs); distance = floatAt (5 + 8 * d) bs } in
-    let r = cutReply L divider (eqb (kept % 2) 1) (eqb (kept / 2) 1) (numberAt 2 3 bs) m in
-    if leb (cutLength d) (length bs) && leb kept 3 then taken (cutLength d) (cutText (r .0) (countsOf (r .1))) (some (r .1)) else bad
-
--- 43 55 is a cube: dimension (1 byte), radius (8); 43 54 is a cut; another mark, a short record, a kept byte above 3, or a cut with no table is bad
-unfoldable pub turn : Limits → Option Memory → List ℕ → Turn
-turn L table bs =
-    let mark = take 2 bs in
-    if alike eqb mark (0x43 ∷ 0x55 ∷ []) && leb 11 (length bs) then cubeTurn table (cubeReply L (numberAt 1 2 bs) (floatAt 3 bs) (memoryOr L table))
-    else if alike eqb mark (0x43 ∷ 0x54 ∷ []) then cutTurn L table bs
+    if isCube bs then cubeTurn stands (cubeAsked L m bs)
+    else if stands && isCut d bs then cutTurn d (cutAsked L m bs)
     else bad
 
 -- ---- a session
 
 -- the records in turn, from an offset on; `bad` and the offset of the record's first byte stop it. Each record has a byte or more, so the number of bytes is enough turns
-abbrev pub session : ℕ → Limits → Option Memory → ℕ → List ℕ → List Line
-session zero L table at bs = []
-session (suc n) L table at [] = []
-session (suc n) L table at (b ∷ bs) =
-    elim (turn L table (b ∷ bs)) [
+abbrev pub session : ℕ → Limits → Bool → Memory → ℕ → List ℕ → List Line
+session zero L stands m at bs = []
+session (suc n) L stands m at [] = []
+session (suc n) L stands m at (b ∷ bs) =
+    elim (turn L stands m (b ∷ bs)) [
       | bad ↦ badLine at ∷ []
-      | taken k line standing ↦ line ∷ session n L standing (at + k) (drop k (b ∷ bs))
+      | taken k line later after ↦ line ∷ session n L later after (at + k) (drop k (b ∷ bs))
     ]
 
--- what `cutlist` writes for its input
+-- what `cutlist` writes for its input; no table stands at first
 unfoldable pub cutlist : Limits → List ℕ → List ℕ
-cutlist L bs = joined (map text (session (length bs) L none 0 bs))
+cutlist L bs = joined (map text (session (length bs) L false (blank L) 0 bs))
