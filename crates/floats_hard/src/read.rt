@@ -1,15 +1,8 @@
 // Inputs out of the words of the table.
+use hypermath::patterns::float_of;
 use rules::Hyperplane;
 ghost use Prim.Native.Nat.{_+_, _<_, _≤_};
 ghost use lib.ListN.{length};
-
-// The float of a bit pattern; of every NaN's pattern, the one NaN.
-fn float_of(word: u64) -> f64 {
-    if 0x7ff0_0000_0000_0000 < word % 0x8000_0000_0000_0000 {
-        return 0.0 / 0.0;
-    }
-    f64::from_bits(word)
-}
 
 pub fn float(words: &[u64], at: usize) -> f64
     requires { ⌜ at < length (now words) ⌝ }

@@ -1,4 +1,6 @@
 // All that the rules do with floats: distances and sides, crossings, matches, and the two searches over the lent rows.
+pub mod patterns;
+
 use rules::Crossing;
 use rules::Hyperplane;
 use rules::HyperplaneId;

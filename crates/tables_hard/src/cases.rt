@@ -1,7 +1,7 @@
 // A loop for each table of cases, and what is done and printed for each.
 use crate::memory;
 use crate::print;
-use crate::read;
+use hypermath::patterns::float_of;
 ghost use Prim.Native.Nat.{_+_, _≤_};
 ghost use lib.ListN.{length};
 
@@ -107,7 +107,7 @@ fn cube_case(
     let held = words[at + 1];
     let lengths = words[at + 2];
     let dimension = words[at + 3];
-    let radius = read::float_of(words[at + 4]);
+    let radius = float_of(words[at + 4]);
     print::name(b"cube ", names, words[at]);
     memory::prepare(held, runs, counts, points, planes, elements);
     print::reply(memory::put_cube(lengths, dimension, radius, counts, points, planes, elements));

@@ -1,5 +1,6 @@
 // What the memory holds before a case: nothing or a cube, and then runs of words over it.
 use crate::read;
+use hypermath::patterns::float_of;
 use space::restore;
 ghost use Prim.Native.Nat.{_+_, _≤_};
 ghost use lib.ListN.{length};
@@ -30,7 +31,7 @@ fn put_number(list: &mut [u16], position: usize, value: u64) {
 // A place past the slice is left out.
 fn put_float(list: &mut [f64], position: usize, value: u64) {
     if position < list.len() {
-        list[position] = read::float_of(value);
+        list[position] = float_of(value);
     }
 }
 

@@ -3,14 +3,6 @@ ghost use Prim.Native.Nat.{_≤_};
 ghost use mathlib.Core.Path.{_≡_};
 ghost use lib.ListN.{length, take};
 
-// The float of a bit pattern; of every NaN's pattern, the one NaN.
-pub fn float_of(word: u64) -> f64 {
-    if 0x7ff0_0000_0000_0000 < word % 0x8000_0000_0000_0000 {
-        return 0.0 / 0.0;
-    }
-    f64::from_bits(word)
-}
-
 // A number of rows or words, never more than there are.
 pub fn count(wanted: u64, most: usize) -> usize
     ensures { λ r. ⌜ r ≤ most ⌝ }
