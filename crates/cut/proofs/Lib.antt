@@ -1,3 +1,4 @@
 pub mod Rounds
 pub mod WholeCuts
 pub mod Replies
+pub mod Names

@@ -1,11 +1,9 @@
--- What a cut names is within the room, so its three numbers fit into one; and the number is that of the reply.
-use Prim.Native.Nat.{ℕ, _+_, _*_, _≤_, _<_}
+-- Three numbers within the room fit into one; and the number is that of the reply.
+use Prim.Native.Nat.{ℕ, _+_, _*_, _<_}
 use mathlib.Core.Bool.{Bool, true, false, not}
 use mathlib.Core.Path.{_≡_, sym, ap, ap₂, subst, _∙_}
-use native.Mathlib.Nat.{le-trans}
 use native.Mathlib.Omega.{arith}
 use lib.Dec.{lit≤}
-use lib.ListN.{getD}
 use Rattle.rules.specs.Limits.{desk}
 use Rattle.rules.specs.Memory.{Memory}
 use Rattle.rules.specs.Replies.{cutReply}
@@ -19,10 +17,6 @@ use Rattle.rules.specs.declared.ElementCutOutput.the-variants.{Flush, NonFlush}
 use Rattle.rules.specs.declared.CutReply.{CutReply}
 use Rattle.rules.specs.declared.CutReply.the-variants.{Refused, Answered}
 use Rattle.rules.proofs.Laws.{test-eq, not-eq}
-use Rattle.rules.proofs.OneCall.{memory-sound, names-in-use}
-use Rattle.space.proofs.Lent.{memory-holds}
-use Rattle.space.proofs.RowAdds.{readable-desk}
-use Rattle.space.proofs.Slices.{slices}
 use Rattle.desk.specs.Words.{elementWord, outputWord, cutWord, keptBy}
 
 -- ---- one number
@@ -50,21 +44,7 @@ module _ (a : ElementCutOutput) (i o x : ElementOrNone) (q : a ≡ NonFlush i o 
 
 -- ---- the whole reply
 
-one-below : (n m : ℕ) (x : ElementOrNone) → n ≤ m → OneBelow n x → OneBelow m x
-one-below n m None l h = tt
-one-below n m (Some e) l h = le-trans h l
-
-names-below : (n m : ℕ) (a : ElementCutOutput) → n ≤ m → NamesBelow n a → NamesBelow m a
-names-below n m Flush l h = tt
-names-below n m (NonFlush i o x) l h = (one-below n m i l (h .0), one-below n m o l (h .1), one-below n m x l (h .2))
-
 module _ (h : Hyperplane) (i o : Bool) (root : ℕ) (m m′ : Memory) {r : CutReply} (e : (r, m′) ≡ cutReply desk h i o root m) where
-  pub names-low : (a : ElementCutOutput) → r ≡ Answered a → NamesBelow 512 a
-  names-low a q =
-      let k : cutReply desk h i o root m ≡ (Answered a, m′) = sym e ∙ (λ j. (q j, m′)) in
-      names-below (getD (m′ .counts) 1 0) 512 a (slices (memory-holds desk readable-desk m′ (memory-sound desk readable-desk h i o root m a m′ k)) .elementsFit)
-      (names-in-use desk readable-desk h i o root m a m′ k)
-
   module _ {i′ o′ : Bool} (ei : i ≡ i′) (eo : o ≡ o′) where
     same : cutWord (r, m′) ≡ cutWord (cutReply desk h i′ o′ root m)
     same = ap cutWord (e ∙ ap₂ (λ (x y : Bool). cutReply desk h x y root m) ei eo)

@@ -1,5 +1,6 @@
 -- The reply, in one number; what is named fits, since it is in use.
-use Rattle.desk.proofs.CutWords.{names-low, word-refused, word-answered}
+use Rattle.cut.proofs.Names.{names-low}
+use Rattle.desk.proofs.CutWords.{word-refused, word-answered}
 use borrow.Author.Needs.{needs}
 use Rattle.desk.proofs.desk_cut.Statement.{statement}
 use Rattle.desk.proofs.desk_cut.Tie as tie
