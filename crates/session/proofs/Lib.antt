@@ -1,0 +1,5 @@
+pub mod Decimals
+pub mod Numbers
+pub mod Puts
+pub mod Records
+pub mod Turns

@@ -1,0 +1,65 @@
+-- What was put, and more behind it, is one thing put.
+use Prim.Native.Nat.{ℕ, zero, suc, _+_, _≤_, _<_}
+use mathlib.Core.List.{List, [], _∷_, _++_, append-assoc}
+use mathlib.Core.Path.{_≡_, refl, sym, ap, ap₂, _∙_}
+use native.Mathlib.Omega.{arith}
+use lib.ListN.{length, set, getD, drop, length-append, drop-of-length-le}
+use lib.Seq.{sets, length-sets, drop-cons}
+use Rattle.rules.specs.Promises.{OneBelow}
+use Rattle.rules.specs.Session.{decimal, spaced, place}
+use Rattle.rules.specs.declared.ElementOrNone.{ElementOrNone}
+use Rattle.rules.specs.declared.ElementOrNone.the-variants.{None, Some}
+use Rattle.session.proofs.Decimals.{five-digits, twenty-digits}
+use Rattle.session.specs.Written.{Put}
+
+pub sets-on : (room : List ℕ) (at : ℕ) (xs ys : List ℕ) → sets (sets room at xs) (at + length xs) ys ≡ sets room at (xs ++ ys)
+sets-on room at [] ys = ap (λ (k : ℕ). sets room k ys) (let q : at + 0 ≡ at = omega arith in q)
+sets-on room at (x ∷ xs) ys = ap (λ (k : ℕ). sets (sets (set room at x) (suc at) xs) k ys) (let q : at + suc (length xs) ≡ suc at + length xs = omega arith in q) ∙ sets-on (set room at x) (suc at) xs ys
+
+pub put-one : (room : List ℕ) (at x : ℕ) → Put room at (x ∷ []) (at + 1) (set room at x)
+put-one room at x = record { place = refl; room = refl }
+
+-- one thing put behind another
+pub then : {room mid after : List ℕ} {at p end : ℕ} {xs ys : List ℕ} → Put room at xs p mid → Put mid p ys end after → Put room at (xs ++ ys) end after
+then {room} {mid} {after} {at} {p} {end} {xs} {ys} a b = record {
+  place = (let l = length-append xs ys in let q = a .place in let z = b .place in omega (arith, l, q, z));
+  room = b .room ∙ ap₂ (λ (r : List ℕ) (k : ℕ). sets r k ys) (a .room) (a .place) ∙ sets-on room at xs ys;
+}
+
+-- the room does not change its size
+pub put-length : {room after : List ℕ} {at end : ℕ} {xs : List ℕ} → Put room at xs end after → length after ≡ length room
+put-length {room} {after} {at} {end} {xs} p = ap length (p .room) ∙ length-sets room at xs
+
+-- the same bytes by another word for them
+pub put-as : {room after : List ℕ} {at end : ℕ} {xs ys : List ℕ} → xs ≡ ys → Put room at xs end after → Put room at ys end after
+put-as {room} {after} {at} {end} e p = record { place = p .place ∙ ap (λ (zs : List ℕ). at + length zs) e; room = p .room ∙ ap (sets room at) e }
+
+-- ---- numbers one after another
+
+-- a number put before the rest of a line
+pub then-number : {room mid after : List ℕ} {at p end : ℕ} (n : ℕ) (ns xs : List ℕ) → Put room at (32 ∷ decimal n) p mid → Put mid p (spaced ns ++ xs) end after → Put room at (spaced (n ∷ ns) ++ xs) end after
+then-number n ns xs a b = put-as (sym (append-assoc (32 ∷ decimal n) (spaced ns) xs)) (then a b)
+
+-- numbers and the line's end, behind what stands before them
+pub then-line : {room mid after : List ℕ} {at p end : ℕ} {xs : List ℕ} (ns : List ℕ) → Put room at xs p mid → Put mid p (spaced ns ++ 10 ∷ []) end after → Put room at (xs ++ spaced ns ++ 10 ∷ []) end after
+then-line {xs = xs} ns a b = put-as (sym (append-assoc xs (spaced ns) (10 ∷ []))) (then a b)
+
+-- the three counts that are printed
+pub three-counts : (cs : List ℕ) → length cs ≡ 4 → (x y z : ℕ) → x ≡ getD cs 1 0 → y ≡ getD cs 2 0 → z ≡ getD cs 3 0 → x ∷ y ∷ z ∷ [] ≡ drop 1 cs
+three-counts cs e x y z p q r =
+    (λ i. p i ∷ q i ∷ r i ∷ [])
+    ∙ sym (drop-cons cs 1 0 (omega (arith, e)) ∙ ap (λ (xs : List ℕ). getD cs 1 0 ∷ xs)
+    (drop-cons cs 2 0 (omega (arith, e)) ∙ ap (λ (xs : List ℕ). getD cs 2 0 ∷ xs)
+    (drop-cons cs 3 0 (omega (arith, e)) ∙ ap (λ (xs : List ℕ). getD cs 3 0 ∷ xs) (drop-of-length-le cs {i = 4} (omega (arith, e))))))
+
+-- ---- how much room they take
+
+pub number-short : {room after : List ℕ} {at end : ℕ} (n : ℕ) → n < 0x10000 → Put room at (32 ∷ decimal n) end after → end ≤ at + 6
+number-short n l p = let q = five-digits n l in let e = p .place in omega (arith, q, e)
+
+pub number-fits : {room after : List ℕ} {at end : ℕ} (n : ℕ) → n < 0x10000000000000000 → Put room at (32 ∷ decimal n) end after → end ≤ at + 21
+number-fits n l p = let q = twenty-digits n l in let e = p .place in omega (arith, q, e)
+
+pub element-short : {room after : List ℕ} {at end : ℕ} (e : ElementOrNone) → OneBelow 512 e → Put room at (place e) end after → end ≤ at + 6
+element-short None l p = let e = p .place in omega (arith, e)
+element-short (Some id) l p = number-short (id .0) (let z : id .0 < 0x10000 = omega (arith, l) in z) p

@@ -1,0 +1,39 @@
+-- The name, the number behind it, the end behind that.
+use mathlib.Core.List.{[], _∷_}
+use native.Mathlib.Omega.{arith}
+use borrow.Author.Needs.{needs}
+use Rattle.session.proofs.Puts.{put-length, then-number, then-line, number-fits}
+use Rattle.session.proofs.line.numbered.Statement.{statement}
+use Rattle.session.proofs.line.numbered.Tie as tie
+
+word-requires : tie.Need-word-requires
+word-requires c κs = search needs
+
+number-requires : tie.Need-number-requires
+number-requires c κs = search needs
+
+slice-aggregate-word : tie.Need-slice-aggregate-word
+slice-aggregate-word c = search needs
+
+word-requires-2 : tie.Need-word-requires-2
+word-requires-2 c κs =
+    let a = c .before .before .before .before .before .before .before .before .word .ensures in let b = c .before .before .before .before .number .ensures in
+    let l = put-length a in let m = put-length b in let e = a .place in
+    let q = number-fits _ (search needs) b in omega (arith, l, m, e, q)
+
+same-length : tie.Need-same-length
+same-length c = search needs
+
+returns : tie.Need-returns
+returns c = then-line (_ ∷ []) (c .before .before .before .before .before .before .before .before .before .before .before .word .ensures) (then-number _ [] (10 ∷ []) (c .before .before .before .before .before .before .before .number .ensures) (c .before .before .word2 .ensures))
+
+pub numbered-spec : {M : Type 1} → statement M
+numbered-spec =
+    tie.close
+    (tie.spec
+    word-requires
+    number-requires
+    slice-aggregate-word
+    word-requires-2
+    same-length
+    returns)

@@ -1,0 +1,29 @@
+-- Two numbers of half the bytes.
+use Prim.Native.Nat.{ℕ, _+_, _*_}
+use mathlib.Core.Path.{ap₂, _∙_}
+use borrow.Author.Needs.{needs}
+use Rattle.session.proofs.Numbers.{eight-is}
+use Rattle.session.proofs.read.eight.Statement.{statement}
+use Rattle.session.proofs.read.eight.Tie as tie
+
+four-requires : tie.Need-four-requires
+four-requires c κs = search needs
+
+add-four : tie.Need-add-four
+add-four c = search needs
+
+four-requires-2 : tie.Need-four-requires-2
+four-requires-2 c κs = search needs
+
+mul-result : tie.Need-mul-result
+mul-result c = search needs
+
+add-result : tie.Need-add-result
+add-result c = search needs
+
+returns : tie.Need-returns
+returns c = ap₂ (λ (x y : ℕ). x + 0x100000000 * y) (c .before .four .ensures .0) (c .four2 .ensures .0) ∙ eight-is (c .before .before .before .args .bytes .now) (c .before .before .before .args .at) (search needs)
+
+pub eight-spec : {M : Type 1} → statement M
+eight-spec =
+    tie.close (tie.spec four-requires add-four four-requires-2 mul-result add-result returns)

@@ -1,0 +1,92 @@
+-- The record is long enough for what is read; a cube that is made has four counts.
+use native.Mathlib.Omega.{arith}
+use lib.Dec.{lit≤}
+use borrow.Author.Needs.{needs}
+use Rattle.session.proofs.Turns.{cube-long, cube-counts, cube-made, cube-refused}
+use Rattle.session.proofs.record.cube_turn.Statement.{statement}
+use Rattle.session.proofs.record.cube_turn.Tie as tie
+
+one-requires : tie.Need-one-requires
+one-requires c κs = let l = cube-long (c .before .before .before .before .before .before .args .input .now) (c .before .before .before .before .before .before .pre .0) in omega (arith, l)
+
+float-requires : tie.Need-float-requires
+float-requires c κs = cube-long (c .before .before .before .before .before .before .before .args .input .now) (c .before .before .before .before .before .before .before .pre .0)
+
+with-primordial-cube-radius-requires : tie.Need-with-primordial-cube-radius-requires
+with-primordial-cube-radius-requires c κs = search needs
+
+slice-aggregate-counted : tie.Need-slice-aggregate-counted
+slice-aggregate-counted c = search needs
+
+counted-requires : tie.Need-counted-requires
+counted-requires c κs = (lit≤ tt, (cube-counts _ _ _ _ _ (c .before .before .before .before .before .before .before .before .before .before .before .before .with-primordial-cube-radius .ensures) (c .before .before .before .if1 .taken), c .before .before .before .before .before .before .before .before .before .before .before .before .before .before .before .before .before .before .before .before .before .before .before .before .before .pre .1))
+
+same-length : tie.Need-same-length
+same-length c = search needs
+
+same-length-2 : tie.Need-same-length-2
+same-length-2 c = search needs
+
+same-length-3 : tie.Need-same-length-3
+same-length-3 c = search needs
+
+same-length-4 : tie.Need-same-length-4
+same-length-4 c = search needs
+
+same-length-5 : tie.Need-same-length-5
+same-length-5 c = search needs
+
+returns : tie.Need-returns
+returns c = cube-made (c .before .before .before .before .before .before .before .before .before .before .before .before .before .before .before .before .before .before .before .before .before .before .before .before .before .before .before .before .args .input .now) _ _ (c .before .before .before .before .before .before .before .before .before .before .before .before .before .before .before .before .before .before .before .before .before .before .before .before .before .before .before .before .args .stands) _ _ _ _ _ (c .before .before .before .before .before .before .before .before .before .before .before .before .before .before .before .before .before .before .before .before .before .one .ensures .0) (c .before .before .before .before .before .before .before .before .before .before .before .before .before .before .before .before .before .before .before .before .float .ensures) (c .before .before .before .before .before .before .before .before .before .before .before .before .before .before .before .with-primordial-cube-radius .ensures) _ (c .before .before .before .before .before .before .if1 .taken) (c .before .before .counted .ensures)
+
+slice-aggregate-numbered : tie.Need-slice-aggregate-numbered
+slice-aggregate-numbered c = search needs
+
+cast-numbered : tie.Need-cast-numbered
+cast-numbered c = search needs
+
+numbered-requires : tie.Need-numbered-requires
+numbered-requires c κs = search needs
+
+same-length-6 : tie.Need-same-length-6
+same-length-6 c = search needs
+
+same-length-7 : tie.Need-same-length-7
+same-length-7 c = search needs
+
+same-length-8 : tie.Need-same-length-8
+same-length-8 c = search needs
+
+same-length-9 : tie.Need-same-length-9
+same-length-9 c = search needs
+
+same-length-10 : tie.Need-same-length-10
+same-length-10 c = search needs
+
+returns-2 : tie.Need-returns-2
+returns-2 c = cube-refused (c .before .before .before .before .before .before .before .before .before .before .before .before .before .before .before .before .before .before .before .before .before .before .before .before .before .before .before .args .input .now) _ _ (c .before .before .before .before .before .before .before .before .before .before .before .before .before .before .before .before .before .before .before .before .before .before .before .before .before .before .before .args .stands) _ _ _ _ _ (c .before .before .before .before .before .before .before .before .before .before .before .before .before .before .before .before .before .before .before .before .one .ensures .0) (c .before .before .before .before .before .before .before .before .before .before .before .before .before .before .before .before .before .before .before .float .ensures) (c .before .before .before .before .before .before .before .before .before .before .before .before .before .before .with-primordial-cube-radius .ensures) _ (c .before .before .before .before .before .if1 .left) (c .before .before .numbered .ensures)
+
+pub cube-turn-spec : {M : Type 1} → statement M
+cube-turn-spec =
+    tie.close
+    (tie.spec
+    one-requires
+    float-requires
+    with-primordial-cube-radius-requires
+    slice-aggregate-counted
+    counted-requires
+    same-length
+    same-length-2
+    same-length-3
+    same-length-4
+    same-length-5
+    returns
+    slice-aggregate-numbered
+    cast-numbered
+    numbered-requires
+    same-length-6
+    same-length-7
+    same-length-8
+    same-length-9
+    same-length-10
+    returns-2)

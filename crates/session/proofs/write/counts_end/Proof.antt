@@ -1,0 +1,76 @@
+-- Three numbers and the end of the line, each behind the one before; a count has five digits at most.
+use Prim.Native.Nat.{ℕ}
+use mathlib.Core.Path.{ap}
+use mathlib.Core.List.{List, [], _∷_, _++_}
+use native.Mathlib.Omega.{arith}
+use borrow.Author.Needs.{needs}
+use Rattle.rules.specs.Session.{spaced}
+use Rattle.session.proofs.Puts.{put-as, put-length, then-number, three-counts, number-short}
+use Rattle.session.proofs.write.counts_end.Statement.{statement}
+use Rattle.session.proofs.write.counts_end.Tie as tie
+
+shared-slice-read-wide : tie.Need-shared-slice-read-wide
+shared-slice-read-wide c = search needs
+
+wide-requires : tie.Need-wide-requires
+wide-requires c κs = search needs
+
+number-requires : tie.Need-number-requires
+number-requires c κs = search needs
+
+shared-slice-read-wide-2 : tie.Need-shared-slice-read-wide-2
+shared-slice-read-wide-2 c = search needs
+
+wide-requires-2 : tie.Need-wide-requires-2
+wide-requires-2 c κs = search needs
+
+number-requires-2 : tie.Need-number-requires-2
+number-requires-2 c κs = let a = c .before .before .before .before .before .number .ensures in let l = put-length a in let q = number-short _ (search needs) a in omega (arith, l, q)
+
+shared-slice-read-wide-3 : tie.Need-shared-slice-read-wide-3
+shared-slice-read-wide-3 c = search needs
+
+wide-requires-3 : tie.Need-wide-requires-3
+wide-requires-3 c κs = search needs
+
+number-requires-3 : tie.Need-number-requires-3
+number-requires-3 c κs =
+    let a = c .before .before .before .before .before .before .before .before .before .before .before .number .ensures in let b = c .before .before .before .before .before .number2 .ensures in
+    let l = put-length a in let m = put-length b in
+    let q = number-short _ (search needs) a in let r = number-short _ (search needs) b in omega (arith, l, m, q, r)
+
+slice-aggregate-word : tie.Need-slice-aggregate-word
+slice-aggregate-word c = search needs
+
+word-requires : tie.Need-word-requires
+word-requires c κs =
+    let a = c .before .before .before .before .before .before .before .before .before .before .before .before .before .before .before .before .number .ensures in let b = c .before .before .before .before .before .before .before .before .before .before .number2 .ensures in let d = c .before .before .before .before .number3 .ensures in
+    let l = put-length a in let m = put-length b in let n = put-length d in
+    let q = number-short _ (search needs) a in let r = number-short _ (search needs) b in let s = number-short _ (search needs) d in omega (arith, l, m, n, q, r, s)
+
+same-length : tie.Need-same-length
+same-length c = search needs
+
+returns : tie.Need-returns
+returns c =
+    put-as
+    (ap (λ (ns : List ℕ). spaced ns ++ 10 ∷ []) (three-counts (c .before .before .before .before .before .before .before .before .before .before .before .before .before .before .before .before .before .before .before .before .before .before .before .before .before .args .counts .now) (omega arith) _ _ _ (c .before .before .before .before .before .before .before .before .before .before .before .before .before .before .before .before .before .before .before .before .before .wide .ensures .0) (c .before .before .before .before .before .before .before .before .before .before .before .before .before .before .before .wide2 .ensures .0) (c .before .before .before .before .before .before .before .before .before .wide3 .ensures .0)))
+    (then-number _ (_ ∷ _ ∷ []) (10 ∷ []) (c .before .before .before .before .before .before .before .before .before .before .before .before .before .before .before .before .before .before .before .number .ensures) (then-number _ (_ ∷ []) (10 ∷ []) (c .before .before .before .before .before .before .before .before .before .before .before .before .before .number2 .ensures) (then-number _ [] (10 ∷ []) (c .before .before .before .before .before .before .before .number3 .ensures) (c .before .before .word .ensures))))
+
+pub counts-end-spec : {M : Type 1} → statement M
+counts-end-spec =
+    tie.close
+    (tie.spec
+    shared-slice-read-wide
+    wide-requires
+    number-requires
+    shared-slice-read-wide-2
+    wide-requires-2
+    number-requires-2
+    shared-slice-read-wide-3
+    wide-requires-3
+    number-requires-3
+    slice-aggregate-word
+    word-requires
+    same-length
+    returns)

@@ -1,0 +1,44 @@
+-- What is written into the lent room: bytes one after another, and the line of a record. Definitions only.
+use Prim.Native.Nat.{ℕ, _+_}
+use mathlib.Core.Bool.{Bool}
+use mathlib.Core.Path.{_≡_}
+use mathlib.Core.List.{List}
+use lib.Dec.{ltb}
+use lib.ListN.{length}
+use lib.Seq.{sets}
+use Rattle.rules.specs.Limits.{desk}
+use Rattle.rules.specs.Lists.{if_then_else_}
+use Rattle.rules.specs.Memory.{Memory}
+use Rattle.rules.specs.Session.{badLine, text, Turn, bad, taken, turn}
+use Rattle.rules.specs.Promises.{NamesBelow}
+use Rattle.rules.specs.declared.CutReply.{CutReply}
+use Rattle.rules.specs.declared.CutReply.the-variants.{Refused, Answered}
+use Rattle.session.specs.declared.TurnReply.{TurnReply}
+use Rattle.session.specs.declared.TurnReply.the-variants.{NoRoom, Bad, Taken}
+
+-- the bytes stand in the room from `at` on, and `end` is where they end
+pub record Put (before : List ℕ) (at : ℕ) (bytes : List ℕ) (end : ℕ) (after : List ℕ) : Type 0 where
+  pub place : end ≡ at + length bytes
+  pub room : after ≡ sets before at bytes
+
+-- room that is enough for every line
+abbrev pub lineRoom : ℕ
+lineRoom = 64
+
+-- an answer names elements of the room, and comes with four counts
+abbrev pub LineFits : CutReply → List ℕ → Type 0
+LineFits (Refused n) counts = Unit {0}
+LineFits (Answered a) counts = NamesBelow 512 a × (length counts ≡ 4)
+
+-- the reply, the memory and the room after a turn
+abbrev pub replyOf : Memory → List ℕ → Turn → TurnReply × Memory × List ℕ
+replyOf m room bad = (Bad, m, room)
+replyOf m room (taken k line stands after) = (Taken k (length (text line)) stands, after, sets room 0 (text line))
+
+-- a record's turn; in too little room nothing is done
+unfoldable pub turnReply : Bool → Memory → List ℕ → List ℕ → TurnReply × Memory × List ℕ
+turnReply stands m bytes room = if ltb (length room) lineRoom then (NoRoom, m, room) else replyOf m room (turn desk stands m bytes)
+
+-- the line of a bad record and its length
+unfoldable pub badReply : ℕ → List ℕ → ℕ × List ℕ
+badReply offset room = if ltb (length room) lineRoom then (0, room) else (length (text (badLine offset)), sets room 0 (text (badLine offset)))
