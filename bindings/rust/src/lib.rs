@@ -4,7 +4,7 @@
 //! plane misses is its old entry. Element, vertex and hyperplane numbers count three lists, so they are three types.
 //! Any number and float may be given; a refused call leaves the table and the list as they came.
 
-mod raw;
+pub mod raw;
 
 /// An element's number in its list.
 #[derive(Clone, Copy, Debug, PartialEq, Eq, PartialOrd, Ord, Hash)]
@@ -85,7 +85,8 @@ impl Table {
 
     /// The cut of `root` by `divider`; the entries that it needs and that are not there are added.
     pub fn cut(&mut self, divider: Hyperplane, inside: PolytopeFate, outside: PolytopeFate, root: ElementId) -> Result<ElementCutOutput, Refused> {
-        let word = raw::cut(&mut self.counts, &mut *self.points, &mut *self.planes, &mut *self.elements, divider, inside, outside, root);
+        let kept = |fate| u8::from(fate == PolytopeFate::Keep);
+        let word = raw::cut(&mut self.counts, &mut *self.points, &mut *self.planes, &mut *self.elements, divider, kept(inside), kept(outside), root);
         if let Some(refused) = refusal(word as u32) {
             return Err(refused);
         }

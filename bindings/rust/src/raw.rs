@@ -1,6 +1,7 @@
-//! The exported functions, one for one. Each slice is a pointer and a length, which is all that a contract asks of a caller.
+//! The exported functions, one for one, for hosts that lend slices of their own: the four of a table and, for a question, a
+//! list's. Any length, number and float may be given. The reply is one number: `bindings/c/desk.h` says what its bits are.
 
-use crate::{ElementId, Hyperplane, PolytopeFate};
+use crate::{ElementId, Hyperplane};
 
 pub const COUNTS: usize = 4;
 pub const POINTS: usize = 1024;
@@ -33,14 +34,14 @@ pub fn cube(c: &mut [u16], p: &mut [f64], h: &mut [f64], e: &mut [u16], ndim: u8
     unsafe { desk_cube(c.as_mut_ptr(), c.len(), p.as_mut_ptr(), p.len(), h.as_mut_ptr(), h.len(), e.as_mut_ptr(), e.len(), ndim, radius) }
 }
 
+/// `inside` and `outside`: 0 removes that side, any other byte keeps it.
 #[allow(clippy::too_many_arguments)]
-pub fn cut(c: &mut [u16], p: &mut [f64], h: &mut [f64], e: &mut [u16], divider: Hyperplane, inside: PolytopeFate, outside: PolytopeFate, root: ElementId) -> u64 {
+pub fn cut(c: &mut [u16], p: &mut [f64], h: &mut [f64], e: &mut [u16], divider: Hyperplane, inside: u8, outside: u8, root: ElementId) -> u64 {
     let [n0, n1, n2, n3] = divider.normal;
-    let kept = |fate| u8::from(fate == PolytopeFate::Keep);
     unsafe {
         desk_cut(
             c.as_mut_ptr(), c.len(), p.as_mut_ptr(), p.len(), h.as_mut_ptr(), h.len(), e.as_mut_ptr(), e.len(),
-            n0, n1, n2, n3, divider.distance, kept(inside), kept(outside), root.0,
+            n0, n1, n2, n3, divider.distance, inside, outside, root.0,
         )
     }
 }

@@ -1,0 +1,92 @@
+//! Random arguments for each entry point: mostly ones that are answered, and each kind that is refused.
+
+use crate::call::Call;
+use crate::dividers;
+use crate::model::table::Table;
+use crate::random::Random;
+
+pub fn cut(r: &mut Random, table: Option<&Table>) -> Call {
+    let divider = dividers::divider(r, table);
+    let [inside, outside] = [0; 2].map(|_| r.pick(&[0, 1, 1, 1, 2, 255]));
+    Call::Cut { divider, inside, outside, root: cut_root(r, table) }
+}
+
+pub fn cube(r: &mut Random) -> Call {
+    let dimension = if r.one_in(4) { r.word() as u8 } else { r.from_to(0, 5) as u8 };
+    let beside = [1.0 - f64::EPSILON, 1.0, 1.0 + f64::EPSILON, 65_536.0, 65_536.0 * (1.0 + f64::EPSILON)];
+    let radius = match r.below(4) {
+        0 => r.pick(&beside),
+        1 => r.pick(&[f64::NAN, f64::INFINITY, f64::NEG_INFINITY, 0.0, -0.0, -1.0, 5e-324]),
+        2 => f64::from_bits(r.word()),
+        _ => 1.0 + 100.0 * r.fraction().abs(),
+    };
+    Call::Cube { dimension, radius }
+}
+
+/// One call of each entry point that only reads the table.
+pub fn questions(r: &mut Random, table: Option<&Table>) -> [Call; 7] {
+    [
+        Call::IsSound,
+        Call::SubElements { root: root(r, table) },
+        Call::WithRank { root: root(r, table), rank: rank(r) },
+        Call::VertexSet { root: root(r, table) },
+        Call::GreatestCommon { roots: roots(r, table) },
+        Call::EdgesInOrder { root: root_of_rank(r, table, 2) },
+        Call::PrimordialFacet { root: root_of_rank(r, table, table.map_or(1, |t| t.dimension as u16)) },
+    ]
+}
+
+fn rank(r: &mut Random) -> u8 {
+    if r.one_in(8) {
+        r.word() as u8
+    } else {
+        r.below(5) as u8
+    }
+}
+
+/// Any number: mostly one in use, else the first that is not, the room's end, or any word.
+fn root(r: &mut Random, table: Option<&Table>) -> u16 {
+    let in_use = table.map_or(9, |table| table.elements.len());
+    if in_use == 0 || r.one_in(10) {
+        let word = r.word() as u16;
+        return r.pick(&[in_use as u16, 511, 512, 0xffff, word]);
+    }
+    r.below(in_use) as u16
+}
+
+/// Mostly of that rank, if there is one.
+fn root_of_rank(r: &mut Random, table: Option<&Table>, rank: u16) -> u16 {
+    let of_rank = table.map_or(vec![], |table| numbers_of_rank(table, rank));
+    if of_rank.is_empty() || r.one_in(4) {
+        root(r, table)
+    } else {
+        r.pick(&of_rank)
+    }
+}
+
+fn numbers_of_rank(table: &Table, rank: u16) -> Vec<u16> {
+    (0..table.elements.len() as u16).filter(|&e| table.rank(e) == rank).collect()
+}
+
+/// Mostly one of the highest rank, or a late one.
+fn cut_root(r: &mut Random, table: Option<&Table>) -> u16 {
+    let highest = table.map_or(0, |table| table.elements.iter().map(|e| e.rank()).max().unwrap_or(0));
+    match table.map(|table| table.elements.len()) {
+        Some(in_use) if in_use > 0 && r.one_in(4) => (in_use - 1 - r.below(in_use.min(4))) as u16,
+        _ => root_of_rank(r, table, highest),
+    }
+}
+
+/// Some of one rank, with repeats, now and then with any root among them.
+fn roots(r: &mut Random, table: Option<&Table>) -> Vec<u16> {
+    let rank = r.below(5) as u16;
+    let count = if r.one_in(50) { 600 } else { r.below(5) };
+    let mut roots: Vec<u16> = match table.map(|table| numbers_of_rank(table, rank)) {
+        Some(of_rank) if !of_rank.is_empty() => (0..count).map(|_| r.pick(&of_rank)).collect(),
+        _ => (0..count).map(|_| root(r, table)).collect(),
+    };
+    if r.one_in(6) {
+        roots.push(root(r, table));
+    }
+    roots
+}

@@ -1,0 +1,181 @@
+//! `calls N SEED`: N calls of every entry point, on random, damaged and strange memory, by the engine and by the model. The
+//! reply and every word of the memory and of the list room afterwards are compared; the first difference is shown.
+
+use evidence::arguments;
+use evidence::call::Call;
+use evidence::memories::{self, Kind};
+use evidence::model::memory::{Lent, Memory};
+use evidence::model::table::Table;
+use evidence::random::Random;
+use std::collections::BTreeMap;
+use std::process::ExitCode;
+
+/// Each outcome that document 01 names for an entry point, which a run has to meet.
+const OUTCOMES: [(&str, &[&str]); 9] = [
+    ("is_sound", &["sound", "refused 3"]),
+    ("with_primordial_cube_radius", &["done", "refused 1", "refused 2", "refused 3"]),
+    (
+        "cut",
+        &[
+            "flush",
+            "- - -",
+            "- - intersection",
+            "- outside -",
+            "- outside intersection",
+            "inside - -",
+            "inside - intersection",
+            "inside outside -",
+            "inside outside intersection",
+            "refused 3",
+            "refused 4",
+            "refused 5",
+            "refused 7",
+            "refused 8",
+            "refused 9",
+            "refused 10",
+            "refused 11",
+        ],
+    ),
+    ("subelements_of", &["list", "refused 3", "refused 4", "refused 12"]),
+    ("subelements_with_rank", &["list", "empty list", "refused 3", "refused 4", "refused 12"]),
+    ("vertex_set", &["list", "refused 3", "refused 4", "refused 12"]),
+    ("greatest_common_subelements", &["list", "empty list", "refused 3", "refused 4", "refused 6", "refused 12"]),
+    ("edges_in_order", &["list", "refused 3", "refused 4", "refused 6", "refused 7", "refused 12"]),
+    ("has_primordial_facet", &["yes", "no", "refused 3", "refused 4", "refused 6"]),
+];
+
+type Met = BTreeMap<(&'static str, String), u64>;
+
+/// The same memory, lent to the model and to the engine.
+struct Pair {
+    model: Lent,
+    engine: Memory,
+}
+
+impl Pair {
+    fn new(memory: Memory) -> Self {
+        Self { model: Lent::new(memory.clone()), engine: memory }
+    }
+
+    fn copy(&self) -> Self {
+        Self { model: self.model.clone(), engine: self.engine.clone() }
+    }
+
+    fn table(&self) -> Option<&Table> {
+        self.model.table().ok()
+    }
+}
+
+fn main() -> ExitCode {
+    let numbers: Vec<u64> = std::env::args().skip(1).filter_map(|word| word.parse().ok()).collect();
+    let (n, seed) = match numbers[..] {
+        [n, seed] => (n, seed),
+        _ => {
+            eprintln!("calls N SEED");
+            return ExitCode::from(2);
+        }
+    };
+    let mut met = Met::new();
+    match compare(n, seed, &mut met) {
+        Ok(()) => report(n, &met),
+        Err(difference) => {
+            println!("seed {seed}, {difference}");
+            ExitCode::FAILURE
+        }
+    }
+}
+
+/// Each step is one call of every entry point on one memory; a memory stands for some steps.
+fn compare(n: u64, seed: u64, met: &mut Met) -> Result<(), String> {
+    let mut r = Random::new(seed);
+    let (mut pair, mut left) = (Pair::new(Memory::clear()), 0);
+    for step in 0..n {
+        if left == 0 {
+            let kind = memories::kind(&mut r);
+            pair = Pair::new(memories::memory(&mut r, kind));
+            left = steps_of(&mut r, kind);
+        }
+        left -= 1;
+        let mut damaged = if r.one_in(4) { damaged_copy(&mut r, &pair) } else { None };
+        let stand = damaged.as_mut().unwrap_or(&mut pair);
+        compare_step(&mut r, stand, met).map_err(|difference| format!("step {step}: {difference}"))?;
+    }
+    Ok(())
+}
+
+/// Few sessions go on until a room is full, for the cost grows with the table.
+fn steps_of(r: &mut Random, kind: Kind) -> usize {
+    match kind {
+        Kind::RandomWords | Kind::OtherLengths | Kind::Broken => r.from_to(1, 2),
+        Kind::Session if r.one_in(1000) => 100,
+        Kind::Session | Kind::Strange => r.from_to(1, 7),
+    }
+}
+
+fn damaged_copy(r: &mut Random, pair: &Pair) -> Option<Pair> {
+    let mut memory = pair.engine.clone();
+    memories::damage(r, &mut memory, pair.table()?);
+    Some(Pair::new(memory))
+}
+
+/// Questions are asked of the table that the cut leaves; the cube takes a copy away.
+fn compare_step(r: &mut Random, pair: &mut Pair, met: &mut Met) -> Result<(), String> {
+    let cut = arguments::cut(r, pair.table());
+    compare_call(&cut, pair, &[], met)?;
+    for call in arguments::questions(r, pair.table()) {
+        let room = list_room(r, &call, &mut pair.model);
+        compare_call(&call, pair, &room, met)?;
+    }
+    compare_call(&arguments::cube(r), &mut pair.copy(), &[], met)
+}
+
+/// Old words, and none, too few, enough or more of them than the list has.
+fn list_room(r: &mut Random, call: &Call, lent: &mut Lent) -> Vec<u16> {
+    let word = call.by_model(lent, &mut [0; 512]);
+    let size = if word as u8 == 0 { (word >> 8) as usize } else { r.below(8) };
+    let length = r.pick(&[0, size / 2, size.saturating_sub(1), size, size, size, size + 1, size + 9, size.max(512)]);
+    (0..length).map(|_| r.word() as u16).collect()
+}
+
+fn compare_call(call: &Call, pair: &mut Pair, room: &[u16], met: &mut Met) -> Result<(), String> {
+    let before = pair.engine.clone();
+    let (mut model_room, mut engine_room) = (room.to_vec(), room.to_vec());
+    let by_model = call.by_model(&mut pair.model, &mut model_room);
+    let by_engine = call.by_engine(&mut pair.engine, &mut engine_room);
+    if by_model == by_engine && model_room == engine_room && pair.engine.is_same(pair.model.memory()) {
+        *met.entry((call.name(), call.outcome(by_model))).or_default() += 1;
+        return Ok(());
+    }
+    let rooms = format!("list room {room:x?}, by the model {model_room:x?}, by the engine {engine_room:x?}");
+    let memories = [before.shown(), pair.model.memory().shown(), pair.engine.shown()];
+    Err(format!(
+        "{call:x?}\nreply by the model {by_model:#x}, by the engine {by_engine:#x}\n{rooms}\n\
+         memory before\n{}\nafter, by the model\n{}\nafter, by the engine\n{}",
+        memories[0], memories[1], memories[2]
+    ))
+}
+
+/// How often each outcome was met. One that was never met makes the run fail.
+fn report(n: u64, met: &Met) -> ExitCode {
+    let mut is_whole = true;
+    for (name, outcomes) in OUTCOMES {
+        println!("{name}");
+        for outcome in outcomes {
+            let times = met.get(&(name, outcome.to_string())).copied().unwrap_or(0);
+            println!("{times:>12}  {outcome}{}", if times == 0 { "  NEVER MET" } else { "" });
+            is_whole &= times > 0;
+        }
+    }
+    let named =
+        |(name, outcome): &(&str, String)| OUTCOMES.iter().any(|row| row.0 == *name && row.1.contains(&&**outcome));
+    for unnamed in met.keys().filter(|key| !named(key)) {
+        println!("{unnamed:?}  NOT NAMED FOR IT");
+        is_whole = false;
+    }
+    println!("{n} calls of each of {} entry points, no difference", OUTCOMES.len());
+    if is_whole {
+        ExitCode::SUCCESS
+    } else {
+        ExitCode::FAILURE
+    }
+}

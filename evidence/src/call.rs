@@ -1,0 +1,121 @@
+//! One call of one entry point, made by the model and by the engine, with the reply as the engine's one number.
+
+use crate::model::cut::{Answer, Kept};
+use crate::model::floats::Hyperplane;
+use crate::model::memory::{Lent, Memory};
+use crate::model::{cube, cut, questions, Refusal};
+use spoonvelvet::{raw, ElementId};
+
+#[derive(Clone, Debug)]
+pub enum Call {
+    IsSound,
+    Cube { dimension: u8, radius: f64 },
+    Cut { divider: Hyperplane, inside: u8, outside: u8, root: u16 },
+    SubElements { root: u16 },
+    WithRank { root: u16, rank: u8 },
+    VertexSet { root: u16 },
+    GreatestCommon { roots: Vec<u16> },
+    EdgesInOrder { root: u16 },
+    PrimordialFacet { root: u16 },
+}
+
+impl Call {
+    /// The model's reply; the memory and the list room are left as the call leaves them.
+    pub fn by_model(&self, lent: &mut Lent, room: &mut [u16]) -> u64 {
+        match self {
+            Call::IsSound => done_word(lent.table().map(|_| ())),
+            Call::Cube { dimension, radius } => done_word(cube::with_primordial_cube_radius(lent, *dimension, *radius)),
+            Call::Cut { divider, inside, outside, root } => {
+                let kept = Kept { inside: *inside != 0, outside: *outside != 0 };
+                cut_word(cut::cut(lent, *divider, kept, *root))
+            }
+            Call::SubElements { root } => list_word(questions::subelements_of(lent, *root, room)),
+            Call::WithRank { root, rank } => list_word(questions::subelements_with_rank(lent, *root, *rank, room)),
+            Call::VertexSet { root } => list_word(questions::vertex_set(lent, *root, room)),
+            Call::GreatestCommon { roots } => list_word(questions::greatest_common_subelements(lent, roots, room)),
+            Call::EdgesInOrder { root } => list_word(questions::edges_in_order(lent, *root, room)),
+            Call::PrimordialFacet { root } => facet_word(questions::has_primordial_facet(lent, *root)),
+        }
+    }
+
+    /// The engine's reply, through the functions that hosts link.
+    pub fn by_engine(&self, memory: &mut Memory, room: &mut [u16]) -> u64 {
+        let Memory { counts: c, points: p, planes: h, elements: e } = memory;
+        match self {
+            Call::IsSound => raw::is_sound(c, p, h, e).into(),
+            Call::Cube { dimension, radius } => raw::cube(c, p, h, e, *dimension, *radius).into(),
+            Call::Cut { divider, inside, outside, root } => {
+                let divider = spoonvelvet::Hyperplane { normal: divider.normal, distance: divider.distance };
+                raw::cut(c, p, h, e, divider, *inside, *outside, ElementId(*root))
+            }
+            Call::SubElements { root } => raw::subelements_of(c, p, h, e, ElementId(*root), room).into(),
+            Call::WithRank { root, rank } => {
+                raw::subelements_with_rank(c, p, h, e, ElementId(*root), *rank, room).into()
+            }
+            Call::VertexSet { root } => raw::vertex_set(c, p, h, e, ElementId(*root), room).into(),
+            Call::GreatestCommon { roots } => raw::greatest_common_subelements(c, p, h, e, roots, room).into(),
+            Call::EdgesInOrder { root } => raw::edges_in_order(c, p, h, e, ElementId(*root), room).into(),
+            Call::PrimordialFacet { root } => raw::has_primordial_facet(c, p, h, e, ElementId(*root)).into(),
+        }
+    }
+
+    pub fn name(&self) -> &'static str {
+        match self {
+            Call::IsSound => "is_sound",
+            Call::Cube { .. } => "with_primordial_cube_radius",
+            Call::Cut { .. } => "cut",
+            Call::SubElements { .. } => "subelements_of",
+            Call::WithRank { .. } => "subelements_with_rank",
+            Call::VertexSet { .. } => "vertex_set",
+            Call::GreatestCommon { .. } => "greatest_common_subelements",
+            Call::EdgesInOrder { .. } => "edges_in_order",
+            Call::PrimordialFacet { .. } => "has_primordial_facet",
+        }
+    }
+
+    /// Which refusal or kind of answer a reply of this call is.
+    pub fn outcome(&self, word: u64) -> String {
+        let is_set = word >> 8 & 1 == 1;
+        match (word as u8, self) {
+            (0, Call::IsSound) => "sound".into(),
+            (0, Call::Cube { .. }) => "done".into(),
+            (0, Call::Cut { .. }) if is_set => "flush".into(),
+            (0, Call::Cut { .. }) => parts_outcome(word),
+            (0, Call::PrimordialFacet { .. }) => if is_set { "yes" } else { "no" }.into(),
+            (0, _) => if word == 0 { "empty list" } else { "list" }.into(),
+            (number, _) => format!("refused {number}"),
+        }
+    }
+}
+
+fn parts_outcome(word: u64) -> String {
+    let places = [(16, "inside"), (32, "outside"), (48, "intersection")];
+    let name = |(shift, name)| if (word >> shift) as u16 == raw::NONE { "-" } else { name };
+    places.map(name).join(" ")
+}
+
+fn done_word(reply: Result<(), Refusal>) -> u64 {
+    reply.map_or_else(u64::from, |()| 0)
+}
+
+/// Bits 0 to 7 the number, above them the size.
+fn list_word(reply: Result<usize, Refusal>) -> u64 {
+    reply.map_or_else(u64::from, |size| (size as u64) << 8)
+}
+
+/// Bits 0 to 7 the number, bit 8 the answer.
+fn facet_word(reply: Result<bool, Refusal>) -> u64 {
+    reply.map_or_else(u64::from, |has| u64::from(has) << 8)
+}
+
+/// Bits 0 to 7 the number; bit 8 for flush; from 16, 32 and 48 inside, outside and intersection.
+fn cut_word(reply: Result<Answer, Refusal>) -> u64 {
+    let place = |element: Option<u16>| u64::from(element.unwrap_or(raw::NONE));
+    match reply {
+        Err(refusal) => refusal.into(),
+        Ok(Answer::Flush) => 1 << 8,
+        Ok(Answer::NonFlush { inside, outside, intersection }) => {
+            place(inside) << 16 | place(outside) << 32 | place(intersection) << 48
+        }
+    }
+}

@@ -1,0 +1,10 @@
+//! Evidence beside the proofs: the engine, as hosts link it, beside a model of document 01 and beside the published Rust.
+
+pub mod arguments;
+pub mod call;
+pub mod dividers;
+pub mod memories;
+pub mod model;
+pub mod random;
+pub mod session;
+pub mod strange;

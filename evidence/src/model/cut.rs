@@ -1,0 +1,214 @@
+//! "The cut": rules 1 to 8.
+
+use super::floats::{
+    crossing, hyperplanes_match, is_distance, is_unit, points_match, side, signed_distance, Hyperplane, Point, Side,
+};
+use super::memory::{write, Lent};
+use super::table::{Element, Polytope, Table, BOUNDARY_ROOM, ELEMENT_ROOM, HYPERPLANE_ROOM, VERTEX_ROOM};
+use super::Refusal;
+use std::collections::BTreeSet;
+
+#[derive(Clone, Copy, Debug, PartialEq, Eq)]
+pub enum Answer {
+    Flush,
+    NonFlush { inside: Option<u16>, outside: Option<u16>, intersection: Option<u16> },
+}
+
+/// Which sides are kept.
+#[derive(Clone, Copy, Debug)]
+pub struct Kept {
+    pub inside: bool,
+    pub outside: bool,
+}
+
+pub fn cut(lent: &mut Lent, divider: Hyperplane, kept: Kept, root: u16) -> Result<Answer, Refusal> {
+    let table = lent.table()?;
+    if !table.is_in_use(root) {
+        return Err(4);
+    }
+    if !is_unit(&divider.normal, table.dimension) || !(divider.distance.is_infinite() || is_distance(divider.distance))
+    {
+        return Err(5);
+    }
+    if divider.distance.is_infinite() {
+        return Ok(given_on(divider.distance > 0.0, root));
+    }
+    let mut cut = Cut { table: table.clone(), divider, hyperplane: 0, kept };
+    cut.hyperplane = cut.matched_or_appended_hyperplane()?;
+    let answer = cut.element(root)?;
+    *lent = Lent::new(write(&cut.table));
+    Ok(answer)
+}
+
+fn given_on(inside: bool, element: u16) -> Answer {
+    Answer::NonFlush { inside: inside.then_some(element), outside: (!inside).then_some(element), intersection: None }
+}
+
+struct Cut {
+    table: Table,
+    divider: Hyperplane,
+    /// The divider's number.
+    hyperplane: u16,
+    kept: Kept,
+}
+
+/// What a boundary's elements answer.
+#[derive(Default)]
+struct Gathered {
+    flush: Vec<u16>,
+    inside: BTreeSet<u16>,
+    outside: BTreeSet<u16>,
+    intersections: BTreeSet<u16>,
+}
+
+impl Gathered {
+    fn take(&mut self, element: u16, answer: Answer) {
+        match answer {
+            Answer::Flush => self.flush.push(element),
+            Answer::NonFlush { inside, outside, intersection } => {
+                self.inside.extend(inside);
+                self.outside.extend(outside);
+                self.intersections.extend(intersection);
+            }
+        }
+    }
+}
+
+impl Cut {
+    /// Rule 2.
+    fn matched_or_appended_hyperplane(&mut self) -> Result<u16, Refusal> {
+        let first = self.table.primordial_hyperplanes();
+        let hyperplanes = &mut self.table.hyperplanes;
+        let matched = (first..hyperplanes.len()).find(|&h| hyperplanes_match(&hyperplanes[h], &self.divider));
+        if let Some(number) = matched {
+            return Ok(number as u16);
+        }
+        if hyperplanes.len() == HYPERPLANE_ROOM {
+            return Err(10);
+        }
+        hyperplanes.push(self.divider);
+        Ok(hyperplanes.len() as u16 - 1)
+    }
+
+    fn element(&mut self, number: u16) -> Result<Answer, Refusal> {
+        match self.table.elements[usize::from(number)].clone() {
+            Element::Vertex(vertex) => Ok(self.vertex(number, vertex)),
+            Element::Polytope(old) => {
+                let mut gathered = self.boundary(&old.boundary)?;
+                if old.rank == 1 && gathered.flush.is_empty() {
+                    gathered.flush.extend(self.edge_crossing(&old.boundary)?);
+                }
+                self.parts(&old, &gathered)
+            }
+        }
+    }
+
+    /// Rule 3.
+    fn vertex(&self, number: u16, vertex: u16) -> Answer {
+        match side(self.distance_of(vertex)) {
+            Side::On => Answer::Flush,
+            Side::Inside => given_on(true, number),
+            Side::Outside => given_on(false, number),
+        }
+    }
+
+    fn distance_of(&self, vertex: u16) -> f64 {
+        signed_distance(&self.divider, &self.table.vertices[usize::from(vertex)])
+    }
+
+    /// Rule 5, and rule 4's "ends on the plane are flush; other ends go to their side".
+    fn boundary(&mut self, boundary: &[u16]) -> Result<Gathered, Refusal> {
+        let mut gathered = Gathered::default();
+        for &element in boundary {
+            let answer = self.element(element)?;
+            gathered.take(element, answer);
+        }
+        Ok(gathered)
+    }
+
+    /// Rule 4: the element of the crossing, if one end is inside and the other outside.
+    fn edge_crossing(&mut self, ends: &[u16]) -> Result<Option<u16>, Refusal> {
+        let vertices: Vec<u16> = ends.iter().filter_map(|&end| self.table.vertex_number(end)).collect();
+        let [sa, sb] = [vertices[0], vertices[1]].map(|vertex| self.distance_of(vertex));
+        if side(sa) == side(sb) {
+            return Ok(None);
+        }
+        let [a, b] = [vertices[0], vertices[1]].map(|vertex| self.table.vertices[usize::from(vertex)]);
+        self.matched_or_appended_vertex(crossing(&a, &b, sa, sb)).map(Some)
+    }
+
+    /// The element of the lowest vertex that matches, or of a new one.
+    fn matched_or_appended_vertex(&mut self, point: Point) -> Result<u16, Refusal> {
+        let matched = self.table.vertices.iter().position(|earlier| points_match(earlier, &point));
+        if let Some(vertex) = matched {
+            return Ok(self.element_of(vertex as u16));
+        }
+        if self.table.vertices.len() == VERTEX_ROOM {
+            return Err(8);
+        }
+        self.table.vertices.push(point);
+        self.append(Element::Vertex(self.table.vertices.len() as u16 - 1))
+    }
+
+    fn element_of(&self, vertex: u16) -> u16 {
+        let named = |element: &Element| *element == Element::Vertex(vertex);
+        self.table.elements.iter().position(named).expect("each vertex in use has its element") as u16
+    }
+
+    fn append(&mut self, element: Element) -> Result<u16, Refusal> {
+        if self.table.elements.len() == ELEMENT_ROOM {
+            return Err(9);
+        }
+        self.table.elements.push(element);
+        Ok(self.table.elements.len() as u16 - 1)
+    }
+
+    /// Rules 6 and 7.
+    fn parts(&mut self, old: &Polytope, gathered: &Gathered) -> Result<Answer, Refusal> {
+        let intersection = match gathered.flush[..] {
+            [] => self.new_intersection(old.rank, &gathered.intersections)?,
+            [flush] => Some(flush),
+            _ => return Ok(Answer::Flush),
+        };
+        let inside = self.part(self.kept.inside, old, &gathered.inside, intersection)?;
+        let outside = self.part(self.kept.outside, old, &gathered.outside, intersection)?;
+        Ok(Answer::NonFlush { inside, outside, intersection })
+    }
+
+    fn new_intersection(&mut self, rank: u16, set: &BTreeSet<u16>) -> Result<Option<u16>, Refusal> {
+        let hyperplane = Some(self.hyperplane).filter(|_| usize::from(rank) == self.table.dimension);
+        self.add(Polytope { rank: rank - 1, boundary: set.iter().copied().collect(), hyperplane, primordial: false })
+    }
+
+    /// A removed side is none.
+    fn part(
+        &mut self,
+        kept: bool,
+        old: &Polytope,
+        set: &BTreeSet<u16>,
+        intersection: Option<u16>,
+    ) -> Result<Option<u16>, Refusal> {
+        if !kept {
+            return Ok(None);
+        }
+        let mut set = set.clone();
+        set.extend(intersection);
+        self.add(Polytope { boundary: set.into_iter().collect(), ..old.clone() })
+    }
+
+    /// Rule 8: tests rule 8's count, 11, 7, equal entry, 9.
+    fn add(&mut self, new: Polytope) -> Result<Option<u16>, Refusal> {
+        if new.boundary.len() <= usize::from(new.rank) {
+            return Ok(None);
+        }
+        if new.boundary.len() > BOUNDARY_ROOM {
+            return Err(11);
+        }
+        if new.rank == 1 && new.boundary.len() != 2 || new.rank == 2 && !self.table.is_closed(&new.boundary) {
+            return Err(7);
+        }
+        let new = Element::Polytope(new);
+        let equal = self.table.elements.iter().position(|element| *element == new);
+        equal.map_or_else(|| self.append(new), |number| Ok(number as u16)).map(Some)
+    }
+}

@@ -1,0 +1,89 @@
+//! "The table": vertices, elements and hyperplanes, three lists with numbers of their own.
+
+use super::floats::{Hyperplane, Point};
+
+pub const VERTEX_ROOM: usize = 256;
+pub const ELEMENT_ROOM: usize = 512;
+pub const HYPERPLANE_ROOM: usize = 64;
+pub const BOUNDARY_ROOM: usize = 32;
+
+#[derive(Clone, Debug, PartialEq, Eq, Hash)]
+pub enum Element {
+    /// Its vertex number.
+    Vertex(u16),
+    Polytope(Polytope),
+}
+
+#[derive(Clone, Debug, PartialEq, Eq, Hash)]
+pub struct Polytope {
+    pub rank: u16,
+    pub boundary: Vec<u16>,
+    pub hyperplane: Option<u16>,
+    pub primordial: bool,
+}
+
+#[derive(Clone, Debug)]
+pub struct Table {
+    pub dimension: usize,
+    pub vertices: Vec<Point>,
+    pub hyperplanes: Vec<Hyperplane>,
+    pub elements: Vec<Element>,
+}
+
+impl Element {
+    pub fn rank(&self) -> u16 {
+        match self {
+            Element::Vertex(_) => 0,
+            Element::Polytope(p) => p.rank,
+        }
+    }
+
+    /// The numbers of the elements that bound it: none for a vertex.
+    pub fn boundary(&self) -> &[u16] {
+        match self {
+            Element::Vertex(_) => &[],
+            Element::Polytope(p) => &p.boundary,
+        }
+    }
+}
+
+impl Table {
+    pub fn element(&self, number: u16) -> Option<&Element> {
+        self.elements.get(usize::from(number))
+    }
+
+    pub fn is_in_use(&self, number: u16) -> bool {
+        usize::from(number) < self.elements.len()
+    }
+
+    pub fn rank(&self, number: u16) -> u16 {
+        self.elements[usize::from(number)].rank()
+    }
+
+    pub fn boundary(&self, number: u16) -> &[u16] {
+        self.elements[usize::from(number)].boundary()
+    }
+
+    /// The vertex number of a vertex element.
+    pub fn vertex_number(&self, number: u16) -> Option<u16> {
+        match self.element(number) {
+            Some(Element::Vertex(vertex)) => Some(*vertex),
+            _ => None,
+        }
+    }
+
+    /// P: as many hyperplanes as the cube of this dimension has.
+    pub fn primordial_hyperplanes(&self) -> usize {
+        if self.dimension == 1 {
+            0
+        } else {
+            2 * self.dimension
+        }
+    }
+
+    /// Each vertex met lies on exactly two of the edges.
+    pub fn is_closed(&self, edges: &[u16]) -> bool {
+        let ends: Vec<u16> = edges.iter().flat_map(|&edge| self.boundary(edge).iter().copied()).collect();
+        ends.iter().all(|end| ends.iter().filter(|other| *other == end).count() == 2)
+    }
+}
