@@ -3,3 +3,4 @@ pub mod Numbers
 pub mod Puts
 pub mod Records
 pub mod Turns
+pub mod Enough

@@ -1,10 +1,10 @@
 -- A record's reply, case by case: a cube made or refused, a cut, a bad record. No cut looks at the divider of a table of more than four dimensions, for none is sound.
 use Prim.Native.Nat.{ℕ, zero, suc, _+_, _*_, _/_, _%_, _≤_, _<_}
 use mathlib.Core.Bool.{Bool, true, false, not, _&&_}
-use mathlib.Core.List.{List, [], _∷_}
+use mathlib.Core.List.{List}
 use mathlib.Core.Path.{_≡_, refl, sym, ap, ap₂, subst, _∙_}
 use native.Mathlib.Omega.{arith}
-use lib.Dec.{leb, ltb, eqb}
+use lib.Dec.{leb, eqb}
 use lib.ListN.{length, getD, drop}
 use lib.Seq.{sets}
 use lib.Ieee.{Float}
@@ -23,7 +23,6 @@ use Rattle.rules.proofs.OneCall.{sound-table}
 use Rattle.cut.proofs.Names.{names-low, four-counts}
 use Rattle.session.proofs.Records.{Marked}
 use Rattle.session.specs.Written.{Put, lineRoom, LineFits, replyOf, turnReply, badReply}
-use Rattle.session.specs.declared.TurnReply.{TurnReply}
 use Rattle.session.specs.declared.TurnReply.the-variants.{NoRoom, Bad, Taken}
 
 -- a line begins at the front of the room
