@@ -46,6 +46,12 @@ pub unsafe extern "C" fn fuzz_write(file: i32, bytes: *const u8, size: usize) ->
     size as isize
 }
 
+/// The program's errno, which it asks for only where a call failed; none fails here.
+#[no_mangle]
+pub extern "C" fn rattle_errno() -> i32 {
+    0
+}
+
 /// The lines that cutlist writes for the input are those of the reader, or the fuzzer is told.
 ///
 /// # Safety

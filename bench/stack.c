@@ -1,0 +1,63 @@
+/* Bytes of stack that each entry point takes. A stack is filled with a pattern, a call is made on it, and the bytes down to the
+   lowest that changed are counted, less those of no call. Frames have fixed sizes and a cut goes down by rank alone, so a table
+   of four dimensions takes the most that there is. Link with libdesk.a for the machine at hand. */
+#include "desk.h"
+#include <stdio.h>
+#include <string.h>
+#include <ucontext.h>
+
+#define TABLE counts, DESK_COUNTS, points, DESK_POINTS, planes, DESK_PLANES, elements, DESK_ELEMENTS
+#define STACK 65536
+#define PATTERN 0xa5
+
+static uint16_t counts[DESK_COUNTS], elements[DESK_ELEMENTS], list[512];
+static double points[DESK_POINTS], planes[DESK_PLANES];
+static const uint16_t cube = 80, face = 8, roots[2] = {80, 80};
+
+static void no_call(void) {}
+static void is_sound(void) { desk_is_sound(TABLE); }
+static void new_cube(void) { desk_cube(TABLE, 4, 1.0); }
+static void diagonal_cut(void) { desk_cut(TABLE, 0.5, 0.5, 0.5, 0.5, 0.3, 1, 1, cube); }
+static void sub_elements(void) { desk_subelements_of(TABLE, cube, list, 512); }
+static void with_rank(void) { desk_subelements_with_rank(TABLE, cube, 1, list, 512); }
+static void vertex_set(void) { desk_vertex_set(TABLE, cube, list, 512); }
+static void greatest_common(void) { desk_greatest_common_subelements(TABLE, roots, 2, list, 512); }
+static void edges_in_order(void) { desk_edges_in_order(TABLE, face, list, 512); }
+static void primordial_facet(void) { desk_has_primordial_facet(TABLE, cube); }
+
+static const struct {
+    const char *name;
+    void (*make)(void);
+} calls[] = {
+    {"desk_is_sound", is_sound},
+    {"desk_cube", new_cube},
+    {"desk_cut", diagonal_cut},
+    {"desk_subelements_of", sub_elements},
+    {"desk_subelements_with_rank", with_rank},
+    {"desk_vertex_set", vertex_set},
+    {"desk_greatest_common_subelements", greatest_common},
+    {"desk_edges_in_order", edges_in_order},
+    {"desk_has_primordial_facet", primordial_facet},
+};
+
+static int bytes_changed(void (*call)(void)) {
+    static unsigned char stack[STACK];
+    ucontext_t here, there;
+    int unchanged = 0;
+    memset(stack, PATTERN, STACK);
+    getcontext(&there);
+    there.uc_stack.ss_sp = stack;
+    there.uc_stack.ss_size = STACK;
+    there.uc_link = &here;
+    makecontext(&there, call, 0);
+    swapcontext(&here, &there);
+    while (unchanged < STACK && stack[unchanged] == PATTERN) unchanged++;
+    return STACK - unchanged;
+}
+
+int main(void) {
+    desk_cube(TABLE, 4, 1.0);
+    for (size_t i = 0; i < sizeof calls / sizeof *calls; i++)
+        printf("%s %d\n", calls[i].name, bytes_changed(calls[i].make) - bytes_changed(no_call));
+    return 0;
+}
