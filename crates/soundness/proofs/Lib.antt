@@ -6,3 +6,4 @@ pub mod RowLoops
 pub mod PlaneLoops
 pub mod BoundaryLoops
 pub mod ElementLoops
+pub mod Chains

@@ -80,7 +80,7 @@ module _ (es : List ℕ) (n : ℕ) where
   unfolding rowsDistinct
   distinct-start = ap (λ (m : ℕ). distinct (alike eqb) (rows m 36 es)) (sym (sub-zero n))
 
-  distinct-on : (i : ℕ) → i < n → distinct (alike eqb) (rest i) ≡ (not (any (λ y. alike eqb y (here i)) (rest (i + 1))) && distinct (alike eqb) (rest (i + 1)))
+  pub distinct-on : (i : ℕ) → i < n → distinct (alike eqb) (rest i) ≡ (not (any (λ y. alike eqb y (here i)) (rest (i + 1))) && distinct (alike eqb) (rest (i + 1)))
   distinct-on i h = ap (distinct (alike eqb)) (rows-on 36 i n es h)
 
   pub distinct-go : {reply : Bool} (i : ℕ) → reply ≡ distinct (alike eqb) (rest i) → i < n → any (λ y. alike eqb y (here i)) (rest (i + 1)) ≡ false → reply ≡ distinct (alike eqb) (rest (i + 1))

@@ -21,6 +21,7 @@ ghost use Rattle.rules.specs.Memory.{soundMemory};
 ghost use Rattle.rules.specs.Held.{memoryOf};
 ghost use Rattle.rules.specs.Replies.{isSoundReply};
 ghost use Rattle.space.specs.Closed.{closedRaw};
+ghost use Rattle.soundness.specs.Chains.{keyOf, Linked, Lowest};
 ghost use Rattle.soundness.specs.Words.{blank, countsFit, recordWords, recordsSound, cornerNamed, cornersSound, rowsDistinct, boundaryWords, facetWords, elementSound, elementsSound, rowsSound};
 
 // How many words stand before a boundary: rank, mark, hyperplane, count.
@@ -28,6 +29,9 @@ const HEAD: usize = 4;
 
 // Room for so many numbers in a boundary.
 const BOUNDARY: u16 = 32;
+
+// The end of a chain: no row has this number.
+const NO_ROW: u16 = 512;
 
 // The dimension and every count fit the room, and the hyperplanes of the space are there.
 fn counts_fit(d: usize, n: usize, v: usize, h: usize) -> bool
@@ -277,28 +281,46 @@ fn same_rows(elements: &[u16], a: usize, b: usize) -> bool
     true
 }
 
-// Some later row is equal to row i.
-fn met_later(elements: &[u16], n: usize, i: usize) -> bool
-    requires { ⌜ (i < n) × (n ≤ 512) × (length (now elements) ≡ 18432) ⌝ }
+// The row's first boundary number, which equal rows share; a remainder, so that any word is a place in the lists below.
+fn key_of(elements: &[u16], i: usize) -> usize
+    requires { ⌜ (i < 512) × (length (now elements) ≡ 18432) ⌝ }
+    ensures { λ r. ⌜ (r ≡ keyOf (now (elements .entry)) i) × (r < 512) ⌝ }
+{
+    wide(elements[i * WIDTH + HEAD]) % ELEMENTS
+}
+
+// Some later row is equal to row i: only those with its key are looked at.
+fn met_on_chain(elements: &[u16], n: usize, i: usize, next: &[u16; 512], from: u16) -> bool
+    requires { ⌜ (i < n) × (n ≤ 512) × (length (now elements) ≡ 18432) × Linked (now elements) n (now next) (i + 1) × Lowest (now elements) n (keyOf (now elements) i) (i + 1) from ⌝ }
     ensures { λ r. ⌜ r ≡ any (λ y. alike eqb y (take 36 (drop (i * 36) (now (elements .entry))))) (rows (n - (i + 1)) 36 (drop ((i + 1) * 36) (now (elements .entry)))) ⌝ }
 {
-    for j in i + 1..n {
+    let mut j = wide(from);
+    while j < n {
         if same_rows(elements, j * WIDTH, i * WIDTH) {
             return true;
         }
+        j = wide(next[j]);
     }
     false
 }
 
-// No two elements are equal in all fields.
+// No two elements are equal in all fields: from the last row down, each is compared with the later ones of its key.
 fn rows_distinct(elements: &[u16], n: usize) -> bool
     requires { ⌜ (n ≤ 512) × (length (now elements) ≡ 18432) ⌝ }
     ensures { λ r. ⌜ r ≡ rowsDistinct desk n (now (elements .entry)) ⌝ }
 {
-    for i in 0..n {
-        if met_later(elements, n, i) {
+    let mut first = [NO_ROW; 512];
+    let mut next = [NO_ROW; 512];
+    let mut i = n;
+    while 0 < i {
+        i = i - 1;
+        let key = key_of(elements, i);
+        let from = first[key];
+        if met_on_chain(elements, n, i, &next, from) {
             return false;
         }
+        next[i] = from;
+        first[key] = i as u16;
     }
     true
 }
