@@ -2,6 +2,7 @@ pub mod ReadBack
 pub mod SoundLines
 pub mod SoundElements
 pub mod SoundWhole
+pub mod Unseen
 pub mod RowLoops
 pub mod PlaneLoops
 pub mod BoundaryLoops

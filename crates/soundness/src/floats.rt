@@ -21,17 +21,16 @@ const FARTHEST: f64 = 65536.0;
 
 const FARTHEST_PLANE: f64 = 262144.0;
 
-// Unused room is zero bits: -0 is not blank.
+// Unused room is zero bits: -0 is not blank. Many are read at once, as of the words.
 fn blank_floats(list: &[f64], from: usize, to: usize) -> bool
     requires { ⌜ (from ≤ to) × (to ≤ length (now list)) ⌝ }
     ensures { λ r. ⌜ r ≡ blankFloats (drop from (take to (now (list .entry)))) ⌝ }
 {
+    let mut seen = false;
     for i in from..to {
-        if !is_zero_bits(list[i]) {
-            return false;
-        }
+        seen = seen | !is_zero_bits(list[i]);
     }
-    true
+    !seen
 }
 
 // Each coordinate is a number from -65,536 to 65,536.

@@ -58,17 +58,16 @@ fn counts_fit(d: usize, n: usize, v: usize, h: usize) -> bool
     2 * d <= h
 }
 
-// Unused words are zero.
+// Unused words are zero. The loop goes to the end whatever it meets, so that many words are read at once.
 fn blank_words(list: &[u16], from: usize, to: usize) -> bool
     requires { ⌜ (from ≤ to) × (to ≤ length (now list)) ⌝ }
     ensures { λ r. ⌜ r ≡ blank (drop from (take to (now (list .entry)))) ⌝ }
 {
+    let mut seen = false;
     for i in from..to {
-        if list[i] != 0 {
-            return false;
-        }
+        seen = seen | (list[i] != 0);
     }
-    true
+    !seen
 }
 
 // A row is what is written of some element: a vertex has one fixed form, and nothing stands past a boundary.

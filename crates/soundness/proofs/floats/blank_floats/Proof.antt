@@ -1,21 +1,21 @@
--- The floats that are left are blank exactly when all are, until one is not.
+-- All floats are blank exactly when none that is not has been seen and the floats that are left are.
 use Prim.Native.Nat.{_-_, _≤_}
-use mathlib.Core.Path.{_≡_, refl, sym, _∙_}
+use mathlib.Core.Path.{_≡_, refl, sym}
+use mathlib.Core.Bool.{not, _&&_}
 use lib.Ieee.{nan}
 use lib.ListN.{drop, take}
 use Rattle.rules.specs.Floats.{sameBits, plusZero}
-use Rattle.rules.proofs.Indexed.{all-front-no, all-front-go, all-front-end}
-use Rattle.rules.proofs.Laws.{not-true, not-false}
 use Rattle.soundness.specs.Words.{blankFloats}
+use Rattle.soundness.proofs.Unseen.{unseen-go, unseen-end}
 use borrow.Author.Needs.{needs}
 use Rattle.soundness.proofs.floats.blank_floats.Statement.{statement}
 use Rattle.soundness.proofs.floats.blank_floats.Tie as tie
 
 abbrev Inv-loop : tie.InvT-loop
-Inv-loop list from to i₀ i = (i ≤ to) × (blankFloats (drop from (take to list)) ≡ blankFloats (drop i (take to list)))
+Inv-loop list from to seen₀ i₀ seen i = (i ≤ to) × (blankFloats (drop from (take to list)) ≡ (not seen && blankFloats (drop i (take to list))))
 
 abbrev μ-loop : tie.MeasureT-loop
-μ-loop list from to i₀ i = to - i
+μ-loop list from to seen₀ i₀ seen i = to - i
 
 loop-holds : tie.Need-loop-holds Inv-loop μ-loop
 loop-holds c = (search needs, refl)
@@ -29,14 +29,6 @@ shared-slice-read-is-zero-bits c = search needs
 is-zero-bits-requires : tie.Need-is-zero-bits-requires Inv-loop μ-loop
 is-zero-bits-requires c κs = search needs
 
-returns : tie.Need-returns Inv-loop μ-loop
-returns c =
-    let a = c .before .before .before .before .before .before .args in
-    let p = c .before .before .before .before .before .before .pre in
-    let at = c .before .before .before .before .loop in
-    all-front-no (sameBits plusZero) nan (a .to) (a .list .now) (p .1) (at .i) (at .inv .1) (search needs)
-    (sym (c .before .is-zero-bits .ensures) ∙ not-true _ (c .if1 .taken))
-
 add-i : tie.Need-add-i Inv-loop μ-loop
 add-i c = search needs
 
@@ -45,19 +37,18 @@ loop-less c = search needs
 
 loop-again : tie.Need-loop-again Inv-loop μ-loop
 loop-again c =
-    let a = c .before .before .before .before .before .before .args in
-    let p = c .before .before .before .before .before .before .pre in
-    let at = c .before .before .before .before .loop in (
+    let a = c .before .before .before .before .before .args in
+    let p = c .before .before .before .before .before .pre in
+    let at = c .before .before .before .loop in (
       search needs,
-      all-front-go (sameBits plusZero) nan (a .to) (a .list .now) (p .1) (at .i) (at .inv .1) (search needs)
-          (sym (c .before .is-zero-bits .ensures) ∙ not-false _ (c .if1 .left)),
+      unseen-go (sameBits plusZero) nan (a .to) (a .list .now) (p .1) (at .seen) _ (at .i) (at .inv .1) (search needs) (sym (c .is-zero-bits .ensures)),
     )
 
-returns-2 : tie.Need-returns-2 Inv-loop μ-loop
-returns-2 c =
+returns : tie.Need-returns Inv-loop μ-loop
+returns c =
     let a = c .before .before .before .args in
     let at = c .before .loop in
-    all-front-end (sameBits plusZero) nan (a .to) (a .list .now) (c .before .before .before .pre .1) (at .i) (at .inv .1) (search needs)
+    unseen-end (sameBits plusZero) nan (a .to) (a .list .now) (c .before .before .before .pre .1) (at .seen) (at .i) (at .inv .1) (search needs)
 
 pub blank-floats-spec : {M : Type 1} → statement M
 blank-floats-spec =
@@ -69,8 +60,7 @@ blank-floats-spec =
     mul-is-zero-bits
     shared-slice-read-is-zero-bits
     is-zero-bits-requires
-    returns
     add-i
     loop-less
     loop-again
-    returns-2)
+    returns)

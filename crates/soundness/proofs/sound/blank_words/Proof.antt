@@ -1,36 +1,33 @@
--- The words that are left are blank exactly when all are, until one is not.
-use Prim.Native.Nat.{_-_, _≤_}
-use mathlib.Core.Path.{_≡_, refl, sym}
-use lib.Dec.{eqb}
-use lib.ListN.{drop, take}
-use Rattle.rules.proofs.Indexed.{all-front-no, all-front-go, all-front-end}
-use Rattle.rules.proofs.Laws.{not-eq, test-eq}
+-- All words are blank exactly when none that is not has been seen and the words that are left are.
+use Prim.Native.Nat.{ℕ, zero, suc, _-_, _≤_}
+use mathlib.Core.Path.{_≡_, refl, sym, _∙_}
+use mathlib.Core.Bool.{not, _&&_}
+use lib.Dec.{eqb, eqb·zero-suc, eqb·suc-zero}
+use lib.ListN.{getD, drop, take}
 use Rattle.soundness.specs.Words.{blank}
+use Rattle.soundness.proofs.Unseen.{unseen-go, unseen-end}
 use borrow.Author.Needs.{needs}
 use Rattle.soundness.proofs.sound.blank_words.Statement.{statement}
 use Rattle.soundness.proofs.sound.blank_words.Tie as tie
 
+zero-first : (x : ℕ) → eqb 0 x ≡ eqb x 0
+zero-first zero = refl
+zero-first (suc x) = eqb·zero-suc x ∙ sym (eqb·suc-zero x)
+
 abbrev Inv-loop : tie.InvT-loop
-Inv-loop list from to i₀ i = (i ≤ to) × (blank (drop from (take to list)) ≡ blank (drop i (take to list)))
+Inv-loop list from to seen₀ i₀ seen i = (i ≤ to) × (blank (drop from (take to list)) ≡ (not seen && blank (drop i (take to list))))
 
 abbrev μ-loop : tie.MeasureT-loop
-μ-loop list from to i₀ i = to - i
+μ-loop list from to seen₀ i₀ seen i = to - i
 
 loop-holds : tie.Need-loop-holds Inv-loop μ-loop
 loop-holds c = (search needs, refl)
 
-mul-if1 : tie.Need-mul-if1 Inv-loop μ-loop
-mul-if1 c = search needs
+mul-seen : tie.Need-mul-seen Inv-loop μ-loop
+mul-seen c = search needs
 
-shared-slice-read-if1 : tie.Need-shared-slice-read-if1 Inv-loop μ-loop
-shared-slice-read-if1 c = search needs
-
-returns : tie.Need-returns Inv-loop μ-loop
-returns c =
-    let a = c .before .before .before .before .args in
-    let at = c .before .before .before .loop in
-    all-front-no (eqb 0) 0 (a .to) (a .list .now) (c .before .before .before .before .pre .1) (at .i) (at .inv .1) (search needs)
-    (not-eq 0 _ (λ q. c .if1 .taken (sym q)))
+shared-slice-read-seen : tie.Need-shared-slice-read-seen Inv-loop μ-loop
+shared-slice-read-seen c = search needs
 
 add-i : tie.Need-add-i Inv-loop μ-loop
 add-i c = search needs
@@ -40,17 +37,17 @@ loop-less c = search needs
 
 loop-again : tie.Need-loop-again Inv-loop μ-loop
 loop-again c =
-    let a = c .before .before .before .before .args in
-    let at = c .before .before .before .loop in (
+    let a = c .before .before .before .args in
+    let at = c .before .before .loop in (
       search needs,
-      all-front-go (eqb 0) 0 (a .to) (a .list .now) (c .before .before .before .before .pre .1) (at .i) (at .inv .1) (search needs) (test-eq 0 _ (sym (c .if1 .left))),
+      unseen-go (eqb 0) 0 (a .to) (a .list .now) (c .before .before .before .pre .1) (at .seen) _ (at .i) (at .inv .1) (search needs) (zero-first (getD (a .list .now) (at .i) 0)),
     )
 
-returns-2 : tie.Need-returns-2 Inv-loop μ-loop
-returns-2 c =
+returns : tie.Need-returns Inv-loop μ-loop
+returns c =
     let a = c .before .before .args in
     let at = c .before .loop in
-    all-front-end (eqb 0) 0 (a .to) (a .list .now) (c .before .before .pre .1) (at .i) (at .inv .1) (search needs)
+    unseen-end (eqb 0) 0 (a .to) (a .list .now) (c .before .before .pre .1) (at .seen) (at .i) (at .inv .1) (search needs)
 
 pub blank-words-spec : {M : Type 1} → statement M
 blank-words-spec =
@@ -59,10 +56,9 @@ blank-words-spec =
     Inv-loop
     μ-loop
     loop-holds
-    mul-if1
-    shared-slice-read-if1
-    returns
+    mul-seen
+    shared-slice-read-seen
     add-i
     loop-less
     loop-again
-    returns-2)
+    returns)
