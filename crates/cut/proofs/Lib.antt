@@ -1,3 +1,5 @@
+pub mod Words
+pub mod StaysKnown
 pub mod Rounds
 pub mod WholeCuts
 pub mod Replies

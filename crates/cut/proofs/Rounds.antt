@@ -1,5 +1,5 @@
--- The round over a boundary, and the cut of an element of rank 2 and more.
--- The invariant of the round: what is left to ask, from the table now and what is gathered, is the whole of it.
+-- The round over a boundary, and the cut of an element of rank 2 and more that is not known.
+-- The invariant of the round: what is left to ask, from the table now and what is gathered, is the whole of it; and what is known is true.
 use Prim.Native.Nat.{ℕ, zero, suc, _+_, _-_, _*_, _≤_, _<_}
 use mathlib.Core.Path.{_≡_, refl, sym, ap, ap₂, _∙_, subst}
 use mathlib.Core.List.{List}
@@ -16,7 +16,6 @@ use Rattle.rules.specs.Held as held
 use Rattle.rules.specs.Held.{Extends, Holds, Came, Sets, Ranked, OutputOf}
 use Rattle.rules.specs.Cut.{Outcome, done, next, Step, Cutting, Gathered, nothingYet, gathering, rule6, cutElement, cutBoundary, cutHigher}
 use Rattle.rules.specs.declared.ElementCutOutput.{ElementCutOutput}
-use Rattle.rules.specs.declared.ElementCutOutput.the-variants.{Flush, NonFlush}
 use Rattle.rules.specs.declared.CutReply.{CutReply}
 use Rattle.rules.specs.declared.CutReply.the-variants as reply
 use Rattle.rules.proofs.Extends.{extends-refl, extends-trans, element-same, count-more, begins-length}
@@ -32,26 +31,18 @@ use Rattle.gathered.specs.Sets.{Gathers, Sized, GatheredIn, OutputInRoom}
 use Rattle.gathered.specs.Cutting.{cutOf, Fit, Rule6Fit, Rule6Ready, Rule6Done}
 use Rattle.gathered.specs.declared.answer.Cutter.{Cutter}
 use Rattle.gathered.specs.declared.sets.Answers.{Answers}
-use Rattle.gathered.proofs.Fitting.{some-fits}
 use Rattle.ends.proofs.Edges.{list-bound}
-use Rattle.ends.specs.Elements.{Ready, ElementCut}
-use Rattle.cut.specs.Rounds.{Round, went, stopped, BoundaryCut}
+use Rattle.cut.specs.Known.{Knows, HoldsKnown, ReplyInRoom, withReply}
+use Rattle.cut.specs.Rounds.{AskReady, ElementAsked, Round, went, stopped, BoundaryCut}
 use Rattle.cut.specs.declared.elements.BoundaryReply.{BoundaryReply}
 use Rattle.cut.specs.declared.elements.Stop.the-variants as stop
+use Rattle.cut.proofs.StaysKnown.{knows-later, rule6-extends, reply-in-room, kept-went, kept-stopped}
 
 good-of : {cs : List ℕ} {ps hs : List Float} {es : List ℕ} {r e : ℕ} {k : Cutter} {t : Table} → Fit cs ps hs es r e k t → Good desk t
 good-of {t = t} F = sound-good desk t (F .sound)
 
-module _ {cs : List ℕ} {ps : List Float} {es : List ℕ} {r e : ℕ} {k : Cutter} (R : Ready cs ps es r e k) where
-  pub ready-words : length es ≡ 18432
-  ready-words = slices (R .fit .holds) .elements
-
-  pub ready-low : e < 512
-  ready-low = le-trans (R .fit .used) (R .fit .holds .fits .elementRoom)
-
-output-room : (t : Table) → elementCount t ≤ 512 → (r : ℕ) (a : ElementCutOutput) → OutputOf r a t → OutputInRoom a
-output-room t l r Flush h = tt
-output-room t l r (NonFlush i o x) h = (some-fits t l (suc r) i (h .0), some-fits t l (suc r) o (h .1), some-fits t l r x (h .2))
+pub ready-words : {cs : List ℕ} {ps : List Float} {es ms : List ℕ} {r e : ℕ} {k : Cutter} → AskReady cs ps es ms r e k → length es ≡ 18432
+ready-words R = slices (R .fit .holds) .elements
 
 -- an element of some rank is a polytope
 size-bound : (x : Element) (n : ℕ) → rankOf x ≡ suc n → sizeOf x ≡ length (boundaryOf x)
@@ -76,18 +67,19 @@ module _ (r : ℕ) (more : 1 < r) where
         subst (λ (m : ℕ). Stays desk (OutputOf m) u (cutElement desk (cutOf d k) m b u)) (sym ep) (element-stays desk (cutOf d k) (r - 2) b u g n l (q ∙ ep))
 
     -- how far the round is: the table now, what is gathered, and what is left to ask
-    pub record At (hs : List Float) (t : Table) (i : ℕ) (s : Answers) (cs : List ℕ) (ps : List Float) (es : List ℕ) : Type 0 where
+    pub record At (hs : List Float) (t : Table) (i : ℕ) (s : Answers) (cs : List ℕ) (ps : List Float) (es ms : List ℕ) : Type 0 where
       pub table : Table
       pub gathered : Gathered
       pub holds : Holds desk cs ps hs es table
+      pub knows : Knows k ms table
       pub good : Good desk table
       pub extends : Extends t table
       pub gathers : Gathers s gathered
       pub sets : Sets (r - 1) gathered table
       pub rest : cutBoundary (ask (t .dimension)) (boundary t e) nothingYet t ≡ cutBoundary (ask (t .dimension)) (drop i (boundary t e)) gathered table
 
-pub record Going (r : ℕ) (more : 1 < r) (e : ℕ) (k : Cutter) (cs₀ : List ℕ) (ps₀ : List Float) (es₀ : List ℕ) (i : ℕ) (s : Answers) (cs : List ℕ) (ps : List Float) (es : List ℕ) : Type 0 where
-  pub of : (hs : List Float) (t : Table) → Fit cs₀ ps₀ hs es₀ r e k t → At r more e k hs t i s cs ps es
+pub record Going (r : ℕ) (more : 1 < r) (e : ℕ) (k : Cutter) (cs₀ : List ℕ) (ps₀ : List Float) (es₀ ms₀ : List ℕ) (i : ℕ) (s : Answers) (cs : List ℕ) (ps : List Float) (es ms : List ℕ) : Type 0 where
+  pub of : (hs : List Float) (t : Table) → Fit cs₀ ps₀ hs es₀ r e k t → Knows k ms₀ t → At r more e k hs t i s cs ps es ms
 
 -- ---- what the round needs of its element
 
@@ -103,18 +95,19 @@ module _ {cs : List ℕ} {ps hs : List Float} {es : List ℕ} {r e : ℕ} {k : C
   pub size-most : (n : ℕ) → n ≡ getD es (e * 36 + 3) 0 → n ≤ 32
   size-most n h = le-trans (le-of-eq (size-is n h)) (le-test (length (boundary t e)) 32 (all-get (λ x. leb (length (boundaryOf x)) 32) (t .elements) e (corner 0) (F .used) (good-of F .boundaryRoom)))
 
-pub round-most : {cs : List ℕ} {ps : List Float} {es : List ℕ} {r e : ℕ} {k : Cutter} → Ready cs ps es r e k → 1 < r → (n : ℕ) → n ≡ getD es (e * 36 + 3) 0 → n ≤ 32
+pub round-most : {cs : List ℕ} {ps : List Float} {es ms : List ℕ} {r e : ℕ} {k : Cutter} → AskReady cs ps es ms r e k → 1 < r → (n : ℕ) → n ≡ getD es (e * 36 + 3) 0 → n ≤ 32
 round-most R more n h = size-most more (R .fit) n h
 
 -- ---- the round
 
-module _ {r : ℕ} (more : 1 < r) {e : ℕ} {k : Cutter} {cs₀ : List ℕ} {ps₀ : List Float} {es₀ : List ℕ} where
-  pub going-start : (s : Answers) → Gathers s nothingYet → Going r more e k cs₀ ps₀ es₀ 0 s cs₀ ps₀ es₀
+module _ {r : ℕ} (more : 1 < r) {e : ℕ} {k : Cutter} {cs₀ : List ℕ} {ps₀ : List Float} {es₀ ms₀ : List ℕ} where
+  pub going-start : (s : Answers) → Gathers s nothingYet → Going r more e k cs₀ ps₀ es₀ ms₀ 0 s cs₀ ps₀ es₀ ms₀
   going-start s G = record {
-    of = λ hs t F. record {
+    of = λ hs t F K. record {
       table = t;
       gathered = nothingYet;
       holds = F .holds;
+      knows = K;
       good = good-of F;
       extends = extends-refl t;
       gathers = G;
@@ -123,10 +116,10 @@ module _ {r : ℕ} (more : 1 < r) {e : ℕ} {k : Cutter} {cs₀ : List ℕ} {ps�
     };
   }
 
-  module _ {i : ℕ} {s : Answers} {cs : List ℕ} {ps : List Float} {es : List ℕ} (G : Going r more e k cs₀ ps₀ es₀ i s cs ps es) (n : ℕ) (size : n ≡ getD es₀ (e * 36 + 3) 0) where
-    module _ {hs : List Float} {t : Table} (F : Fit cs₀ ps₀ hs es₀ r e k t) where
-      abbrev A : At r more e k hs t i s cs ps es
-      A = G .of hs t F
+  module _ {i : ℕ} {s : Answers} {cs : List ℕ} {ps : List Float} {es ms : List ℕ} (G : Going r more e k cs₀ ps₀ es₀ ms₀ i s cs ps es ms) (n : ℕ) (size : n ≡ getD es₀ (e * 36 + 3) 0) where
+    module _ {hs : List Float} {t : Table} (F : Fit cs₀ ps₀ hs es₀ r e k t) (K : Knows k ms₀ t) where
+      abbrev A : At r more e k hs t i s cs ps es ms
+      A = G .of hs t F K
 
       still : element (A .table) e ≡ element t e
       still = element-same t (A .table) e (A .extends) (F .used)
@@ -177,62 +170,60 @@ module _ {r : ℕ} (more : 1 < r) {e : ℕ} {k : Cutter} {cs₀ : List ℕ} {ps�
             ∙ ap (λ (m : List ℕ). cutBoundary (ask r more e k (t .dimension)) m (A .gathered) (A .table)) (drop-cons (boundary t e) i 0 inside)
             ∙ ap₂ (λ (x j : ℕ). next (ask r more e k (t .dimension) x (A .table)) (λ a. cutBoundary (ask r more e k (t .dimension)) (drop j (boundary t e)) (gathering x a (A .gathered)))) (sym number) (sym (add-one i))
 
-    pub next-ready : Ready cs₀ ps₀ es₀ r e k → i < n → (b : ℕ) → b ≡ getD es (e * 36 + (4 + i)) 0 → Ready cs ps es (r - 1) b k
-    next-ready R l b read = record { planes = R .planes; table = A (R .fit) .table; fit = fit-next (R .fit) l b read }
+    pub next-ready : AskReady cs₀ ps₀ es₀ ms₀ r e k → i < n → (b : ℕ) → b ≡ getD es (e * 36 + (4 + i)) 0 → AskReady cs ps es ms (r - 1) b k
+    next-ready R l b read = record { planes = R .planes; table = A (R .fit) (R .knows) .table; fit = fit-next (R .fit) (R .knows) l b read; knows = A (R .fit) (R .knows) .knows }
 
-    module _ (l : i < n) (b : ℕ) (read : b ≡ getD es (e * 36 + (4 + i)) 0) {x : CutReply} {cs′ : List ℕ} {ps′ : List Float} {es′ : List ℕ} (C : ElementCut cs ps es (r - 1) b k x cs′ ps′ es′) where
-      came : {hs : List Float} {t : Table} (F : Fit cs₀ ps₀ hs es₀ r e k t) → Came reply.Answered reply.Refused (Holds desk cs′ ps′ hs es′) (A F .table) (ask r more e k (t .dimension) b (A F .table)) x
-      came {hs} {t} F = subst (λ (d : ℕ). Came reply.Answered reply.Refused (Holds desk cs′ ps′ hs es′) (A F .table) (cutElement desk (cutOf d k) (r - 1) b (A F .table)) x) (same-dimension F l b read) (C .of hs (A F .table) (fit-next F l b read))
+    module _ (l : i < n) (b : ℕ) (read : b ≡ getD es (e * 36 + (4 + i)) 0) {x : CutReply} {cs′ : List ℕ} {ps′ : List Float} {es′ ms′ : List ℕ} (C : ElementAsked cs ps es ms (r - 1) b k x cs′ ps′ es′ ms′) where
+      came : {hs : List Float} {t : Table} (F : Fit cs₀ ps₀ hs es₀ r e k t) (K : Knows k ms₀ t) → Came reply.Answered reply.Refused (HoldsKnown cs′ ps′ hs es′ ms′ k) (A F K .table) (ask r more e k (t .dimension) b (A F K .table)) x
+      came {hs} {t} F K = subst (λ (d : ℕ). Came reply.Answered reply.Refused (HoldsKnown cs′ ps′ hs es′ ms′ k) (A F K .table) (cutElement desk (cutOf d k) (r - 1) b (A F K .table)) x) (same-dimension F K l b read) (C .of hs (A F K .table) (fit-next F K l b read) (A F K .knows))
 
-      pub round-refused : (m : ℕ) → x ≡ reply.Refused m → BoundaryCut cs₀ ps₀ es₀ r e k (record { stop = stop.Refused m; answers = s }) cs′ ps′ es′
-      round-refused m q = record { of = λ hs t F. go hs t F (came F) }
+      pub round-refused : (m : ℕ) → x ≡ reply.Refused m → BoundaryCut cs₀ ps₀ es₀ ms₀ r e k (record { stop = stop.Refused m; answers = s }) cs′ ps′ es′ ms′
+      round-refused m q = record { of = λ hs t F K. go hs t F K (came F K) }
         where
-          go : (hs : List Float) (t : Table) (F : Fit cs₀ ps₀ hs es₀ r e k t) → Came reply.Answered reply.Refused (Holds desk cs′ ps′ hs es′) (A F .table) (ask r more e k (t .dimension) b (A F .table)) x
-              → Round (Holds desk cs′ ps′ hs es′) t (cutBoundary (cutElement desk (cutOf (t .dimension) k) (r - 1)) (boundary t e) nothingYet t) (record { stop = stop.Refused m; answers = s })
-          go hs t F (held.went a u o w H) = let z : _≡_ {A = ℕ} 0 1 = cc in absurd (omega arith)
-          go hs t F (held.stopped j u o w y H) =
+          go : (hs : List Float) (t : Table) (F : Fit cs₀ ps₀ hs es₀ r e k t) (K : Knows k ms₀ t) → Came reply.Answered reply.Refused (HoldsKnown cs′ ps′ hs es′ ms′ k) (A F K .table) (ask r more e k (t .dimension) b (A F K .table)) x
+              → Round (HoldsKnown cs′ ps′ hs es′ ms′ k) t (cutBoundary (cutElement desk (cutOf (t .dimension) k) (r - 1)) (boundary t e) nothingYet t) (record { stop = stop.Refused m; answers = s })
+          go hs t F K (held.went a u o w H) = let z : _≡_ {A = ℕ} 0 1 = cc in absurd (omega arith)
+          go hs t F K (held.stopped j u o w y H) =
               let z : m ≡ j = cc in
-              stopped j u (opened F l b read ∙ ap (λ (c : Outcome ElementCutOutput). next c (λ a. cutBoundary (ask r more e k (t .dimension)) (drop (i + 1) (boundary t e)) (gathering b a (A F .gathered)))) o) (ap stop.Refused z) (extends-trans (A F .extends) y) H
+              stopped j u (opened F K l b read ∙ ap (λ (c : Outcome ElementCutOutput). next c (λ a. cutBoundary (ask r more e k (t .dimension)) (drop (i + 1) (boundary t e)) (gathering b a (A F K .gathered)))) o) (ap stop.Refused z) (extends-trans (A F K .extends) y) H
 
-      kept : (hs : List Float) (t : Table) (F : Fit cs₀ ps₀ hs es₀ r e k t) (v : ElementCutOutput) (u : Table) → ask r more e k (t .dimension) b (A F .table) ≡ done v u → Kept desk (OutputOf (r - 1)) (A F .table) v u
-      kept hs t F v u o =
-          let f = fit-next F l b read in
-          subst (Stays desk (OutputOf (r - 1)) (A F .table)) o (ask-stays r more e k (t .dimension) b (A F .table) (A F .good) (f .plane) (f .used) (f .ranked))
+      kept : (hs : List Float) (t : Table) (F : Fit cs₀ ps₀ hs es₀ r e k t) (K : Knows k ms₀ t) (v : ElementCutOutput) (u : Table) → ask r more e k (t .dimension) b (A F K .table) ≡ done v u → Kept desk (OutputOf (r - 1)) (A F K .table) v u
+      kept hs t F K v u o =
+          let f = fit-next F K l b read in
+          subst (Stays desk (OutputOf (r - 1)) (A F K .table)) o (ask-stays r more e k (t .dimension) b (A F K .table) (A F K .good) (f .plane) (f .used) (f .ranked))
 
       -- an answer is within the room
-      pub answer-room : Ready cs₀ ps₀ es₀ r e k → (a : ElementCutOutput) → x ≡ reply.Answered a → OutputInRoom a
-      answer-room R a q = go (came (R .fit))
-        where
-          go : Came reply.Answered reply.Refused (Holds desk cs′ ps′ (R .planes) es′) (A (R .fit) .table) (ask r more e k (R .table .dimension) b (A (R .fit) .table)) x → OutputInRoom a
-          go (held.stopped j u o w y H) = let z : _≡_ {A = ℕ} 0 1 = cc in absurd (omega arith)
-          go (held.went v u o w H) =
-              let z : v ≡ a = cc in
-              output-room u (H .fits .elementRoom) (r - 1) a (kept (R .planes) (R .table) (R .fit) a u (o ∙ ap (λ (c : ElementCutOutput). done c u) z) .value)
+      pub answer-room : AskReady cs₀ ps₀ es₀ ms₀ r e k → (a : ElementCutOutput) → x ≡ reply.Answered a → OutputInRoom a
+      answer-room R a q =
+          let N = A (R .fit) (R .knows) in
+          let f = fit-next (R .fit) (R .knows) l b read in
+          subst ReplyInRoom q (reply-in-room f (λ u H. H .holds .fits .elementRoom) (C .of (R .planes) (N .table) f (N .knows)))
 
-      pub going-on : (a : ElementCutOutput) → x ≡ reply.Answered a → (s′ : Answers) → GatheredIn s b a s′ → Going r more e k cs₀ ps₀ es₀ (i + 1) s′ cs′ ps′ es′
-      going-on a q s′ D = record { of = λ hs t F. go hs t F (came F) }
+      pub going-on : (a : ElementCutOutput) → x ≡ reply.Answered a → (s′ : Answers) → GatheredIn s b a s′ → Going r more e k cs₀ ps₀ es₀ ms₀ (i + 1) s′ cs′ ps′ es′ ms′
+      going-on a q s′ D = record { of = λ hs t F K. go hs t F K (came F K) }
         where
-          go : (hs : List Float) (t : Table) (F : Fit cs₀ ps₀ hs es₀ r e k t) → Came reply.Answered reply.Refused (Holds desk cs′ ps′ hs es′) (A F .table) (ask r more e k (t .dimension) b (A F .table)) x → At r more e k hs t (i + 1) s′ cs′ ps′ es′
-          go hs t F (held.stopped j u o w y H) = let z : _≡_ {A = ℕ} 0 1 = cc in absurd (omega arith)
-          go hs t F (held.went v u o w H) =
+          go : (hs : List Float) (t : Table) (F : Fit cs₀ ps₀ hs es₀ r e k t) (K : Knows k ms₀ t) → Came reply.Answered reply.Refused (HoldsKnown cs′ ps′ hs es′ ms′ k) (A F K .table) (ask r more e k (t .dimension) b (A F K .table)) x → At r more e k hs t (i + 1) s′ cs′ ps′ es′ ms′
+          go hs t F K (held.stopped j u o w y H) = let z : _≡_ {A = ℕ} 0 1 = cc in absurd (omega arith)
+          go hs t F K (held.went v u o w H) =
               let z : v ≡ a = cc in
-              let K = kept hs t F a u (o ∙ ap (λ (c : ElementCutOutput). done c u) z) in
+              let S = kept hs t F K a u (o ∙ ap (λ (c : ElementCutOutput). done c u) z) in
               record {
                 table = u;
-                gathered = gathering b a (A F .gathered);
-                holds = H;
-                good = K .good;
-                extends = extends-trans (A F .extends) (K .extends);
-                gathers = D .of (A F .gathered) (A F .gathers);
-                sets = sets-gathering (r - 1) b a (A F .gathered) u (ranked-later b (K .extends) (ranked-now F l b read)) (K .value) (sets-later (r - 1) (A F .gathered) (K .extends) (A F .sets));
-                rest = opened F l b read ∙ ap (λ (c : Outcome ElementCutOutput). next c (λ a. cutBoundary (ask r more e k (t .dimension)) (drop (i + 1) (boundary t e)) (gathering b a (A F .gathered)))) (o ∙ ap (λ (c : ElementCutOutput). done c u) z);
+                gathered = gathering b a (A F K .gathered);
+                holds = H .holds;
+                knows = H .knows;
+                good = S .good;
+                extends = extends-trans (A F K .extends) (S .extends);
+                gathers = D .of (A F K .gathered) (A F K .gathers);
+                sets = sets-gathering (r - 1) b a (A F K .gathered) u (ranked-later b (S .extends) (ranked-now F K l b read)) (S .value) (sets-later (r - 1) (A F K .gathered) (S .extends) (A F K .sets));
+                rest = opened F K l b read ∙ ap (λ (c : Outcome ElementCutOutput). next c (λ a. cutBoundary (ask r more e k (t .dimension)) (drop (i + 1) (boundary t e)) (gathering b a (A F K .gathered)))) (o ∙ ap (λ (c : ElementCutOutput). done c u) z);
               }
 
-    pub round-done : n ≤ i → i ≤ n → Sized s 32 → BoundaryCut cs₀ ps₀ es₀ r e k (record { stop = stop.Done; answers = s }) cs ps es
+    pub round-done : n ≤ i → i ≤ n → Sized s 32 → BoundaryCut cs₀ ps₀ es₀ ms₀ r e k (record { stop = stop.Done; answers = s }) cs ps es ms
     round-done h j z = record {
-      of = λ hs t F.
+      of = λ hs t F K.
           (let q : i ≡ length (boundary t e) = (let m = size-is more F n size in omega (arith, m, h, j)) in
-          went (A F .gathered) (A F .table) (A F .rest ∙ ap (λ (m : List ℕ). cutBoundary (ask r more e k (t .dimension)) m (A F .gathered) (A F .table)) (ap (λ (m : ℕ). drop m (boundary t e)) q ∙ drop-length (boundary t e))) refl (A F .gathers) z (A F .holds));
+          went (A F K .gathered) (A F K .table) (A F K .rest ∙ ap (λ (m : List ℕ). cutBoundary (ask r more e k (t .dimension)) m (A F K .gathered) (A F K .table)) (ap (λ (m : ℕ). drop m (boundary t e)) q ∙ drop-length (boundary t e))) refl (A F K .gathers) z (record { holds = A F K .holds; knows = A F K .knows }));
     }
 
 -- ---- an element of rank 2 or more
@@ -243,12 +234,12 @@ cut-higher L c zero e t h = absurd (let z : ⊥ = omega arith in z)
 cut-higher L c (suc zero) e t h = absurd (let z : ⊥ = omega arith in z)
 cut-higher L c (suc (suc q)) e t h = ap (λ (m : ℕ). next (cutBoundary (cutElement L c m) (boundary t e) nothingYet t) (λ g. rule6 L c (element t e) g (g .flush))) (let z : suc q ≡ suc (suc q) - 1 = omega arith in z)
 
-module _ {cs : List ℕ} {ps : List Float} {es : List ℕ} {r e : ℕ} {k : Cutter} {g : BoundaryReply} {cs′ : List ℕ} {ps′ : List Float} {es′ : List ℕ} (more : 1 < r) (B : BoundaryCut cs ps es r e k g cs′ ps′ es′) where
-  pub element-refused : (n : ℕ) → g .stop ≡ stop.Refused n → ElementCut cs ps es r e k (reply.Refused n) cs′ ps′ es′
-  element-refused n q = record { of = λ hs t F. go hs t (B .of hs t F) }
+module _ {cs : List ℕ} {ps : List Float} {es ms : List ℕ} {r e : ℕ} {k : Cutter} {g : BoundaryReply} {cs′ : List ℕ} {ps′ : List Float} {es′ ms′ : List ℕ} (more : 1 < r) (B : BoundaryCut cs ps es ms r e k g cs′ ps′ es′ ms′) where
+  pub element-refused : (n : ℕ) → g .stop ≡ stop.Refused n → ElementAsked cs ps es ms r e k (reply.Refused n) cs′ ps′ es′ ms′
+  element-refused n q = record { of = λ hs t F K. go hs t (B .of hs t F K) }
     where
-      go : (hs : List Float) (t : Table) → Round (Holds desk cs′ ps′ hs es′) t (cutBoundary (cutElement desk (cutOf (t .dimension) k) (r - 1)) (boundary t e) nothingYet t) g
-          → Came reply.Answered reply.Refused (Holds desk cs′ ps′ hs es′) t (cutElement desk (cutOf (t .dimension) k) r e t) (reply.Refused n)
+      go : (hs : List Float) (t : Table) → Round (HoldsKnown cs′ ps′ hs es′ ms′ k) t (cutBoundary (cutElement desk (cutOf (t .dimension) k) (r - 1)) (boundary t e) nothingYet t) g
+          → Came reply.Answered reply.Refused (HoldsKnown cs′ ps′ hs es′ ms′ k) t (cutElement desk (cutOf (t .dimension) k) r e t) (reply.Refused n)
       go hs t (went x u o w G Z H) = let z : _≡_ {A = ℕ} 0 1 = cc in absurd (omega arith)
       go hs t (stopped j u o w y H) =
           let z : n ≡ j = cc in
@@ -262,11 +253,12 @@ module _ {cs : List ℕ} {ps : List Float} {es : List ℕ} {r e : ℕ} {k : Cutt
       pub ended : cutBoundary (cutElement desk (cutOf (t .dimension) k) (r - 1)) (boundary t e) nothingYet t ≡ done gathered table
       pub extends : Extends t table
       pub ready : Rule6Fit cs′ ps′ hs es′ r e k (g .answers) table gathered
+      pub knows : Knows k ms′ table
 
-    end : (hs : List Float) (t : Table) → Fit cs ps hs es r e k t → End hs t
-    end hs t F = go (B .of hs t F)
+    end : (hs : List Float) (t : Table) → Fit cs ps hs es r e k t → Knows k ms t → End hs t
+    end hs t F K = go (B .of hs t F K)
       where
-        go : Round (Holds desk cs′ ps′ hs es′) t (cutBoundary (cutElement desk (cutOf (t .dimension) k) (r - 1)) (boundary t e) nothingYet t) g → End hs t
+        go : Round (HoldsKnown cs′ ps′ hs es′ ms′ k) t (cutBoundary (cutElement desk (cutOf (t .dimension) k) (r - 1)) (boundary t e) nothingYet t) g → End hs t
         go (stopped j u o w y H) = let z : _≡_ {A = ℕ} 0 1 = cc in absurd (omega arith)
         go (went x u o w G Z H) =
             let S : Kept desk (Sets (r - 1)) t x u =
@@ -279,7 +271,7 @@ module _ {cs : List ℕ} {ps : List Float} {es : List ℕ} {r e : ℕ} {k : Cutt
               extends = S .extends;
               ready = record {
                 fit = record {
-                  holds = H;
+                  holds = H .holds;
                   sound = good-sound desk u (S .good);
                   plane = le-trans (F .plane) (begins-length (t .planes) (u .planes) (S .extends .planes));
                   used = le-trans (F .used) (count-more (S .extends));
@@ -290,28 +282,49 @@ module _ {cs : List ℕ} {ps : List Float} {es : List ℕ} {r e : ℕ} {k : Cutt
                 sized = Z;
                 sets = S .value;
               };
+              knows = H .knows;
             }
 
-    pub rule6-ready : Ready cs ps es r e k → Rule6Ready cs′ es′ r e k (g .answers)
+    module _ (hs : List Float) (t : Table) (F : Fit cs ps hs es r e k t) (K : Knows k ms t) where
+      abbrev E : End hs t
+      E = end hs t F K
+
+      whole : cutElement desk (cutOf (t .dimension) k) r e t ≡ rule6 desk (cutOf (E .table .dimension) k) (element (E .table) e) (E .gathered) (E .gathered .flush) (E .table)
+      whole =
+          cut-higher desk (cutOf (t .dimension) k) r e t more ∙ ap (λ (o : Outcome Gathered). next o (λ y. rule6 desk (cutOf (t .dimension) k) (element t e) y (y .flush))) (E .ended)
+          ∙ ap₂ (λ (d : ℕ) (y : Element). rule6 desk (cutOf d k) y (E .gathered) (E .gathered .flush) (E .table)) (sym (E .extends .dimension)) (sym (element-same t (E .table) e (E .extends) (F .used)))
+
+      answered : {x : CutReply} {cs″ es″ : List ℕ} → Rule6Done cs′ es′ r e k (g .answers) x cs″ es″ → Came reply.Answered reply.Refused (Holds desk cs″ ps′ hs es″) t (cutElement desk (cutOf (t .dimension) k) r e t) x
+      answered {x} {cs″} {es″} D = came (D .of ps′ hs (E .table) (E .gathered) (E .ready))
+        where
+          came : Came reply.Answered reply.Refused (Holds desk cs″ ps′ hs es″) (E .table) (rule6 desk (cutOf (E .table .dimension) k) (element (E .table) e) (E .gathered) (E .gathered .flush) (E .table)) x
+              → Came reply.Answered reply.Refused (Holds desk cs″ ps′ hs es″) t (cutElement desk (cutOf (t .dimension) k) r e t) x
+          came (held.went a u o w H) = held.went a u (whole ∙ o) w H
+          came (held.stopped j u o w y H) = held.stopped j u (whole ∙ o) w (extends-trans (E .extends) y) H
+
+    pub rule6-ready : AskReady cs ps es ms r e k → Rule6Ready cs′ es′ r e k (g .answers)
     rule6-ready R =
-        let E = end (R .planes) (R .table) (R .fit) in
+        let E = end (R .planes) (R .table) (R .fit) (R .knows) in
         record { points = ps′; planes = R .planes; table = E .table; gathered = E .gathered; fit = E .ready }
 
-    pub element-answered : {x : CutReply} {cs″ es″ : List ℕ} → Rule6Done cs′ es′ r e k (g .answers) x cs″ es″ → ElementCut cs ps es r e k x cs″ ps′ es″
-    element-answered {x} {cs″} {es″} D = record { of = λ hs t F. go hs t F (end hs t F) }
-      where
-        go : (hs : List Float) (t : Table) → Fit cs ps hs es r e k t → End hs t → Came reply.Answered reply.Refused (Holds desk cs″ ps′ hs es″) t (cutElement desk (cutOf (t .dimension) k) r e t) x
-        go hs t F E = came (D .of ps′ hs (E .table) (E .gathered) (E .ready))
-          where
-            c : Cutting
-            c = cutOf (t .dimension) k
+    pub rule6-words : AskReady cs ps es ms r e k → length ms′ ≡ 1536
+    rule6-words R = end (R .planes) (R .table) (R .fit) (R .knows) .knows .long
 
-            whole : cutElement desk c r e t ≡ rule6 desk (cutOf (E .table .dimension) k) (element (E .table) e) (E .gathered) (E .gathered .flush) (E .table)
-            whole =
-                cut-higher desk c r e t more ∙ ap (λ (o : Outcome Gathered). next o (λ y. rule6 desk c (element t e) y (y .flush))) (E .ended)
-                ∙ ap₂ (λ (d : ℕ) (y : Element). rule6 desk (cutOf d k) y (E .gathered) (E .gathered .flush) (E .table)) (sym (E .extends .dimension)) (sym (element-same t (E .table) e (E .extends) (F .used)))
+    module _ {x : CutReply} {cs″ es″ : List ℕ} (D : Rule6Done cs′ es′ r e k (g .answers) x cs″ es″) where
+      pub element-room : AskReady cs ps es ms r e k → ReplyInRoom x
+      element-room R = reply-in-room (R .fit) (λ u H. H .fits .elementRoom) (answered (R .planes) (R .table) (R .fit) (R .knows) D)
 
-            came : Came reply.Answered reply.Refused (Holds desk cs″ ps′ hs es″) (E .table) (rule6 desk (cutOf (E .table .dimension) k) (element (E .table) e) (E .gathered) (E .gathered .flush) (E .table)) x
-                → Came reply.Answered reply.Refused (Holds desk cs″ ps′ hs es″) t (cutElement desk c r e t) x
-            came (held.went a u o w H) = held.went a u (whole ∙ o) w H
-            came (held.stopped j u o w y H) = held.stopped j u (whole ∙ o) w (extends-trans (E .extends) y) H
+      pub element-answered : {y : CutReply} {ms″ : List ℕ} → y ≡ x → ms″ ≡ withReply ms′ e x → ElementAsked cs ps es ms r e k y cs″ ps′ es″ ms″
+      element-answered {y} {ms″} p h = record { of = λ hs t F K. go hs t F K (D .of ps′ hs (E hs t F K .table) (E hs t F K .gathered) (E hs t F K .ready)) }
+        where
+          go : (hs : List Float) (t : Table) (F : Fit cs ps hs es r e k t) (K : Knows k ms t)
+              → Came reply.Answered reply.Refused (Holds desk cs″ ps′ hs es″) (E hs t F K .table) (rule6 desk (cutOf (E hs t F K .table .dimension) k) (element (E hs t F K .table) e) (E hs t F K .gathered) (E hs t F K .gathered .flush) (E hs t F K .table)) x
+              → Came reply.Answered reply.Refused (HoldsKnown cs″ ps′ hs es″ ms″ k) t (cutElement desk (cutOf (t .dimension) k) r e t) y
+          go hs t F K (held.went a u o w H) =
+              let N = E hs t F K in
+              let g = good-of (N .ready .fit) in
+              let X = rule6-extends k (N .table .dimension) (r - 1) (element (N .table) e) (N .gathered) a g (N .ready .sets) o in
+              held.went a u (whole hs t F K ∙ o) (p ∙ w) (record { holds = H; knows = kept-went F (whole hs t F K ∙ o) (knows-later g X (N .knows)) w h })
+          go hs t F K (held.stopped j u o w z H) =
+              let N = E hs t F K in
+              held.stopped j u (whole hs t F K ∙ o) (p ∙ w) (extends-trans (N .extends) z) (record { holds = H; knows = kept-stopped e (knows-later (good-of (N .ready .fit)) z (N .knows)) w h })

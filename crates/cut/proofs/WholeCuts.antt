@@ -5,7 +5,7 @@ use mathlib.Core.Bool.{Bool}
 use mathlib.Core.List.{List}
 use native.Mathlib.Nat.{le-trans, le-of-eq}
 use native.Mathlib.Omega.{arith}
-use lib.ListN.{length, getD}
+use lib.ListN.{length, getD, replicate}
 use lib.Ieee.{Float}
 use Rattle.rules.specs.Limits.{desk}
 use Rattle.rules.specs.Memory.{Memory}
@@ -33,8 +33,10 @@ use Rattle.space.proofs.RowAdds.{readable-desk}
 use Rattle.space.proofs.Slices.{slices}
 use Rattle.gathered.specs.Cutting.{Fit, cutOf}
 use Rattle.gathered.specs.declared.answer.Cutter.{Cutter}
-use Rattle.ends.specs.Elements.{Ready, ElementCut}
+use Rattle.cut.specs.Known.{HoldsKnown}
+use Rattle.cut.specs.Rounds.{AskReady, ElementAsked}
 use Rattle.cut.specs.Whole.{CutFit, CutReady, CutTried, WholeCut}
+use Rattle.cut.proofs.StaysKnown.{knows-nothing}
 
 -- ---- the hyperplane, then the root
 
@@ -117,12 +119,13 @@ module _ {cs : List ℕ} {ps hs : List Float} {es : List ℕ} {h : Hyperplane} {
               ranked = sym (read ∙ ap (λ (l : List ℕ). getD l (root * 36) 0) (A .holds .elements) ∙ rank-word desk (A .table) (A .holds .fits) root used);
             }
 
-        pub root-ready : CutReady cs ps hs es h root → Ready cs₁ ps es r root (cutter h v i o)
-        root-ready R = record { planes = hs₁; table = named (R .fit) .table; fit = root-fit (R .fit) }
+        -- nothing is known yet
+        pub root-ready : CutReady cs ps hs es h root → AskReady cs₁ ps es (replicate 1536 0) r root (cutter h v i o)
+        root-ready R = record { planes = hs₁; table = named (R .fit) .table; fit = root-fit (R .fit); knows = knows-nothing (cutter h v i o) (named (R .fit) .table) }
 
-        pub root-cut : {y : CutReply} {cs₂ : List ℕ} {ps₂ : List Float} {es₂ : List ℕ} → ElementCut cs₁ ps es r root (cutter h v i o) y cs₂ ps₂ es₂
+        pub root-cut : {y : CutReply} {cs₂ : List ℕ} {ps₂ : List Float} {es₂ ms₂ : List ℕ} → ElementAsked cs₁ ps es (replicate 1536 0) r root (cutter h v i o) y cs₂ ps₂ es₂ ms₂
             → CutTried cs ps hs es h i o root y cs₂ ps₂ hs₁ es₂
-        root-cut {y} {cs₂} {ps₂} {es₂} C = record { of = λ t F. go t F (C .of hs₁ (named F .table) (root-fit F)) }
+        root-cut {y} {cs₂} {ps₂} {es₂} {ms₂} C = record { of = λ t F. go t F (C .of hs₁ (named F .table) (root-fit F) (knows-nothing (cutter h v i o) (named F .table))) }
           where
             steps : (t : Table) (F : CutFit cs ps hs es h root t)
                 → cutFinite desk (dividerOf (t .dimension) h) i o root t ≡ cutElement desk (cutOf (named F .table .dimension) (cutter h v i o)) r root (named F .table)
@@ -131,10 +134,10 @@ module _ {cs : List ℕ} {ps hs : List Float} {es : List ℕ} {h : Hyperplane} {
                 ∙ ap₂ (λ (d n : ℕ). cutElement desk (cutOf d (cutter h v i o)) n root (named F .table)) (sym (named F .extends .dimension)) (root-fit F .ranked)
 
             go : (t : Table) (F : CutFit cs ps hs es h root t)
-                → Came reply.Answered reply.Refused (Holds desk cs₂ ps₂ hs₁ es₂) (named F .table) (cutElement desk (cutOf (named F .table .dimension) (cutter h v i o)) r root (named F .table)) y
+                → Came reply.Answered reply.Refused (HoldsKnown cs₂ ps₂ hs₁ es₂ ms₂ (cutter h v i o)) (named F .table) (cutElement desk (cutOf (named F .table .dimension) (cutter h v i o)) r root (named F .table)) y
                 → Came reply.Answered reply.Refused (Holds desk cs₂ ps₂ hs₁ es₂) t (cutFinite desk (dividerOf (t .dimension) h) i o root t) y
-            go t F (held.went a u m w H) = held.went a u (steps t F ∙ m) w H
-            go t F (held.stopped j u m w z H) = held.stopped j u (steps t F ∙ m) w (extends-trans (named F .extends) z) H
+            go t F (held.went a u m w H) = held.went a u (steps t F ∙ m) w (H .holds)
+            go t F (held.stopped j u m w z H) = held.stopped j u (steps t F ∙ m) w (extends-trans (named F .extends) z) (H .holds)
 
 -- ---- the memory given back
 

@@ -1,4 +1,7 @@
-// Rule 5: an element asks for its boundary, and the boundary asks for each element.
+// Rule 5: an element asks for its boundary, and the boundary asks for each element. An element asked twice in a cut is answered from what is known.
+use crate::known::Recalled;
+use crate::known::keep;
+use crate::known::recall;
 use gathered::answer;
 use gathered::answer::Cutter;
 use gathered::sets;
@@ -8,8 +11,7 @@ use rules::ElementId;
 use space::rows;
 use space::words::wide;
 ghost use Prim.Native.Nat.{_<_};
-ghost use Rattle.ends.specs.Elements.{Ready, ElementCut};
-ghost use Rattle.cut.specs.Rounds.{BoundaryCut};
+ghost use Rattle.cut.specs.Rounds.{AskReady, ElementAsked, BoundaryCut};
 
 // Whether the boundary was asked to its end.
 pub enum Stop {
@@ -27,23 +29,30 @@ pub fn cut_element(
     counts: &mut [u16],
     points: &mut [f64],
     elements: &mut [u16],
+    known: &mut [u16; 1536],
     e: ElementId,
     rank: usize,
     k: Cutter,
 ) -> CutReply
-    requires { ⌜ Ready (now counts) (now points) (now elements) rank (e .0) k ⌝ }
-    ensures { λ r. ⌜ ElementCut (now (counts .entry)) (now (points .entry)) (now (elements .entry)) rank (e .0) k r (now (counts .exit)) (now (points .exit)) (now (elements .exit)) ⌝ }
+    requires { ⌜ AskReady (now counts) (now points) (now elements) (now known) rank (e .0) k ⌝ }
+    ensures { λ r. ⌜ ElementAsked (now (counts .entry)) (now (points .entry)) (now (elements .entry)) (now (known .entry)) rank (e .0) k r (now (counts .exit)) (now (points .exit)) (now (elements .exit)) (now (known .exit)) ⌝ }
 {
-    if rank < 2 {
-        return ends::cut_low(counts, points, elements, e, rank, k);
+    let recalled = recall(known, e);
+    if let Recalled::Answer(a) = recalled {
+        return CutReply::Answered(a);
     }
-    let reply = cut_boundary(counts, points, elements, e, rank, k);
+    if rank < 2 {
+        let low = ends::cut_low(counts, points, elements, e, rank, k);
+        return keep(known, e, low);
+    }
+    let reply = cut_boundary(counts, points, elements, known, e, rank, k);
     let stop = reply.stop;
     match stop {
         Stop::Refused(no) => CutReply::Refused(no),
         Stop::Done => {
             let s = reply.answers;
-            answer::rule6(counts, elements, e, rank, k, s)
+            let whole = answer::rule6(counts, elements, e, rank, k, s);
+            keep(known, e, whole)
         }
     }
 }
@@ -53,18 +62,19 @@ fn cut_boundary(
     counts: &mut [u16],
     points: &mut [f64],
     elements: &mut [u16],
+    known: &mut [u16; 1536],
     e: ElementId,
     rank: usize,
     k: Cutter,
 ) -> BoundaryReply
-    requires { ⌜ Ready (now counts) (now points) (now elements) rank (e .0) k × (1 < rank) ⌝ }
-    ensures { λ r. ⌜ BoundaryCut (now (counts .entry)) (now (points .entry)) (now (elements .entry)) rank (e .0) k r (now (counts .exit)) (now (points .exit)) (now (elements .exit)) ⌝ }
+    requires { ⌜ AskReady (now counts) (now points) (now elements) (now known) rank (e .0) k × (1 < rank) ⌝ }
+    ensures { λ r. ⌜ BoundaryCut (now (counts .entry)) (now (points .entry)) (now (elements .entry)) (now (known .entry)) rank (e .0) k r (now (counts .exit)) (now (points .exit)) (now (elements .exit)) (now (known .exit)) ⌝ }
 {
     let n = rows::size_of(elements, e);
     let mut s = sets::nothing_yet();
     for i in 0..n {
         let b = ElementId(wide(rows::boundary_at(elements, e, i)));
-        let step = cut_element(counts, points, elements, b, rank - 1, k);
+        let step = cut_element(counts, points, elements, known, b, rank - 1, k);
         match step {
             CutReply::Refused(no) => {
                 return BoundaryReply {

@@ -35,7 +35,8 @@ fn cut_named(
                 keep_inside,
                 keep_outside,
             };
-            cut_element(counts, points, elements, root, rank, k)
+            let mut known = [0u16; 1536];
+            cut_element(counts, points, elements, &mut known, root, rank, k)
         }
     }
 }

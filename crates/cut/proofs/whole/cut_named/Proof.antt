@@ -1,14 +1,8 @@
--- The hyperplane is refused, or has a number, and the root is cut.
+-- The hyperplane is refused, or has a number, and the root is cut; nothing is known yet.
 use Rattle.cut.proofs.WholeCuts.{plane-asked, rank-asked, root-ready, plane-refused, root-cut}
 use borrow.Author.Needs.{needs}
 use Rattle.cut.proofs.whole.cut_named.Statement.{statement}
 use Rattle.cut.proofs.whole.cut_named.Tie as tie
-
-returns : tie.Need-returns
-returns c = plane-refused (c .before .before .before .before .before .before .before .add-hyperplane .ensures) _ _ _ (c .before .named .given .1)
-
-returns-2 : tie.Need-returns-2
-returns-2 c = root-cut (c .before .before .before .before .before .before .before .before .before .before .before .before .before .before .before .before .before .before .before .add-hyperplane .ensures) _ (c .before .before .before .before .before .before .before .before .before .before .before .before .before .named2 .given .1) _ (c .before .before .before .before .before .before .before .before .before .before .rank-of .ensures) _ _ (c .before .before .before .before .before .before .cut-element .ensures)
 
 add-hyperplane-requires : tie.Need-add-hyperplane-requires
 add-hyperplane-requires c κs = plane-asked (c .before .before .before .before .before .before .pre)
@@ -24,14 +18,17 @@ rank-of-requires c κs = rank-asked (c .before .before .before .before .before .
 
 cut-element-requires : tie.Need-cut-element-requires
 cut-element-requires c κs =
-    let a = c .before .before .before .before .before .before .before .before .before .before .before .before .before .before .before .before .before .before .before .args in
-    root-ready (c .before .before .before .before .before .before .before .before .before .before .before .before .add-hyperplane .ensures) _ (c .before .before .before .before .before .before .named2 .given .1) _ (c .before .before .before .rank-of .ensures) (a .keep-inside) (a .keep-outside) (c .before .before .before .before .before .before .before .before .before .before .before .before .before .before .before .before .before .before .before .pre)
+    let a = c .before .before .before .before .before .before .before .before .before .before .before .before .before .before .before .before .before .before .before .before .args in
+    root-ready (c .before .before .before .before .before .before .before .before .before .before .before .before .before .add-hyperplane .ensures) _ (c .before .before .before .before .before .before .before .named2 .given .1) _ (c .before .before .before .before .rank-of .ensures) (a .keep-inside) (a .keep-outside) (c .before .before .before .before .before .before .before .before .before .before .before .before .before .before .before .before .before .before .before .before .pre)
 
 same-length : tie.Need-same-length
 same-length c = search needs
 
 same-length-2 : tie.Need-same-length-2
 same-length-2 c = search needs
+
+returns : tie.Need-returns
+returns c = plane-refused (c .before .before .before .before .before .before .before .add-hyperplane .ensures) _ _ _ (c .before .named .given .1)
 
 same-length-3 : tie.Need-same-length-3
 same-length-3 c = search needs
@@ -44,6 +41,9 @@ same-length-5 c = search needs
 
 same-length-6 : tie.Need-same-length-6
 same-length-6 c = search needs
+
+returns-2 : tie.Need-returns-2
+returns-2 c = root-cut (c .before .before .before .before .before .before .before .before .before .before .before .before .before .before .before .before .before .before .before .before .add-hyperplane .ensures) _ (c .before .before .before .before .before .before .before .before .before .before .before .before .before .before .named2 .given .1) _ (c .before .before .before .before .before .before .before .before .before .before .before .rank-of .ensures) _ _ (c .before .before .before .before .before .before .cut-element .ensures)
 
 pub cut-named-spec : {M : Type 1} → statement M
 cut-named-spec =

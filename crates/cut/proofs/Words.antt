@@ -1,0 +1,165 @@
+-- The words of what a cut knows: what is kept of an element is read back, and the words of the others stay.
+use Prim.Native.Nat.{ℕ, zero, suc, _+_, _-_, _*_, _<_}
+use mathlib.Core.Path.{_≡_, refl, sym, ap, _∙_, subst}
+use mathlib.Core.List.{List}
+use native.Mathlib.Omega.{arith}
+use lib.ListN.{length, getD, set, length-set, replicate}
+use lib.Seq.{getD-set-same, getD-set-other}
+use Rattle.rules.specs.declared.ElementOrNone.{ElementOrNone}
+use Rattle.rules.specs.declared.ElementOrNone.the-variants.{None, Some}
+use Rattle.rules.specs.declared.ElementCutOutput.{ElementCutOutput}
+use Rattle.rules.specs.declared.ElementCutOutput.the-variants.{Flush, NonFlush}
+use Rattle.rules.specs.declared.ElementId.{ElementId}
+use Rattle.rules.specs.declared.CutReply.{CutReply}
+use Rattle.rules.specs.declared.CutReply.the-variants as reply
+use Rattle.gathered.specs.Sets.{InRoom}
+use Rattle.cut.specs.Known.{wordOf, someOf, answerOf, answerAt, threeAt, withAnswer, withReply, ReplyInRoom}
+use Rattle.cut.specs.declared.known.Recalled.the-variants as recalled
+
+-- ---- a word and its element
+
+pub word-room : (x : ElementOrNone) (e : ElementId) → x ≡ Some e → InRoom x → e .0 < 512
+word-room None e q h = let z : _≡_ {A = ℕ} 0 1 = cc in absurd (omega arith)
+word-room (Some d) e q h = let z : d ≡ e = cc in let y = ap (λ (f : ElementId). f .0) z in omega (arith, h, y)
+
+pub word-none : (x : ElementOrNone) → x ≡ None → 1 ≡ wordOf x
+word-none x q = ap wordOf (sym q)
+
+pub word-some : (x : ElementOrNone) (e : ElementId) (w : ℕ) → x ≡ Some e → w ≡ e .0 + 2 → w ≡ wordOf x
+word-some x e w q h = (let z : w ≡ suc (suc (e .0)) = omega (arith, h) in z) ∙ ap wordOf (sym q)
+
+pub some-none : (w : ℕ) → w < 2 → None ≡ someOf w
+some-none zero h = refl
+some-none (suc zero) h = refl
+some-none (suc (suc e)) h = absurd (omega arith)
+
+pub some-is : (w n : ℕ) → 1 < w → n ≡ w - 2 → Some (record { 0 = n }) ≡ someOf w
+some-is zero n h q = absurd (omega arith)
+some-is (suc zero) n h q = absurd (omega arith)
+some-is (suc (suc e)) n h q = let z : n ≡ e = omega (arith, q) in ap (λ (i : ℕ). Some (record { 0 = i })) z
+
+-- ---- what three words say
+
+pub answer-none : (ms : List ℕ) (e : ℕ) → getD ms (e * 3) 0 ≡ 0 → recalled.None ≡ answerAt ms e
+unfolding answerAt
+answer-none ms e q = ap (λ (a : ℕ). answerOf a (getD ms (e * 3 + 1) 0) (getD ms (e * 3 + 2) 0)) (sym q)
+
+flush-of : (a b c : ℕ) → 0 < a → b ≡ 0 → recalled.Answer Flush ≡ answerOf a b c
+flush-of zero b c h q = absurd (omega arith)
+flush-of (suc a) zero c h q = refl
+flush-of (suc a) (suc b) c h q = absurd (omega arith)
+
+pub answer-flush : (ms : List ℕ) (e : ℕ) → 0 < getD ms (e * 3) 0 → getD ms (e * 3 + 1) 0 ≡ 0 → recalled.Answer Flush ≡ answerAt ms e
+unfolding answerAt
+answer-flush ms e h q = flush-of (getD ms (e * 3) 0) (getD ms (e * 3 + 1) 0) (getD ms (e * 3 + 2) 0) h q
+
+sides-of : (a b c : ℕ) → 0 < a → 0 < b → recalled.Answer (NonFlush (someOf a) (someOf b) (someOf c)) ≡ answerOf a b c
+sides-of zero b c h q = absurd (omega arith)
+sides-of (suc a) zero c h q = absurd (omega arith)
+sides-of (suc a) (suc b) c h q = refl
+
+pub answer-sides : (ms : List ℕ) (e : ℕ) (i o x : ElementOrNone) → 0 < getD ms (e * 3) 0 → 0 < getD ms (e * 3 + 1) 0
+    → i ≡ someOf (getD ms (e * 3) 0) → o ≡ someOf (getD ms (e * 3 + 1) 0) → x ≡ someOf (getD ms (e * 3 + 2) 0) → recalled.Answer (NonFlush i o x) ≡ answerAt ms e
+unfolding answerAt
+answer-sides ms e i o x h q hi ho hx =
+    (λ l. recalled.Answer (NonFlush (hi l) (ho l) (hx l))) ∙ sides-of (getD ms (e * 3) 0) (getD ms (e * 3 + 1) 0) (getD ms (e * 3 + 2) 0) h q
+
+-- ---- nothing is kept yet
+
+zero-get : (n i : ℕ) → _≡_ {A = ℕ} (getD (replicate n 0) i 0) 0
+zero-get zero i = refl
+zero-get (suc n) zero = refl
+zero-get (suc n) (suc i) = zero-get n i
+
+pub zeros-none : (n e : ℕ) → recalled.None ≡ answerAt (replicate n 0) e
+zeros-none n e = answer-none (replicate n 0) e (zero-get n (e * 3))
+
+-- ---- three words are written
+
+module _ (ms : List ℕ) (e a b c : ℕ) where
+  pub three-long : length (threeAt ms e a b c) ≡ length ms
+  unfolding threeAt
+  three-long = length-set (set (set ms (e * 3) a) (e * 3 + 1) b) (e * 3 + 2) c ∙ length-set (set ms (e * 3) a) (e * 3 + 1) b ∙ length-set ms (e * 3) a
+
+  -- a word that is none of the three
+  other-word : (i : ℕ) → (i ≡ e * 3 → ⊥) → (i ≡ e * 3 + 1 → ⊥) → (i ≡ e * 3 + 2 → ⊥) → getD (threeAt ms e a b c) i 0 ≡ getD ms i 0
+  unfolding threeAt
+  other-word i p q r =
+      getD-set-other (set (set ms (e * 3) a) (e * 3 + 1) b) (e * 3 + 2) i c 0 r
+      ∙ getD-set-other (set ms (e * 3) a) (e * 3 + 1) i b 0 q
+      ∙ getD-set-other ms (e * 3) i a 0 p
+
+  pub three-other : (j : ℕ) → (j ≡ e → ⊥) → answerAt (threeAt ms e a b c) j ≡ answerAt ms j
+  unfolding answerAt
+  three-other j n = λ l. answerOf
+      (other-word (j * 3) (λ q. n (omega arith)) (λ q. absurd (omega arith)) (λ q. absurd (omega arith)) l)
+      (other-word (j * 3 + 1) (λ q. absurd (omega arith)) (λ q. n (omega arith)) (λ q. absurd (omega arith)) l)
+      (other-word (j * 3 + 2) (λ q. absurd (omega arith)) (λ q. absurd (omega arith)) (λ q. n (omega arith)) l)
+
+  pub three-same : e * 3 + 2 < length ms → answerAt (threeAt ms e a b c) e ≡ answerOf a b c
+  unfolding answerAt threeAt
+  three-same h = λ l. answerOf (first l) (second l) (third l)
+    where
+      m₁ : List ℕ
+      m₁ = set ms (e * 3) a
+
+      m₂ : List ℕ
+      m₂ = set m₁ (e * 3 + 1) b
+
+      long₁ : length m₁ ≡ length ms
+      long₁ = length-set ms (e * 3) a
+
+      long₂ : length m₂ ≡ length ms
+      long₂ = length-set m₁ (e * 3 + 1) b ∙ long₁
+
+      first : getD (set m₂ (e * 3 + 2) c) (e * 3) 0 ≡ a
+      first =
+          getD-set-other m₂ (e * 3 + 2) (e * 3) c 0 (λ q. omega arith) ∙ getD-set-other m₁ (e * 3 + 1) (e * 3) b 0 (λ q. omega arith)
+          ∙ getD-set-same ms (e * 3) a 0 (omega arith)
+
+      second : getD (set m₂ (e * 3 + 2) c) (e * 3 + 1) 0 ≡ b
+      second = getD-set-other m₂ (e * 3 + 2) (e * 3 + 1) c 0 (λ q. omega arith) ∙ getD-set-same m₁ (e * 3 + 1) b 0 (omega (arith, long₁))
+
+      third : getD (set m₂ (e * 3 + 2) c) (e * 3 + 2) 0 ≡ c
+      third = getD-set-same m₂ (e * 3 + 2) c 0 (omega (arith, long₂))
+
+-- ---- an answer is kept
+
+some-word : (x : ElementOrNone) → someOf (wordOf x) ≡ x
+some-word None = refl
+some-word (Some e) = refl
+
+word-answer : (i o x : ElementOrNone) → answerOf (wordOf i) (wordOf o) (wordOf x) ≡ recalled.Answer (NonFlush i o x)
+word-answer i o x = sym (sides-of (wordOf i) (wordOf o) (wordOf x) (above i) (above o)) ∙ (λ l. recalled.Answer (NonFlush (some-word i l) (some-word o l) (some-word x l)))
+  where
+    above : (y : ElementOrNone) → 0 < wordOf y
+    above None = omega arith
+    above (Some d) = omega arith
+
+module _ (ms : List ℕ) (e : ℕ) where
+  pub kept-long : (a : ElementCutOutput) → length (withAnswer ms e a) ≡ length ms
+  kept-long Flush = three-long ms e 1 0 0
+  kept-long (NonFlush i o x) = three-long ms e (wordOf i) (wordOf o) (wordOf x)
+
+  pub kept-same : (a : ElementCutOutput) → e * 3 + 2 < length ms → answerAt (withAnswer ms e a) e ≡ recalled.Answer a
+  kept-same Flush h = three-same ms e 1 0 0 h
+  kept-same (NonFlush i o x) h = three-same ms e (wordOf i) (wordOf o) (wordOf x) h ∙ word-answer i o x
+
+  pub kept-other : (a : ElementCutOutput) (j : ℕ) → (j ≡ e → ⊥) → answerAt (withAnswer ms e a) j ≡ answerAt ms j
+  kept-other Flush j n = three-other ms e 1 0 0 j n
+  kept-other (NonFlush i o x) j n = three-other ms e (wordOf i) (wordOf o) (wordOf x) j n
+
+  -- a reply, by what it is
+  pub reply-refused : (x : CutReply) (n : ℕ) → x ≡ reply.Refused n → ms ≡ withReply ms e x
+  reply-refused x n q = ap (withReply ms e) (sym q)
+
+  pub reply-flush : (x : CutReply) (a : ElementCutOutput) (ms′ : List ℕ) → x ≡ reply.Answered a → a ≡ Flush → ms′ ≡ threeAt ms e 1 0 0 → ms′ ≡ withReply ms e x
+  reply-flush x a ms′ q p h = h ∙ ap (withReply ms e) (sym (q ∙ ap reply.Answered p))
+
+  pub reply-sides : (x : CutReply) (a : ElementCutOutput) (i o y : ElementOrNone) (u v w : ℕ) (ms′ : List ℕ) → x ≡ reply.Answered a → a ≡ NonFlush i o y
+      → u ≡ wordOf i → v ≡ wordOf o → w ≡ wordOf y → ms′ ≡ threeAt ms e u v w → ms′ ≡ withReply ms e x
+  reply-sides x a i o y u v w ms′ q p hu hv hw h =
+      h ∙ (λ l. threeAt ms e (hu l) (hv l) (hw l)) ∙ ap (withReply ms e) (sym (q ∙ ap reply.Answered p))
+
+pub reply-room : (x : CutReply) (a : ElementCutOutput) (i o y : ElementOrNone) → x ≡ reply.Answered a → a ≡ NonFlush i o y → ReplyInRoom x → InRoom i × InRoom o × InRoom y
+reply-room x a i o y q p h = subst ReplyInRoom (q ∙ ap reply.Answered p) h

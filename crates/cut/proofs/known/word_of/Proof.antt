@@ -1,0 +1,27 @@
+-- An element within the room fits a word, two above its number.
+use mathlib.Core.Path.{refl}
+use Rattle.cut.proofs.Words.{word-room, word-none, word-some}
+use borrow.Author.Needs.{needs}
+use Rattle.cut.proofs.known.word_of.Statement.{statement}
+use Rattle.cut.proofs.known.word_of.Tie as tie
+
+enum-told : tie.Need-enum-told
+enum-told c = search needs
+
+enum-known-x : tie.Need-enum-known-x
+enum-known-x c = search needs
+
+add-result : tie.Need-add-result
+add-result c = let h = word-room _ _ (c .before .before .x .given .1) (c .before .before .before .before .pre) in search needs
+
+cast-result : tie.Need-cast-result
+cast-result c = let h = word-room _ _ (c .before .before .x .given .1) (c .before .before .before .before .pre) in search needs
+
+returns : tie.Need-returns
+returns c = word-none _ (c .enum-told .given .1)
+
+returns-2 : tie.Need-returns-2
+returns-2 c = word-some _ _ _ (c .before .before .x .given .1) refl
+
+pub word-of-spec : {M : Type 1} → statement M
+word-of-spec = tie.close (tie.spec enum-told enum-known-x add-result cast-result returns returns-2)

@@ -1,0 +1,76 @@
+-- What a cut remembers: the words of the answers given so far, and when they are true of a table. Definitions only.
+use Prim.Native.Nat.{ℕ, zero, suc, _+_, _*_, _<_}
+use mathlib.Core.Path.{_≡_}
+use mathlib.Core.List.{List}
+use lib.ListN.{length, getD, set}
+use lib.Ieee.{Float}
+use Rattle.rules.specs.Limits.{desk}
+use Rattle.rules.specs.Table.{Table, rank, elementCount}
+use Rattle.rules.specs.Held.{Holds}
+use Rattle.rules.specs.Cut.{done, given, cutElement}
+use Rattle.rules.specs.declared.ElementOrNone.{ElementOrNone}
+use Rattle.rules.specs.declared.ElementOrNone.the-variants.{None, Some}
+use Rattle.rules.specs.declared.ElementCutOutput.{ElementCutOutput}
+use Rattle.rules.specs.declared.ElementCutOutput.the-variants.{Flush, NonFlush}
+use Rattle.rules.specs.declared.CutReply.{CutReply}
+use Rattle.rules.specs.declared.CutReply.the-variants as reply
+use Rattle.gathered.specs.Sets.{OutputInRoom}
+use Rattle.gathered.specs.Cutting.{cutOf}
+use Rattle.gathered.specs.declared.answer.Cutter.{Cutter}
+use Rattle.cut.specs.declared.known.Recalled.{Recalled}
+use Rattle.cut.specs.declared.known.Recalled.the-variants as recalled
+
+-- ---- three words an element
+
+-- none is 1, and an element is two above its number
+abbrev pub wordOf : ElementOrNone → ℕ
+wordOf None = 1
+wordOf (Some e) = suc (suc (e .0))
+
+-- the element of a word, or none
+abbrev pub someOf : ℕ → ElementOrNone
+someOf zero = None
+someOf (suc zero) = None
+someOf (suc (suc e)) = given e
+
+-- what three words say: a first word of 0 is no answer, and a second word of 0 is flush
+abbrev pub answerOf : ℕ → ℕ → ℕ → Recalled
+answerOf zero b c = recalled.None
+answerOf (suc a) zero c = recalled.Answer Flush
+answerOf (suc a) (suc b) c = recalled.Answer (NonFlush (someOf (suc a)) (someOf (suc b)) (someOf c))
+
+-- what is known of element e
+unfoldable pub answerAt : List ℕ → ℕ → Recalled
+answerAt ms e = answerOf (getD ms (e * 3) 0) (getD ms (e * 3 + 1) 0) (getD ms (e * 3 + 2) 0)
+
+-- the three words of element e are a, b and c
+unfoldable pub threeAt : List ℕ → ℕ → ℕ → ℕ → ℕ → List ℕ
+threeAt ms e a b c = set (set (set ms (e * 3) a) (e * 3 + 1) b) (e * 3 + 2) c
+
+-- the answer of element e is kept
+abbrev pub withAnswer : List ℕ → ℕ → ElementCutOutput → List ℕ
+withAnswer ms e Flush = threeAt ms e 1 0 0
+withAnswer ms e (NonFlush i o x) = threeAt ms e (wordOf i) (wordOf o) (wordOf x)
+
+-- a refusal is not kept
+abbrev pub withReply : List ℕ → ℕ → CutReply → List ℕ
+withReply ms e (reply.Refused n) = ms
+withReply ms e (reply.Answered a) = withAnswer ms e a
+
+-- the elements that a reply names are within the room
+abbrev pub ReplyInRoom : CutReply → Type 0
+ReplyInRoom (reply.Refused n) = Unit {0}
+ReplyInRoom (reply.Answered a) = OutputInRoom a
+
+-- ---- what is known is true
+
+-- asking in the table as it is now gives the answer that is known, and adds nothing
+pub record Knows (k : Cutter) (ms : List ℕ) (t : Table) : Type 0 where
+  pub long : length ms ≡ 1536
+  pub of : (e : ℕ) (a : ElementCutOutput) → e < 512 → answerAt ms e ≡ recalled.Answer a
+      → (e < elementCount t) × (cutElement desk (cutOf (t .dimension) k) (rank t e) e t ≡ done a t)
+
+-- the memory holds the table, and what is known is true of it
+pub record HoldsKnown (cs : List ℕ) (ps hs : List Float) (es ms : List ℕ) (k : Cutter) (t : Table) : Type 0 where
+  pub holds : Holds desk cs ps hs es t
+  pub knows : Knows k ms t

@@ -1,0 +1,98 @@
+// What a cut has answered so far, three words an element. An element that was not asked has zeros; flush is 1, 0, 0.
+use rules::CutReply;
+use rules::ElementCutOutput;
+use rules::ElementId;
+use rules::ElementOrNone;
+use space::words::wide;
+ghost use Prim.Native.Nat.{_<_};
+ghost use mathlib.Core.Path.{_≡_};
+ghost use lib.ListN.{length};
+ghost use Rattle.gathered.specs.Sets.{InRoom};
+ghost use Rattle.cut.specs.Known.{wordOf, someOf, answerAt, threeAt, ReplyInRoom, withReply};
+
+// What the words of an element say.
+pub enum Recalled {
+    None,
+    Answer(ElementCutOutput),
+}
+
+// None is 1, and an element is two above its number, so that no place of an answer is 0.
+fn word_of(x: ElementOrNone) -> u16
+    requires { ⌜ InRoom x ⌝ }
+    ensures { λ r. ⌜ r ≡ wordOf x ⌝ }
+{
+    match x {
+        ElementOrNone::None => 1,
+        ElementOrNone::Some(e) => (e.0 + 2) as u16,
+    }
+}
+
+fn some_of(word: u16) -> ElementOrNone
+    ensures { λ r. ⌜ r ≡ someOf word ⌝ }
+{
+    if word < 2 {
+        return ElementOrNone::None;
+    }
+    ElementOrNone::Some(ElementId(wide(word - 2)))
+}
+
+pub fn recall(known: &[u16; 1536], e: ElementId) -> Recalled
+    requires { ⌜ (length (now known) ≡ 1536) × (e .0 < 512) ⌝ }
+    ensures { λ r. ⌜ r ≡ answerAt (now (known .entry)) (e .0) ⌝ }
+{
+    let at = e.0 * 3;
+    let a = known[at];
+    let b = known[at + 1];
+    let c = known[at + 2];
+    if a == 0 {
+        return Recalled::None;
+    }
+    if b == 0 {
+        return Recalled::Answer(ElementCutOutput::Flush);
+    }
+    let inside = some_of(a);
+    let outside = some_of(b);
+    let intersection = some_of(c);
+    Recalled::Answer(ElementCutOutput::NonFlush {
+        inside,
+        outside,
+        intersection,
+    })
+}
+
+fn put_words(known: &mut [u16; 1536], e: ElementId, a: u16, b: u16, c: u16)
+    requires { ⌜ (length (now known) ≡ 1536) × (e .0 < 512) ⌝ }
+    ensures { λ r. ⌜ now (known .exit) ≡ threeAt (now (known .entry)) (e .0) a b c ⌝ }
+{
+    let first = e.0 * 3;
+    known[first] = a;
+    known[first + 1] = b;
+    known[first + 2] = c;
+}
+
+// The reply as it is; an answer is kept.
+pub fn keep(known: &mut [u16; 1536], e: ElementId, reply: CutReply) -> CutReply
+    requires { ⌜ (length (now known) ≡ 1536) × (e .0 < 512) × ReplyInRoom reply ⌝ }
+    ensures { λ r. ⌜ (r ≡ reply) × (now (known .exit) ≡ withReply (now (known .entry)) (e .0) reply) ⌝ }
+{
+    match reply {
+        CutReply::Refused(_) => reply,
+        CutReply::Answered(answer) => match answer {
+            ElementCutOutput::Flush => {
+                put_words(known, e, 1, 0, 0);
+                reply
+            }
+            ElementCutOutput::NonFlush {
+                inside,
+                outside,
+                intersection,
+            } => {
+                let a = word_of(inside);
+                let b = word_of(outside);
+                let c = word_of(intersection);
+                put_words(known, e, a, b, c);
+                reply
+            }
+        },
+    }
+}
