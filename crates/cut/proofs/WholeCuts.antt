@@ -1,18 +1,21 @@
 -- The whole cut: the hyperplane's step, then the root's; a refusal of either gives back the memory, since all that was done is to append.
 use Prim.Native.Nat.{ℕ, _*_, _≤_, _<_}
 use mathlib.Core.Path.{_≡_, sym, ap, ap₂, _∙_, subst}
-use mathlib.Core.Bool.{Bool}
+use mathlib.Core.Bool.{Bool, true, false}
+use mathlib.Core.Option.{Option, none, some}
 use mathlib.Core.List.{List}
 use native.Mathlib.Nat.{le-trans, le-of-eq}
 use native.Mathlib.Omega.{arith}
-use lib.ListN.{length, getD, replicate}
+use lib.Dec.{ltb}
+use lib.ListN.{length, getD, drop, replicate}
 use lib.Ieee.{Float}
 use Rattle.rules.specs.Limits.{desk}
 use Rattle.rules.specs.Memory.{Memory}
-use Rattle.rules.specs.Table.{Table, elementCount, rank}
+use Rattle.rules.specs.Lists.{if_then_else_, findFrom}
+use Rattle.rules.specs.Table.{Plane, Table, elementCount, rank, primordials}
 use Rattle.rules.specs.Held as held
 use Rattle.rules.specs.Held.{Extends, Holds, Came, memoryOf}
-use Rattle.rules.specs.Cut.{Outcome, done, next, addPlane, cutElement, cutFinite}
+use Rattle.rules.specs.Cut.{Outcome, refused, done, next, withPlane, sharePlane, planeMatches, addPlane, cutElement, cutFinite}
 use Rattle.rules.specs.Replies.{dividerOf, written}
 use Rattle.rules.specs.declared.Hyperplane.{Hyperplane}
 use Rattle.rules.specs.declared.HyperplaneId.{HyperplaneId}
@@ -47,6 +50,19 @@ numberOf (hyperplane.At n) = n .0
 abbrev isRefused : PlacedHyperplane → ℕ
 isRefused (hyperplane.Refused n) = 1
 isRefused (hyperplane.At n) = 0
+
+-- a hyperplane adds no element
+no-element : (o : Option ℕ) (g : Plane) (t u : Table) (v : ℕ) → sharePlane desk g o t ≡ done v u → elementCount u ≡ elementCount t
+no-element (some n) g t u v e = ap elementCount (let z : u ≡ t = cc in z)
+no-element none g t u v e = go (ltb (length (t .planes)) 64) e
+  where
+    go : (b : Bool) → (if b then done (length (t .planes)) (withPlane g t) else refused 10) ≡ done v u → elementCount u ≡ elementCount t
+    go true q = ap elementCount (let z : u ≡ withPlane g t = cc in z)
+    go false q = let z : _≡_ {A = ℕ} 0 1 = cc in absurd (omega arith)
+
+plane-count : (g : Plane) (t u : Table) (v : ℕ) → addPlane desk g t ≡ done v u → elementCount u ≡ elementCount t
+unfolding addPlane
+plane-count g t u v e = let p = primordials (t .dimension) in no-element (findFrom p (λ f. planeMatches f g) (drop p (t .planes))) g t u v e
 
 -- the table once the hyperplane is there
 record Named (ps : List Float) (es : List ℕ) (h : Hyperplane) (cs₁ : List ℕ) (hs₁ : List Float) (v : ℕ) (t : Table) : Type 0 where
@@ -118,6 +134,11 @@ module _ {cs : List ℕ} {ps hs : List Float} {es : List ℕ} {h : Hyperplane} {
               used = used;
               ranked = sym (read ∙ ap (λ (l : List ℕ). getD l (root * 36) 0) (A .holds .elements) ∙ rank-word desk (A .table) (A .holds .fits) root used);
             }
+
+        pub count-same : CutReady cs ps hs es h root → getD cs 1 0 ≡ getD cs₁ 1 0
+        count-same R =
+            let A = named (R .fit) in
+            slices (R .fit .holds) .elementCount ∙ sym (plane-count (dividerOf (R .table .dimension) h) (R .table) (A .table) (v .0) (A .ended)) ∙ sym (slices (A .holds) .elementCount)
 
         -- nothing is known yet
         pub root-ready : CutReady cs ps hs es h root → AskReady cs₁ ps es (replicate 1536 0) r root (cutter h v i o)

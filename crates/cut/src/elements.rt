@@ -11,6 +11,8 @@ use rules::ElementId;
 use space::rows;
 use space::words::wide;
 ghost use Prim.Native.Nat.{_<_};
+ghost use lib.ListN.{getD};
+ghost use Rattle.space.specs.Chains.{Indexed};
 ghost use Rattle.cut.specs.Rounds.{AskReady, ElementAsked, BoundaryCut};
 
 // Whether the boundary was asked to its end.
@@ -29,29 +31,30 @@ pub fn cut_element(
     counts: &mut [u16],
     points: &mut [f64],
     elements: &mut [u16],
+    index: &mut [u16],
     known: &mut [u16; 1536],
     e: ElementId,
     rank: usize,
     k: Cutter,
 ) -> CutReply
-    requires { ⌜ AskReady (now counts) (now points) (now elements) (now known) rank (e .0) k ⌝ }
-    ensures { λ r. ⌜ ElementAsked (now (counts .entry)) (now (points .entry)) (now (elements .entry)) (now (known .entry)) rank (e .0) k r (now (counts .exit)) (now (points .exit)) (now (elements .exit)) (now (known .exit)) ⌝ }
+    requires { ⌜ AskReady (now counts) (now points) (now elements) (now known) rank (e .0) k × Indexed (now elements) (getD (now counts) 1 0) (now index) ⌝ }
+    ensures { λ r. ⌜ ElementAsked (now (counts .entry)) (now (points .entry)) (now (elements .entry)) (now (known .entry)) rank (e .0) k r (now (counts .exit)) (now (points .exit)) (now (elements .exit)) (now (known .exit)) × Indexed (now (elements .exit)) (getD (now (counts .exit)) 1 0) (now (index .exit)) ⌝ }
 {
     let recalled = recall(known, e);
     if let Recalled::Answer(a) = recalled {
         return CutReply::Answered(a);
     }
     if rank < 2 {
-        let low = ends::cut_low(counts, points, elements, e, rank, k);
+        let low = ends::cut_low(counts, points, elements, index, e, rank, k);
         return keep(known, e, low);
     }
-    let reply = cut_boundary(counts, points, elements, known, e, rank, k);
+    let reply = cut_boundary(counts, points, elements, index, known, e, rank, k);
     let stop = reply.stop;
     match stop {
         Stop::Refused(no) => CutReply::Refused(no),
         Stop::Done => {
             let s = reply.answers;
-            let whole = answer::rule6(counts, elements, e, rank, k, s);
+            let whole = answer::rule6(counts, elements, index, e, rank, k, s);
             keep(known, e, whole)
         }
     }
@@ -62,19 +65,20 @@ fn cut_boundary(
     counts: &mut [u16],
     points: &mut [f64],
     elements: &mut [u16],
+    index: &mut [u16],
     known: &mut [u16; 1536],
     e: ElementId,
     rank: usize,
     k: Cutter,
 ) -> BoundaryReply
-    requires { ⌜ AskReady (now counts) (now points) (now elements) (now known) rank (e .0) k × (1 < rank) ⌝ }
-    ensures { λ r. ⌜ BoundaryCut (now (counts .entry)) (now (points .entry)) (now (elements .entry)) (now (known .entry)) rank (e .0) k r (now (counts .exit)) (now (points .exit)) (now (elements .exit)) (now (known .exit)) ⌝ }
+    requires { ⌜ AskReady (now counts) (now points) (now elements) (now known) rank (e .0) k × (1 < rank) × Indexed (now elements) (getD (now counts) 1 0) (now index) ⌝ }
+    ensures { λ r. ⌜ BoundaryCut (now (counts .entry)) (now (points .entry)) (now (elements .entry)) (now (known .entry)) rank (e .0) k r (now (counts .exit)) (now (points .exit)) (now (elements .exit)) (now (known .exit)) × Indexed (now (elements .exit)) (getD (now (counts .exit)) 1 0) (now (index .exit)) ⌝ }
 {
     let n = rows::size_of(elements, e);
     let mut s = sets::nothing_yet();
     for i in 0..n {
         let b = ElementId(wide(rows::boundary_at(elements, e, i)));
-        let step = cut_element(counts, points, elements, known, b, rank - 1, k);
+        let step = cut_element(counts, points, elements, index, known, b, rank - 1, k);
         match step {
             CutReply::Refused(no) => {
                 return BoundaryReply {

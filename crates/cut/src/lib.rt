@@ -12,7 +12,8 @@ use rules::ElementId;
 use rules::ElementOrNone;
 use rules::Hyperplane;
 use rules::PolytopeFate;
-use soundness::sound::memory_sound;
+use soundness::sound::memory_indexed;
+use space::chains::INDEX;
 use space::words::wide;
 use whole::cut_finite;
 ghost use mathlib.Core.Bool.{true, false};
@@ -43,7 +44,8 @@ pub fn cut(
 ) -> CutReply
     ensures { λ r. ⌜ (r, memoryOf (now (counts .exit)) (now (points .exit)) (now (planes .exit)) (now (elements .exit))) ≡ cutReply desk divider (isKept inside) (isKept outside) (root .0) (memoryOf (now (counts .entry)) (now (points .entry)) (now (planes .entry)) (now (elements .entry))) ⌝ }
 {
-    if !memory_sound(counts, points, planes, elements) {
+    let mut index = [0u16; INDEX];
+    if !memory_indexed(counts, points, planes, elements, &mut index) {
         return CutReply::Refused(3);
     }
     if wide(counts[1]) <= root.0 {
@@ -69,7 +71,17 @@ pub fn cut(
         DistanceKind::Finite => {
             let i = is_kept(inside);
             let o = is_kept(outside);
-            cut_finite(counts, points, planes, elements, divider, i, o, root)
+            cut_finite(
+                counts,
+                points,
+                planes,
+                elements,
+                &mut index,
+                divider,
+                i,
+                o,
+                root,
+            )
         }
     }
 }

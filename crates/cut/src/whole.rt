@@ -8,6 +8,8 @@ use space::memo::PlacedHyperplane;
 use space::memo::add_hyperplane;
 use space::restore::restore;
 use space::rows::rank_of;
+ghost use lib.ListN.{getD};
+ghost use Rattle.space.specs.Chains.{Indexed};
 ghost use Rattle.cut.specs.Whole.{CutReady, CutTried, WholeCut};
 
 // The divider is matched or appended first, also for a flush or vertex root.
@@ -16,12 +18,13 @@ fn cut_named(
     points: &mut [f64],
     planes: &mut [f64],
     elements: &mut [u16],
+    index: &mut [u16],
     h: Hyperplane,
     keep_inside: bool,
     keep_outside: bool,
     root: ElementId,
 ) -> CutReply
-    requires { ⌜ CutReady (now counts) (now points) (now planes) (now elements) h (root .0) ⌝ }
+    requires { ⌜ CutReady (now counts) (now points) (now planes) (now elements) h (root .0) × Indexed (now elements) (getD (now counts) 1 0) (now index) ⌝ }
     ensures { λ r. ⌜ CutTried (now (counts .entry)) (now (points .entry)) (now (planes .entry)) (now (elements .entry)) h «keep_inside» «keep_outside» (root .0) r (now (counts .exit)) (now (points .exit)) (now (planes .exit)) (now (elements .exit)) ⌝ }
 {
     let named = add_hyperplane(counts, planes, h);
@@ -36,7 +39,7 @@ fn cut_named(
                 keep_outside,
             };
             let mut known = [0u16; 1536];
-            cut_element(counts, points, elements, &mut known, root, rank, k)
+            cut_element(counts, points, elements, index, &mut known, root, rank, k)
         }
     }
 }
@@ -47,12 +50,13 @@ pub fn cut_finite(
     points: &mut [f64],
     planes: &mut [f64],
     elements: &mut [u16],
+    index: &mut [u16],
     h: Hyperplane,
     keep_inside: bool,
     keep_outside: bool,
     root: ElementId,
 ) -> CutReply
-    requires { ⌜ CutReady (now counts) (now points) (now planes) (now elements) h (root .0) ⌝ }
+    requires { ⌜ CutReady (now counts) (now points) (now planes) (now elements) h (root .0) × Indexed (now elements) (getD (now counts) 1 0) (now index) ⌝ }
     ensures { λ r. ⌜ WholeCut (now (counts .entry)) (now (points .entry)) (now (planes .entry)) (now (elements .entry)) h «keep_inside» «keep_outside» (root .0) r (now (counts .exit)) (now (points .exit)) (now (planes .exit)) (now (elements .exit)) ⌝ }
 {
     let e = counts[1];
@@ -63,6 +67,7 @@ pub fn cut_finite(
         points,
         planes,
         elements,
+        index,
         h,
         keep_inside,
         keep_outside,

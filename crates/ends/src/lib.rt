@@ -20,6 +20,7 @@ ghost use mathlib.Core.Path.{_≡_};
 ghost use lib.ListN.{length, getD};
 ghost use Rattle.rules.specs.Floats.{sideOf};
 ghost use Rattle.rules.specs.Cut.{cornerAnswer};
+ghost use Rattle.space.specs.Chains.{Indexed};
 ghost use Rattle.space.specs.Shared.{storedPoint};
 ghost use Rattle.ends.specs.Ends.{distanceTo, CornerCut, EndsReady, EndsRead, EndsGathered, Crossed, CrossedReady, CrossedCut};
 ghost use Rattle.ends.specs.Elements.{Ready, ElementCut};
@@ -130,20 +131,21 @@ fn cut_crossed(
     counts: &mut [u16],
     points: &mut [f64],
     elements: &mut [u16],
+    index: &mut [u16],
     e: ElementId,
     k: Cutter,
     s: Answers,
     x: [f64; 4],
 ) -> CutReply
-    requires { ⌜ CrossedReady (now counts) (now points) (now elements) (e .0) k s x ⌝ }
-    ensures { λ r. ⌜ CrossedCut (now (counts .entry)) (now (points .entry)) (now (elements .entry)) (e .0) k s x r (now (counts .exit)) (now (points .exit)) (now (elements .exit)) ⌝ }
+    requires { ⌜ CrossedReady (now counts) (now points) (now elements) (e .0) k s x × Indexed (now elements) (getD (now counts) 1 0) (now index) ⌝ }
+    ensures { λ r. ⌜ CrossedCut (now (counts .entry)) (now (points .entry)) (now (elements .entry)) (e .0) k s x r (now (counts .exit)) (now (points .exit)) (now (elements .exit)) × Indexed (now (elements .exit)) (getD (now (counts .exit)) 1 0) (now (index .exit)) ⌝ }
 {
-    let placed = memo::add_vertex(counts, points, elements, x);
+    let placed = memo::add_vertex(counts, points, elements, index, x);
     match placed {
         Placed::Refused(no) => CutReply::Refused(no),
         Placed::At(v) => {
             let crossed = crossed_at(s, v);
-            answer::rule6(counts, elements, e, 1, k, crossed)
+            answer::rule6(counts, elements, index, e, 1, k, crossed)
         }
     }
 }
@@ -153,11 +155,12 @@ fn cut_edge(
     counts: &mut [u16],
     points: &mut [f64],
     elements: &mut [u16],
+    index: &mut [u16],
     e: ElementId,
     k: Cutter,
 ) -> CutReply
-    requires { ⌜ Ready (now counts) (now points) (now elements) 1 (e .0) k ⌝ }
-    ensures { λ r. ⌜ ElementCut (now (counts .entry)) (now (points .entry)) (now (elements .entry)) 1 (e .0) k r (now (counts .exit)) (now (points .exit)) (now (elements .exit)) ⌝ }
+    requires { ⌜ Ready (now counts) (now points) (now elements) 1 (e .0) k × Indexed (now elements) (getD (now counts) 1 0) (now index) ⌝ }
+    ensures { λ r. ⌜ ElementCut (now (counts .entry)) (now (points .entry)) (now (elements .entry)) 1 (e .0) k r (now (counts .exit)) (now (points .exit)) (now (elements .exit)) × Indexed (now (elements .exit)) (getD (now (counts .exit)) 1 0) (now (index .exit)) ⌝ }
 {
     let d = wide(counts[0]);
     let ends = read_ends(points, elements, e);
@@ -168,10 +171,10 @@ fn cut_edge(
     let both = [p, q];
     let crossing = hypermath::edge_test(d, h, both);
     match crossing {
-        Crossing::None => answer::rule6(counts, elements, e, 1, k, s),
+        Crossing::None => answer::rule6(counts, elements, index, e, 1, k, s),
         Crossing::At(t) => {
             let x = hypermath::crossing_point(d, both, t);
-            cut_crossed(counts, points, elements, e, k, s, x)
+            cut_crossed(counts, points, elements, index, e, k, s, x)
         }
     }
 }
@@ -181,16 +184,17 @@ pub fn cut_low(
     counts: &mut [u16],
     points: &mut [f64],
     elements: &mut [u16],
+    index: &mut [u16],
     e: ElementId,
     rank: usize,
     k: Cutter,
 ) -> CutReply
-    requires { ⌜ Ready (now counts) (now points) (now elements) rank (e .0) k × (rank < 2) ⌝ }
-    ensures { λ r. ⌜ ElementCut (now (counts .entry)) (now (points .entry)) (now (elements .entry)) rank (e .0) k r (now (counts .exit)) (now (points .exit)) (now (elements .exit)) ⌝ }
+    requires { ⌜ Ready (now counts) (now points) (now elements) rank (e .0) k × (rank < 2) × Indexed (now elements) (getD (now counts) 1 0) (now index) ⌝ }
+    ensures { λ r. ⌜ ElementCut (now (counts .entry)) (now (points .entry)) (now (elements .entry)) rank (e .0) k r (now (counts .exit)) (now (points .exit)) (now (elements .exit)) × Indexed (now (elements .exit)) (getD (now (counts .exit)) 1 0) (now (index .exit)) ⌝ }
 {
     if rank == 0 {
         let a = cut_corner(counts, points, elements, e, k);
         return CutReply::Answered(a);
     }
-    cut_edge(counts, points, elements, e, k)
+    cut_edge(counts, points, elements, index, e, k)
 }

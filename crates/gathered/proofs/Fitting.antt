@@ -1,25 +1,26 @@
 -- What sets of elements in use tell of their numbers, and what soundness tells of the element that is cut.
-use Prim.Native.Nat.{ℕ, suc, _-_, _≤_, _<_}
-use mathlib.Core.Path.{_≡_, _∙_, subst}
+use Prim.Native.Nat.{ℕ, zero, suc, _+_, _-_, _*_, _≤_, _<_}
+use mathlib.Core.Path.{_≡_, sym, _∙_, subst}
 use mathlib.Core.Bool.{true}
 use mathlib.Core.List.{List, [], _∷_}
-use native.Mathlib.Nat.{le-trans}
+use native.Mathlib.Nat.{le-trans, le-of-suc-le-suc, not-suc-le-zero}
 use native.Mathlib.Omega.{arith}
 use lib.Dec.{lit≤}
-use lib.ListN.{length}
-use lib.Seq.{getD-take}
+use lib.ListN.{length, getD}
+use lib.Seq.{getD-take, length-take-le}
 use Rattle.rules.specs.Limits.{desk}
 use Rattle.rules.specs.Table.{Element, corner, polytope, Table, rankOf, boundaryOf, elementCount, rank, element}
 use Rattle.rules.specs.Sound.{closed, soundElement}
-use Rattle.rules.specs.Held.{Ranked, AllOf, SomeOf}
+use Rattle.rules.specs.Held.{Fits, elementsOf, Ranked, AllOf, SomeOf}
 use Rattle.rules.specs.declared.ElementOrNone.{ElementOrNone}
 use Rattle.rules.specs.declared.ElementOrNone.the-variants.{None, Some}
-use Rattle.rules.proofs.Extends.{below-more, below-get}
+use Rattle.rules.proofs.Extends.{Below, below-more, below-get}
 use Rattle.rules.proofs.Good.{Good, all-below, sound-at, whole}
 use Rattle.rules.proofs.Laws.{le-test, eq-test}
 use Rattle.rules.proofs.Ranked.{set-under}
 use Rattle.rules.proofs.StaysCut.{Owner, facts}
-use Rattle.space.specs.Closed.{Low, Edges}
+use Rattle.space.specs.Closed.{Low, LowEnds, Edges}
+use Rattle.space.proofs.Room.{listOf, list-word}
 use Rattle.gathered.specs.Sets.{members, InRoom}
 use Rattle.gathered.specs.declared.sets.Set.{Set}
 
@@ -44,6 +45,40 @@ edges-of t g (x ∷ xs) h = (h .0 .0, go (element t x) (h .0 .1) (sound-at desk 
     go (corner v) e s = absurd (let z : ⊥ = omega (arith, e) in z)
     go (polytope r b k m) e s =
         eq-test (length b) 2 (subst (λ (n : ℕ). closed t n b ≡ true) (let q : r ≡ 1 = omega (arith, e) in q) (whole t x r b k m s .bound .tight))
+
+-- those ends are within the room, as the memory has them
+module _ (t : Table) (F : Fits desk t) (g : Good desk t) where
+  end-low : (x j : ℕ) → Ranked t 2 x → j < 2 → getD (elementsOf desk t) (x * 36 + (4 + j)) 0 < 512
+  end-low x j h l =
+      let f = go (element t x) (h .1) (sound-at desk t x g (h .0)) in
+      let two = f .0 in
+      subst (λ (y : ℕ). y < 512)
+      (sym (list-word desk t F x (h .0) j (let q : j < length (listOf (element t x)) = omega (arith, two, l) in q) (let q : 4 + j < 36 = omega (arith, l) in q)))
+      (below-get 512 (listOf (element t x)) j (lit≤ tt) (f .1))
+    where
+      go : (y : Element) → suc (rankOf y) ≡ 2 → soundElement t x y ≡ true → (length (listOf y) ≡ 2) × Below 512 (listOf y)
+      go (corner v) e s = absurd (let z : ⊥ = omega (arith, e) in z)
+      go (polytope r b k m) e s =
+          let w = whole t x r b k m s .bound in
+          let u = h .0 in
+          let c = F .elementRoom in (
+            eq-test (length b) 2 (subst (λ (n : ℕ). closed t n b ≡ true) (let q : r ≡ 1 = omega (arith, e) in q) (w .tight)),
+            below-more b (let q : x ≤ 512 = omega (arith, u, c) in q) (all-below x b (w .under)),
+          )
+
+  pub ends-low : (es : List ℕ) → es ≡ elementsOf desk t → (s : Set) → s .n ≤ length (s .list) → AllOf (Ranked t 2) (members s) → LowEnds es (s .list) (s .n)
+  ends-low es e s l a = record { first = λ k h. one k h 0 (lit≤ tt); second = λ k h. one k h 1 (lit≤ tt) }
+    where
+      at : (xs : List ℕ) (k : ℕ) → AllOf (Ranked t 2) xs → k < length xs → Ranked t 2 (getD xs k 0)
+      at [] k p h = absurd (not-suc-le-zero h)
+      at (x ∷ xs) zero p h = p .0
+      at (x ∷ xs) (suc k) p h = at xs k (p .1) (le-of-suc-le-suc h)
+
+      one : (k : ℕ) → k < s .n → (j : ℕ) → j < 2 → getD es (getD (s .list) k 0 * 36 + (4 + j)) 0 < 512
+      one k h j i =
+          let m = length-take-le (s .n) (s .list) l in
+          subst (λ (w : List ℕ). getD w (getD (s .list) k 0 * 36 + (4 + j)) 0 < 512) (sym e)
+          (end-low (getD (s .list) k 0) j (subst (Ranked t 2) (getD-take (s .n) (s .list) k 0 h) (at (members s) k a (let q : k < length (members s) = omega (arith, m, h) in q))) i)
 
 -- ---- the element that is cut
 

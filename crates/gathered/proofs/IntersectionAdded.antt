@@ -19,7 +19,7 @@ use Rattle.rules.specs.Cut.{addPolytope, planeOfIntersection}
 use Rattle.rules.proofs.Good.{sound-good}
 use Rattle.rules.proofs.Laws.{le-test}
 use Rattle.rules.proofs.Stays.{rank-above}
-use Rattle.space.specs.Closed.{Low}
+use Rattle.space.specs.Closed.{Low, LowEnds}
 use Rattle.space.specs.Shared.{PolytopeAdded}
 use Rattle.space.specs.declared.memo.Added.{Added}
 use Rattle.space.specs.declared.memo.Added.the-variants as added
@@ -29,7 +29,7 @@ use Rattle.gathered.specs.Sets.{members}
 use Rattle.gathered.specs.Cutting.{cutOf, IntersectionFit, IntersectionReady, IntersectionMade}
 use Rattle.gathered.specs.declared.sets.Set.{Set}
 use Rattle.gathered.specs.declared.answer.Cutter.{Cutter}
-use Rattle.gathered.proofs.Fitting.{low-of, edges-of}
+use Rattle.gathered.proofs.Fitting.{low-of, edges-of, ends-low}
 
 -- FFFF is no number in use
 named : (n : ℕ) → n < 65535 → (b : Bool) → planeNamed (if b then n else noPlane) ≡ (if b then some n else none)
@@ -42,11 +42,12 @@ module _ {cs es : List ℕ} {r : ℕ} {k : Cutter} {set : Set} where
   plane-asks R = (slices (R .fit .holds) .counts, le-trans (R .fit .plane) (R .fit .holds .fits .planeRoom))
 
   pub intersection-asks : IntersectionReady cs es r k set
-      → (length cs ≡ 4) × (length es ≡ 18432) × (getD cs 1 0 ≤ 512) × (length (set .list) ≡ 33) × (set .n ≤ 33) × (r - 1 < 65536) × Low (set .list) (set .n)
+      → (length cs ≡ 4) × (length es ≡ 18432) × (getD cs 1 0 ≤ 512) × (length (set .list) ≡ 33) × (set .n ≤ 33) × (r - 1 < 65536) × Low (set .list) (set .n) × (r - 1 ≡ 2 → LowEnds es (set .list) (set .n))
   intersection-asks R =
       let F = R .fit in
       let t = R .table in
       let n = F .sized .most in
+      let long = F .sized .long in
       let low = F .low in
       let four = le-test (t .dimension) 4 (sound-good desk t (F .sound) .high) in (
         slices (F .holds) .counts,
@@ -56,6 +57,9 @@ module _ {cs es : List ℕ} {r : ℕ} {k : Cutter} {set : Set} where
         (let q : set .n ≤ 33 = omega (arith, n) in q),
         (let q : r - 1 < 65536 = omega (arith, low, four) in q),
         low-of t (F .holds .fits .elementRoom) (r - 1) set (F .sets .ranked),
+        (λ two.
+            ends-low t (F .holds .fits) (sound-good desk t (F .sound)) es (F .holds .elements) set (let q : set .n ≤ length (set .list) = omega (arith, n, long) in q)
+            (subst (λ (m : ℕ). AllOf (Ranked t m) (members set)) two (F .sets .ranked))),
       )
 
   plane-is : {ps hs : List Float} {t : Table} (plane : ℕ) → plane ≡ (if eqb r (getD cs 0 0) then k .number .0 else noPlane) → IntersectionFit cs ps hs es r k set t

@@ -21,7 +21,7 @@ use Rattle.rules.proofs.Growing.{all-get}
 use Rattle.rules.proofs.Laws.{le-test, and-right}
 use Rattle.rules.proofs.Ranked.{set-including}
 use Rattle.rules.proofs.RoundTrip.{plane-back}
-use Rattle.space.specs.Closed.{Low, Edges}
+use Rattle.space.specs.Closed.{Low, LowEnds, Edges}
 use Rattle.space.specs.Shared.{PolytopeAdded}
 use Rattle.space.specs.declared.memo.Added.{Added}
 use Rattle.space.specs.declared.memo.Added.the-variants as added
@@ -31,7 +31,7 @@ use Rattle.space.proofs.Slices.{slices}
 use Rattle.gathered.specs.Sets.{members, SizedSet, InRoom, Included}
 use Rattle.gathered.specs.Cutting.{SideFit, SideReady, SideMade}
 use Rattle.gathered.specs.declared.sets.Set.{Set}
-use Rattle.gathered.proofs.Fitting.{some-fits, low-of, edges-of, rank-low}
+use Rattle.gathered.proofs.Fitting.{some-fits, low-of, edges-of, ends-low, rank-low}
 
 marked : (b : Bool) → eqb (cond b 1 0) 1 ≡ b
 marked true = refl
@@ -54,12 +54,13 @@ module _ {cs es : List ℕ} {r e : ℕ} {set : Set} {x : ElementOrNone} where
   side-set {t = t} F = set-including t r x (members set) (F .intersection) (F .sets)
 
   pub side-asks : SideReady cs es r e set x → (all : Set) → Included set x all
-      → (length cs ≡ 4) × (length es ≡ 18432) × (getD cs 1 0 ≤ 512) × (length (all .list) ≡ 33) × (all .n ≤ 33) × (r < 65536) × Low (all .list) (all .n)
+      → (length cs ≡ 4) × (length es ≡ 18432) × (getD cs 1 0 ≤ 512) × (length (all .list) ≡ 33) × (all .n ≤ 33) × (r < 65536) × Low (all .list) (all .n) × (r ≡ 2 → LowEnds es (all .list) (all .n))
   side-asks R all I =
       let F = R .fit in
       let t = R .table in
       let z = I .sized 32 (F .sized) in
       let n = z .most in
+      let long = z .long in
       let g = sound-good desk t (F .sound) in
       let low = rank-low t e r g (F .used) (F .ranked) (F .some) in
       let four = le-test (t .dimension) 4 (g .high) in (
@@ -70,6 +71,9 @@ module _ {cs es : List ℕ} {r e : ℕ} {set : Set} {x : ElementOrNone} where
         (let q : all .n ≤ 33 = omega (arith, n) in q),
         (let q : r < 65536 = omega (arith, low, four) in q),
         low-of t (F .holds .fits .elementRoom) r all (subst (AllOf (Ranked t r)) (sym (I .of)) (side-set F .ranked)),
+        (λ two.
+            ends-low t (F .holds .fits) g es (F .holds .elements) all (let q : all .n ≤ length (all .list) = omega (arith, n, long) in q)
+            (subst (λ (m : ℕ). AllOf (Ranked t m) (members all)) two (subst (AllOf (Ranked t r)) (sym (I .of)) (side-set F .ranked)))),
       )
 
   pub side-removed : {keep : Bool} → keep ≡ false → SideMade cs es r e keep set x (added.Made None) cs es

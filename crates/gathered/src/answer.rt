@@ -19,6 +19,7 @@ ghost use lib.Dec.{eqb};
 ghost use lib.ListN.{length, getD};
 ghost use Rattle.rules.specs.Limits.{noPlane};
 ghost use Rattle.rules.specs.Lists.{if_then_else_};
+ghost use Rattle.space.specs.Chains.{Indexed};
 ghost use Rattle.gathered.specs.Cutting.{IntersectionReady, IntersectionMade, SideReady, SideMade, Rule7Ready, Rule7Done, Rule6Ready, Rule6Done};
 
 // The divider as given, its hyperplane's number, and which sides are kept.
@@ -45,32 +46,34 @@ fn plane_of_intersection(counts: &[u16], rank: usize, number: HyperplaneId) -> u
 fn new_intersection(
     counts: &mut [u16],
     elements: &mut [u16],
+    index: &mut [u16],
     rank: usize,
     k: Cutter,
     set: Set,
 ) -> Added
-    requires { ⌜ IntersectionReady (now counts) (now elements) rank k set ⌝ }
-    ensures { λ r. ⌜ IntersectionMade (now (counts .entry)) (now (elements .entry)) rank k set r (now (counts .exit)) (now (elements .exit)) ⌝ }
+    requires { ⌜ IntersectionReady (now counts) (now elements) rank k set × Indexed (now elements) (getD (now counts) 1 0) (now index) ⌝ }
+    ensures { λ r. ⌜ IntersectionMade (now (counts .entry)) (now (elements .entry)) rank k set r (now (counts .exit)) (now (elements .exit)) × Indexed (now (elements .exit)) (getD (now (counts .exit)) 1 0) (now (index .exit)) ⌝ }
 {
     let number = k.number;
     let plane = plane_of_intersection(counts, rank, number);
     let list = set.list;
     let n = set.n;
-    memo::add_polytope(counts, elements, rank - 1, &list, n, plane, false)
+    memo::add_polytope(counts, elements, index, rank - 1, &list, n, plane, false)
 }
 
 // A side's set and the intersection, with the old rank, hyperplane and mark; a removed side is none.
 fn side_of_cut(
     counts: &mut [u16],
     elements: &mut [u16],
+    index: &mut [u16],
     e: ElementId,
     rank: usize,
     keep: bool,
     set: Set,
     x: ElementOrNone,
 ) -> Added
-    requires { ⌜ SideReady (now counts) (now elements) rank (e .0) set x ⌝ }
-    ensures { λ r. ⌜ SideMade (now (counts .entry)) (now (elements .entry)) rank (e .0) keep set x r (now (counts .exit)) (now (elements .exit)) ⌝ }
+    requires { ⌜ SideReady (now counts) (now elements) rank (e .0) set x × Indexed (now elements) (getD (now counts) 1 0) (now index) ⌝ }
+    ensures { λ r. ⌜ SideMade (now (counts .entry)) (now (elements .entry)) rank (e .0) keep set x r (now (counts .exit)) (now (elements .exit)) × Indexed (now (elements .exit)) (getD (now (counts .exit)) 1 0) (now (index .exit)) ⌝ }
 {
     if !keep {
         return Added::Made(ElementOrNone::None);
@@ -80,29 +83,30 @@ fn side_of_cut(
     let all = sets::including(set, x);
     let list = all.list;
     let n = all.n;
-    memo::add_polytope(counts, elements, rank, &list, n, plane, mark)
+    memo::add_polytope(counts, elements, index, rank, &list, n, plane, mark)
 }
 
 // The intersection is known: then inside, then outside.
 fn rule7(
     counts: &mut [u16],
     elements: &mut [u16],
+    index: &mut [u16],
     e: ElementId,
     rank: usize,
     k: Cutter,
     s: Answers,
     x: ElementOrNone,
 ) -> CutReply
-    requires { ⌜ Rule7Ready (now counts) (now elements) rank (e .0) k s x ⌝ }
-    ensures { λ r. ⌜ Rule7Done (now (counts .entry)) (now (elements .entry)) rank (e .0) k s x r (now (counts .exit)) (now (elements .exit)) ⌝ }
+    requires { ⌜ Rule7Ready (now counts) (now elements) rank (e .0) k s x × Indexed (now elements) (getD (now counts) 1 0) (now index) ⌝ }
+    ensures { λ r. ⌜ Rule7Done (now (counts .entry)) (now (elements .entry)) rank (e .0) k s x r (now (counts .exit)) (now (elements .exit)) × Indexed (now (elements .exit)) (getD (now (counts .exit)) 1 0) (now (index .exit)) ⌝ }
 {
     let inner = s.inside;
-    let first = side_of_cut(counts, elements, e, rank, k.keep_inside, inner, x);
+    let first = side_of_cut(counts, elements, index, e, rank, k.keep_inside, inner, x);
     match first {
         Added::Refused(no) => CutReply::Refused(no),
         Added::Made(i) => {
             let outer = s.outside;
-            let second = side_of_cut(counts, elements, e, rank, k.keep_outside, outer, x);
+            let second = side_of_cut(counts, elements, index, e, rank, k.keep_outside, outer, x);
             match second {
                 Added::Refused(no) => CutReply::Refused(no),
                 Added::Made(o) => CutReply::Answered(ElementCutOutput::NonFlush {
@@ -119,13 +123,14 @@ fn rule7(
 pub fn rule6(
     counts: &mut [u16],
     elements: &mut [u16],
+    index: &mut [u16],
     e: ElementId,
     rank: usize,
     k: Cutter,
     s: Answers,
 ) -> CutReply
-    requires { ⌜ Rule6Ready (now counts) (now elements) rank (e .0) k s ⌝ }
-    ensures { λ r. ⌜ Rule6Done (now (counts .entry)) (now (elements .entry)) rank (e .0) k s r (now (counts .exit)) (now (elements .exit)) ⌝ }
+    requires { ⌜ Rule6Ready (now counts) (now elements) rank (e .0) k s × Indexed (now elements) (getD (now counts) 1 0) (now index) ⌝ }
+    ensures { λ r. ⌜ Rule6Done (now (counts .entry)) (now (elements .entry)) rank (e .0) k s r (now (counts .exit)) (now (elements .exit)) × Indexed (now (elements .exit)) (getD (now (counts .exit)) 1 0) (now (index .exit)) ⌝ }
 {
     let flushes = s.flushes;
     if 1 < flushes {
@@ -133,12 +138,21 @@ pub fn rule6(
     }
     if flushes == 1 {
         let flush = s.flush;
-        return rule7(counts, elements, e, rank, k, s, ElementOrNone::Some(flush));
+        return rule7(
+            counts,
+            elements,
+            index,
+            e,
+            rank,
+            k,
+            s,
+            ElementOrNone::Some(flush),
+        );
     }
     let set = s.intersections;
-    let middle = new_intersection(counts, elements, rank, k, set);
+    let middle = new_intersection(counts, elements, index, rank, k, set);
     match middle {
         Added::Refused(no) => CutReply::Refused(no),
-        Added::Made(x) => rule7(counts, elements, e, rank, k, s, x),
+        Added::Made(x) => rule7(counts, elements, index, e, rank, k, s, x),
     }
 }

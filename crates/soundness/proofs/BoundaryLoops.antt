@@ -1,22 +1,21 @@
 -- The loops over a boundary.
-use Prim.Native.Nat.{_-_, ℕ, suc, _≤_, _<_, zero, _+_, _*_}
-use mathlib.Core.Bool.{Bool, not, _&&_, true, false, true≢false}
-use mathlib.Core.List.{List, [], _∷_, _++_}
+use Prim.Native.Nat.{ℕ, suc, _≤_, _<_, zero, _+_, _*_}
+use mathlib.Core.Bool.{Bool, not, _&&_, true, false}
+use mathlib.Core.List.{List, [], _∷_}
 use mathlib.Core.Path.{_≡_, sym, subst, refl, ap, ap₂, _∙_}
 use native.Mathlib.Nat.{not-suc-le-zero, le-of-suc-le-suc, le-trans, le-of-eq}
 use native.Mathlib.Numerals.{add-one}
 use native.Mathlib.Omega.{arith}
 use lib.Dec.{eqb, ltb, leb, lit≤}
-use lib.ListN.{length, drop, take, getD, drop-of-length-le, length-drop, set}
-use lib.Seq.{getD-take, length-take-le, drop-cons, drop-drop, take-take, take-suc, take-suc-set, getD-drop}
+use lib.ListN.{length, drop, take, getD, length-drop}
+use lib.Seq.{getD-take, length-take-le, drop-drop, take-take, getD-drop}
 use Rattle.rules.specs.Limits.{noPlane, desk}
 use Rattle.rules.specs.Lists.{if_then_else_, all, rises}
-use Rattle.rules.proofs.Laws.{and-left, and-right, le-test, test-eq, not-eq}
-use Rattle.space.specs.Closed.{closedRaw, Low}
-use Rattle.soundness.specs.Words.{facetWords, recordWords, blank, elementSound, boundaryWords, boundaryIn}
-use Rattle.soundness.proofs.ReadBack.{and-assoc, and-when}
+use Rattle.rules.proofs.Laws.{and-left, and-right, le-test, test-eq, eq-test, not-eq, unlike-eq}
+use Rattle.space.specs.Closed.{closedRaw, Low, LowEnds}
+use Rattle.soundness.specs.Words.{facetWords, recordWords, blank, elementSound, numbersFit, boundaryWords, boundaryIn, EdgesLow}
 use Rattle.soundness.proofs.RowLoops.{record-polytope, drop-take, row-first, row-word}
-use borrow.Author.Tests.{ltb-true, lt-ltb}
+use borrow.Author.Tests.{ltb-true}
 
 pub facet-are : (d h r p m : ℕ) (a b c e : Bool) → eqb (suc r) d ≡ a → ltb p h ≡ b → eqb p noPlane ≡ c → not (eqb m 1) ≡ e → (if a then b else (c && e)) ≡ facetWords d h r p m
 unfolding facetWords
@@ -33,58 +32,6 @@ all-at p l from to i fit h a b =
     go (x ∷ k) zero (suc i) h a b = go k zero i (and-right (p x) (all p k) h) (let q : zero ≤ i = omega arith in q) (le-of-suc-le-suc b)
     go (x ∷ k) (suc f) zero h a b = absurd (not-suc-le-zero a)
     go (x ∷ k) (suc f) (suc i) h a b = go k f i h (le-of-suc-le-suc a) (le-of-suc-le-suc b)
-
--- each above the one before it is enough
-abbrev pub climbs : ℕ → List ℕ → Bool
-climbs x [] = true
-climbs x (y ∷ ys) = ltb x y && climbs y ys
-
-over : (x y : ℕ) (ys : List ℕ) → ltb x y ≡ true → all (ltb y) ys ≡ true → all (ltb x) ys ≡ true
-over x y [] h k = refl
-over x y (z ∷ zs) h k =
-    let a = ltb-true x y h in
-    let b = ltb-true y z (and-left (ltb y z) (all (ltb y) zs) k) in
-    ap₂ (λ (p q : Bool). p && q) (lt-ltb x z (let w : x < z = omega (arith, a, b) in w)) (over x y zs h (and-right (ltb y z) (all (ltb y) zs) k))
-
-rises-climbs : (x : ℕ) (ys : List ℕ) → rises (x ∷ ys) ≡ climbs x ys
-rises-climbs x [] = refl
-rises-climbs x (y ∷ ys) =
-    sym (and-assoc (ltb x y) (all (ltb x) ys) (rises (y ∷ ys)))
-    ∙ and-when (ltb x y) (all (ltb x) ys && rises (y ∷ ys)) (rises (y ∷ ys)) (λ h. drop-it (all (ltb x) ys) (all (ltb y) ys) (rises ys) (over x y ys h))
-    ∙ ap (λ (b : Bool). ltb x y && b) (rises-climbs y ys)
-  where
-    drop-it : (a b c : Bool) → (b ≡ true → a ≡ true) → (a && (b && c)) ≡ (b && c)
-    drop-it true b c h = refl
-    drop-it false true c h = absurd (true≢false (sym (h refl)))
-    drop-it false false c h = refl
-
-module _ (l : List ℕ) (to : ℕ) (fit : to ≤ length l) where
-  cons : (i : ℕ) → i < to → drop i (take to l) ≡ getD l i 0 ∷ drop (suc i) (take to l)
-  cons i h =
-      drop-cons (take to l) i 0 (let e = length-take-le to l fit in let q : i < length (take to l) = omega (arith, e, h) in q)
-      ∙ ap (λ (x : ℕ). x ∷ drop (suc i) (take to l)) (getD-take to l i 0 h)
-
-  abbrev rest : ℕ → Bool
-  rest i = climbs (getD l (i - 1) 0) (drop i (take to l))
-
-  pub rise-start : (from : ℕ) → from < to → rises (drop from (take to l)) ≡ rest (from + 1)
-  rise-start from h =
-      ap rises (cons from h) ∙ rises-climbs (getD l from 0) (drop (suc from) (take to l))
-      ∙ ap₂ (λ (k j : ℕ). climbs (getD l k 0) (drop j (take to l))) (let q : from ≡ from + 1 - 1 = omega arith in q) (sym (add-one from))
-
-  rise-on : (i : ℕ) → i < to → rest i ≡ (ltb (getD l (i - 1) 0) (getD l i 0) && rest (i + 1))
-  rise-on i h =
-      ap (climbs (getD l (i - 1) 0)) (cons i h)
-      ∙ ap₂ (λ (k j : ℕ). ltb (getD l (i - 1) 0) (getD l i 0) && climbs (getD l k 0) (drop j (take to l))) (let q : i ≡ i + 1 - 1 = omega arith in q) (sym (add-one i))
-
-  pub rise-go : {reply : Bool} (i : ℕ) → reply ≡ rest i → i < to → ltb (getD l (i - 1) 0) (getD l i 0) ≡ true → reply ≡ rest (i + 1)
-  rise-go i e h q = e ∙ rise-on i h ∙ ap (λ (b : Bool). b && rest (i + 1)) q
-
-  pub rise-no : {reply : Bool} (i : ℕ) → reply ≡ rest i → i < to → ltb (getD l (i - 1) 0) (getD l i 0) ≡ false → false ≡ reply
-  rise-no i e h q = sym (e ∙ rise-on i h ∙ ap (λ (b : Bool). b && rest (i + 1)) q)
-
-  pub rise-end : {reply : Bool} (i : ℕ) → reply ≡ rest i → to ≤ i → true ≡ reply
-  rise-end i e h = sym (e ∙ ap (climbs (getD l (i - 1) 0)) (drop-of-length-le (take to l) (let k = length-take-le to l fit in let q : length (take to l) ≤ i = omega (arith, k, h) in q)))
 
 -- ---- the row of an element
 
@@ -141,7 +88,7 @@ module _ (es : List ℕ) (at n e r : ℕ) (s : length es ≡ 18432) (f : at + n 
       let j = length-drop at (take (at + n) es) in
       let q : length there ≡ n = omega (arith, k, j) in q
 
-  pub boundary-are : (G R A K C : Bool) → ltb r n ≡ G → rises there ≡ R → all (λ x. ltb x e) there ≡ A → all (λ x. eqb (suc (getD es (x * 36) 0)) r) there ≡ K → closedRaw es r there ≡ C
+  boundary-are : (G R A K C : Bool) → ltb r n ≡ G → rises there ≡ R → all (λ x. ltb x e) there ≡ A → all (λ x. eqb (suc (getD es (x * 36) 0)) r) there ≡ K → closedRaw es r there ≡ C
       → (G && R && A && K && C) ≡ boundaryWords desk es e r there
   unfolding boundaryWords
   boundary-are G R A K C p₁ p₂ p₃ p₄ p₅ = shuffle G R A K C ∙ sym ((λ i. p₂ i && p₃ i && p₄ i && ltb r (long i) && p₅ i) ∙ ap (λ (g : Bool). R && A && K && g && C) p₁)
@@ -156,27 +103,111 @@ module _ (es : List ℕ) (at n e r : ℕ) (s : length es ≡ 18432) (f : at + n 
       shuffle true false A K C = refl
       shuffle false false A K C = refl
 
--- ---- a boundary copied
+  pub boundary-by : (G F C : Bool) → ltb r n ≡ G → numbersFit desk es e r there ≡ F → closedRaw es r there ≡ C → (G && F && C) ≡ boundaryWords desk es e r there
+  boundary-by G F C p q c = ap (λ (b : Bool). G && b && C) (sym q) ∙ regroup G (rises there) (all (λ x. ltb x e) there) (all (λ x. eqb (suc (getD es (x * 36) 0)) r) there) C
+      ∙ boundary-are G _ _ _ C p refl refl refl c
+    where
+      regroup : (G R A K C : Bool) → (G && (R && A && K) && C) ≡ (G && R && A && K && C)
+      regroup true R A K C = refl
+      regroup false R A K C = refl
 
-module _ (es list : List ℕ) (at : ℕ) where
-  pub copy-go : (j : ℕ) → take j list ≡ take j (drop at es) → j < length list → at + j < length es → take (j + 1) (set list j (getD es (at + j) 0)) ≡ take (j + 1) (drop at es)
-  copy-go j e h k =
-      ap (λ (i : ℕ). take i (set list j (getD es (at + j) 0))) (add-one j)
-      ∙ take-suc-set list j (getD es (at + j) 0) h
-      ∙ ap₂ (λ (l : List ℕ) (y : ℕ). l ++ (y ∷ [])) e (sym (getD-drop at es j 0))
-      ∙ sym (take-suc (drop at es) j 0 (let q = length-drop at es in let z : j < length (drop at es) = omega (arith, q, k) in z))
-      ∙ ap (λ (i : ℕ). take i (drop at es)) (sym (add-one j))
+pub numbers-below : (es : List ℕ) (e r : ℕ) (b : List ℕ) → numbersFit desk es e r b ≡ true → all (λ x. ltb x e) b ≡ true
+numbers-below es e r b h =
+    and-right (rises b) (all (λ x. ltb x e) b) (and-left (rises b && all (λ x. ltb x e) b) (all (λ x. eqb (suc (getD es (x * 36) 0)) r) b) h)
 
-  pub copy-end : (j n : ℕ) → j ≡ n → take j list ≡ take j (drop at es) → take n list ≡ drop at (take (at + n) es)
-  copy-end j n h e = subst (λ (i : ℕ). take i list ≡ take i (drop at es)) h e ∙ sym (drop-take at n es)
+pub numbers-ranked : (es : List ℕ) (e r : ℕ) (b : List ℕ) → numbersFit desk es e r b ≡ true → all (λ x. eqb (suc (getD es (x * 36) 0)) r) b ≡ true
+numbers-ranked es e r b h = and-right (rises b && all (λ x. ltb x e) b) (all (λ x. eqb (suc (getD es (x * 36) 0)) r) b) h
 
-  pub copy-low : (n e : ℕ) → take n list ≡ drop at (take (at + n) es) → at + n ≤ length es → all (λ x. ltb x e) (drop at (take (at + n) es)) ≡ true → e ≤ 512 → Low list n
-  copy-low n e c f a l = record {
-    at = λ (k : ℕ) (h : k < n).
-        let q = ltb-true (getD es (at + k) 0) e (all-at (λ x. ltb x e) es at (at + n) (at + k) f a (let z : at ≤ at + k = omega arith in z) (let z : at + k < at + n = omega (arith, h) in z)) in
-        let w : getD list k 0 ≡ getD es (at + k) 0 = sym (getD-take n list k 0 h) ∙ ap (λ (x : List ℕ). getD x k 0) (c ∙ drop-take at n es) ∙ getD-take n (drop at es) k 0 h ∙ getD-drop at es k 0 in
-        let z : getD list k 0 < 512 = omega (arith, q, w, l) in z;
-  }
+-- ---- what test 7 asks of a boundary that was tested so far
+
+module _ (es : List ℕ) (at n e r : ℕ) (fit : at + n ≤ length es) (below : all (λ x. ltb x e) (drop at (take (at + n) es)) ≡ true) where
+  below-at : (k : ℕ) → k < n → getD (drop at es) k 0 < e
+  below-at k h =
+      subst (λ (x : ℕ). x < e) (sym (getD-drop at es k 0))
+      (ltb-true (getD es (at + k) 0) e (all-at (λ x. ltb x e) es at (at + n) (at + k) fit below (let z : at ≤ at + k = omega arith in z) (let z : at + k < at + n = omega (arith, h) in z)))
+
+  pub numbers-low : e ≤ 512 → Low (drop at es) n
+  numbers-low l = record { at = λ k h. le-trans (below-at k h) l }
+
+  module _ (ranked : all (λ x. eqb (suc (getD es (x * 36) 0)) r) (drop at (take (at + n) es)) ≡ true) where
+    -- of a face, each is an edge
+    edge-at : r ≡ 2 → (k : ℕ) → k < n → getD es (getD (drop at es) k 0 * 36) 0 ≡ 1
+    edge-at two k h =
+        let q = eq-test (suc (getD es (getD es (at + k) 0 * 36) 0)) r
+        (all-at (λ x. eqb (suc (getD es (x * 36) 0)) r) es at (at + n) (at + k) fit ranked (let z : at ≤ at + k = omega arith in z) (let z : at + k < at + n = omega (arith, h) in z)) in
+        ap (λ (x : ℕ). getD es (x * 36) 0) (getD-drop at es k 0) ∙ (let z : getD es (getD es (at + k) 0 * 36) 0 ≡ 1 = omega (arith, q, two) in z)
+
+    pub ends-low : EdgesLow es e → r ≡ 2 → LowEnds es (drop at es) n
+    ends-low E two = record {
+      first = λ k h. E .first (getD (drop at es) k 0) (below-at k h) (edge-at two k h);
+      second = λ k h. E .second (getD (drop at es) k 0) (below-at k h) (edge-at two k h);
+    }
+
+-- ---- the edges among the rows that are tested
+
+pub edges-none : (es : List ℕ) → EdgesLow es 0
+edges-none es = record { first = λ x h q. absurd (not-suc-le-zero h); second = λ x h q. absurd (not-suc-le-zero h) }
+
+module _ (es : List ℕ) (e d h : ℕ) (s : length es ≡ 18432) (u : e < 512) (w : recordWords desk (take 36 (drop (e * 36) es)) ≡ true) (S : elementSound desk es d h e (take 36 (drop (e * 36) es)) ≡ true) where
+  abbrev size : ℕ
+  size = getD es (e * 36 + 3) 0
+
+  abbrev bound : List ℕ
+  bound = drop (e * 36 + 4) (take (e * 36 + 4 + size) es)
+
+  module _ (one : getD es (e * 36) 0 ≡ 1) where
+    some : getD es (e * 36) 0 ≡ 0 → ⊥
+    some z = (let q : ⊥ = omega (arith, one, z) in q)
+
+    size-fits : size ≤ 32
+    size-fits = list-fits es e d h w some
+
+    tested : boundaryWords desk es e (getD es (e * 36) 0) bound ≡ true
+    tested =
+        let F = facetWords d h (getD es (e * 36) 0) (getD es (e * 36 + 2) 0) (getD es (e * 36 + 1) 0) in
+        let B = boundaryWords desk es e (getD es (e * 36) 0) bound in
+        and-right (leb (getD es (e * 36) 0) d) B (and-left (leb (getD es (e * 36) 0) d && B) F (element-are es e d h _ _ _ size-fits some refl refl refl ∙ S))
+
+    parts : (ltb (getD es (e * 36) 0) size && rises bound && all (λ x. ltb x e) bound) ≡ true
+    parts =
+        let G = ltb (getD es (e * 36) 0) size in
+        let A = all (λ x. ltb x e) bound in
+        let K = all (λ x. eqb (suc (getD es (x * 36) 0)) (getD es (e * 36) 0)) bound in
+        let C = closedRaw es (getD es (e * 36) 0) bound in
+        let f = size-fits in
+        and-left (G && rises bound && A) K (and-left (G && rises bound && A && K) C
+        (boundary-are es (e * 36 + 4) size e (getD es (e * 36) 0) s (let q : e * 36 + 4 + size ≤ 18432 = omega (arith, f, u) in q) _ _ _ _ _ refl refl refl refl refl ∙ tested))
+
+    two-ends : 2 ≤ size
+    two-ends =
+        let l = ltb-true (getD es (e * 36) 0) size (and-left (ltb (getD es (e * 36) 0) size) (rises bound) (and-left (ltb (getD es (e * 36) 0) size && rises bound) (all (λ x. ltb x e) bound) parts)) in
+        let q : 2 ≤ size = omega (arith, l, one) in q
+
+    end-low : (j : ℕ) → e * 36 + 4 ≤ j → j < e * 36 + 4 + size → getD es j 0 < 512
+    end-low j a b =
+        let f = size-fits in
+        let l = ltb-true (getD es j 0) e (all-at (λ x. ltb x e) es (e * 36 + 4) (e * 36 + 4 + size) j (let q : e * 36 + 4 + size ≤ length es = omega (arith, f, u, s) in q)
+        (and-right (ltb (getD es (e * 36) 0) size && rises bound) (all (λ x. ltb x e) bound) parts) a b) in
+        let q : getD es j 0 < 512 = omega (arith, l, u) in q
+
+  pub edges-on : EdgesLow es e → EdgesLow es (e + 1)
+  edges-on E = record { first = λ x l q. one x l q (eqb x e) refl; second = λ x l q. two x l q (eqb x e) refl }
+    where
+      one : (x : ℕ) → x < e + 1 → getD es (x * 36) 0 ≡ 1 → (b : Bool) → eqb x e ≡ b → getD es (x * 36 + 4) 0 < 512
+      one x l q true t =
+          let m = eq-test x e t in
+          let q′ = ap (λ (y : ℕ). getD es (y * 36) 0) (sym m) ∙ q in
+          let z = two-ends q′ in
+          subst (λ (y : ℕ). getD es (y * 36 + 4) 0 < 512) (sym m) (end-low q′ (e * 36 + 4) (let p : e * 36 + 4 ≤ e * 36 + 4 = omega arith in p) (let p : e * 36 + 4 < e * 36 + 4 + size = omega (arith, z) in p))
+      one x l q false t = let m = unlike-eq x e t in E .first x (let p : x < e = omega (arith, l, m) in p) q
+
+      two : (x : ℕ) → x < e + 1 → getD es (x * 36) 0 ≡ 1 → (b : Bool) → eqb x e ≡ b → getD es (x * 36 + 5) 0 < 512
+      two x l q true t =
+          let m = eq-test x e t in
+          let q′ = ap (λ (y : ℕ). getD es (y * 36) 0) (sym m) ∙ q in
+          let z = two-ends q′ in
+          subst (λ (y : ℕ). getD es (y * 36 + 5) 0 < 512) (sym m) (end-low q′ (e * 36 + 5) (let p : e * 36 + 4 ≤ e * 36 + 5 = omega arith in p) (let p : e * 36 + 5 < e * 36 + 4 + size = omega (arith, z) in p))
+      two x l q false t = let m = unlike-eq x e t in E .second x (let p : x < e = omega (arith, l, m) in p) q
 
 -- ---- the row of an element, with what the code has read of it
 

@@ -1,59 +1,19 @@
 -- The loop over elements, and the whole test, each answer read off the tests that were taken.
-use Prim.Native.Nat.{_-_, ℕ, _<_, suc, zero, _*_, _+_, _≤_}
+use Prim.Native.Nat.{ℕ, _*_, _≤_}
 use mathlib.Core.Bool.{Bool, true, _&&_, false}
-use mathlib.Core.List.{List, [], _∷_}
-use mathlib.Core.Path.{_≡_, subst, ap, sym, _∙_, refl}
-use native.Mathlib.Nat.{not-suc-le-zero, le-of-suc-le-suc, sub-zero}
-use native.Mathlib.Numerals.{add-one}
-use native.Mathlib.Omega.{arith}
+use mathlib.Core.List.{List}
+use mathlib.Core.Path.{_≡_, ap, sym, _∙_, refl}
 use lib.Dec.{leb}
 use lib.Ieee.{Float}
-use lib.ListN.{length, getD, take, drop}
+use lib.ListN.{getD, drop}
 use Rattle.rules.specs.Limits.{desk}
-use Rattle.rules.specs.Lists.{all, rows, allFrom}
+use Rattle.rules.specs.Lists.{all, rows}
 use Rattle.rules.specs.Memory.{soundMemory, rightSize}
 use Rattle.rules.specs.Table.{primordials}
-use Rattle.rules.proofs.Indexed.{rows-on}
 use Rattle.rules.proofs.Laws.{and-left, and-right, le-test}
 use Rattle.rules.specs.Held.{memoryOf}
-use Rattle.soundness.specs.Words.{recordsSound, recordWords, blank, elementSound, elementsSound, countsFit, pointsSound, planesSound, floatsSound, cornersSound, rowsDistinct, rowsSound, wordsSound}
-use Rattle.soundness.proofs.ReadBack.{rows-length}
-use Rattle.soundness.proofs.SoundElements.{rows-at}
+use Rattle.soundness.specs.Words.{recordsSound, recordWords, blank, elementsSound, rowsInUse, countsFit, pointsSound, planesSound, floatsSound, cornersSound, rowsDistinct, rowsSound, wordsSound}
 use Rattle.soundness.proofs.SoundWhole.{words-memory}
-
-all-get : (p : List ℕ → Bool) (rs : List (List ℕ)) (i : ℕ) → all p rs ≡ true → i < length rs → p (getD rs i []) ≡ true
-all-get p [] i h l = absurd (not-suc-le-zero l)
-all-get p (r ∷ rs) zero h l = and-left (p r) (all p rs) h
-all-get p (r ∷ rs) (suc i) h l = all-get p rs i (and-right (p r) (all p rs) h) (le-of-suc-le-suc l)
-
-pub record-at : (n i : ℕ) (es : List ℕ) → recordsSound desk n es ≡ true → i < n → recordWords desk (take 36 (drop (i * 36) es)) ≡ true
-unfolding recordsSound
-record-at n i es h l =
-    subst (λ (r : List ℕ). recordWords desk r ≡ true) (rows-at 36 n i es [] l)
-    (all-get (recordWords desk) (rows n 36 es) i (and-left (all (recordWords desk) (rows n 36 es)) (blank (drop (n * 36) es)) h) (let e = rows-length n 36 es in let q : i < length (rows n 36 es) = omega (arith, e, l) in q))
-
-module _ (es : List ℕ) (n d h : ℕ) where
-  abbrev p : ℕ → List ℕ → Bool
-  p = elementSound desk es d h
-
-  pub each-start : elementsSound desk d n h es ≡ allFrom 0 (elementSound desk es d h) (rows (n - 0) 36 (drop (0 * 36) es))
-  unfolding elementsSound
-  each-start = ap (λ (m : ℕ). allFrom 0 p (rows m 36 es)) (sym (sub-zero n))
-
-  each-on : (i : ℕ) → i < n → allFrom i p (rows (n - i) 36 (drop (i * 36) es)) ≡ (p i (take 36 (drop (i * 36) es)) && allFrom (i + 1) p (rows (n - (i + 1)) 36 (drop ((i + 1) * 36) es)))
-  each-on i l =
-      ap (allFrom i p) (rows-on 36 i n es l)
-      ∙ ap (λ (k : ℕ). p i (take 36 (drop (i * 36) es)) && allFrom k p (rows (n - (i + 1)) 36 (drop ((i + 1) * 36) es))) (sym (add-one i))
-
-  pub each-go : {reply : Bool} (i : ℕ) → reply ≡ allFrom i (elementSound desk es d h) (rows (n - i) 36 (drop (i * 36) es)) → i < n → elementSound desk es d h i (take 36 (drop (i * 36) es)) ≡ true
-      → reply ≡ allFrom (i + 1) (elementSound desk es d h) (rows (n - (i + 1)) 36 (drop ((i + 1) * 36) es))
-  each-go i e l q = e ∙ each-on i l ∙ ap (λ (b : Bool). b && allFrom (i + 1) p (rows (n - (i + 1)) 36 (drop ((i + 1) * 36) es))) q
-
-  pub each-no : {reply : Bool} (i : ℕ) → reply ≡ allFrom i (elementSound desk es d h) (rows (n - i) 36 (drop (i * 36) es)) → i < n → elementSound desk es d h i (take 36 (drop (i * 36) es)) ≡ false → false ≡ reply
-  each-no i e l q = sym (e ∙ each-on i l ∙ ap (λ (b : Bool). b && allFrom (i + 1) p (rows (n - (i + 1)) 36 (drop ((i + 1) * 36) es))) q)
-
-  pub each-end : {reply : Bool} (i : ℕ) → reply ≡ allFrom i (elementSound desk es d h) (rows (n - i) 36 (drop (i * 36) es)) → n ≤ i → true ≡ reply
-  each-end i e l = sym (e ∙ ap (λ (m : ℕ). allFrom i p (rows m 36 (drop (i * 36) es))) (let z : n - i ≡ 0 = omega arith in z))
 
 pub fit-counts : (d n v h : ℕ) → countsFit desk d n v h ≡ true → (d ≤ 4) × (v ≤ 256) × (n ≤ 512) × (h ≤ 64)
 unfolding countsFit
@@ -75,10 +35,20 @@ pub floats-are : (d v h : ℕ) (ps hs : List Float) (a b : Bool) → pointsSound
 unfolding floatsSound
 floats-are d v h ps hs a b p q = sym (λ i. p i && q i)
 
-pub rows-are : (d n v h : ℕ) (es : List ℕ) (a b c e : Bool) → recordsSound desk n es ≡ a → cornersSound desk n v es ≡ b → elementsSound desk d n h es ≡ c → rowsDistinct desk n es ≡ e
-    → (a && b && c && e) ≡ rowsSound desk d n v h es
-unfolding rowsSound
-rows-are d n v h es a b c e p q r s = sym (λ i. p i && q i && r i && s i)
+pub rows-are : (d n v h : ℕ) (es : List ℕ) (a b c : Bool) → rowsInUse desk d n v h es ≡ a → blank (drop (n * 36) es) ≡ b → rowsDistinct desk n es ≡ c → (a && b && c) ≡ rowsSound desk d n v h es
+unfolding rowsSound recordsSound
+rows-are d n v h es a b c p q r = sym ((λ i. (all (recordWords desk) (rows n 36 es) && q i) && cornersSound desk n v es && elementsSound desk d n h es && r i) ∙ moved (all (recordWords desk) (rows n 36 es)) b (cornersSound desk n v es) (elementsSound desk d n h es) c ∙ ap (λ (t : Bool). t && b && c) p)
+  where
+    moved : (w b k e c : Bool) → ((w && b) && k && e && c) ≡ ((w && k && e) && b && c)
+    moved false b k e c = refl
+    moved true true k e c = ap (λ (t : Bool). t && c) (sym (last (k && e)))
+      where
+        last : (t : Bool) → (t && true) ≡ t
+        last true = refl
+        last false = refl
+    moved true false true true c = refl
+    moved true false true false c = refl
+    moved true false false e c = refl
 
 grouped : (s c p h e o r d : Bool) → (s && c && p && h && e && o && r && d) ≡ (s && c && (p && h) && (e && o && r && d))
 grouped false c p h e o r d = refl

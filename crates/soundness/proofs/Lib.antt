@@ -3,8 +3,11 @@ pub mod SoundLines
 pub mod SoundElements
 pub mod SoundWhole
 pub mod Unseen
+pub mod PastLoops
 pub mod RowLoops
 pub mod PlaneLoops
+pub mod BoundaryFits
 pub mod BoundaryLoops
+pub mod OnePass
 pub mod ElementLoops
-pub mod Chains
+pub mod Distinct

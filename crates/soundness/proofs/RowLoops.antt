@@ -1,10 +1,9 @@
 -- The loops over words and rows.
 use Prim.Native.Nat.{_-_, ℕ, _≤_, _*_, zero, suc, _<_, _+_}
-use mathlib.Core.Bool.{Bool, _&&_, true, false, cond, true≢false}
+use mathlib.Core.Bool.{Bool, _&&_, true, false}
 use mathlib.Core.List.{List, [], _∷_}
 use mathlib.Core.Path.{_≡_, sym, ap, _∙_, refl, ap₂}
 use native.Mathlib.Nat.{sub-zero, zero-mul, le-trans, le-of-eq}
-use native.Mathlib.Numerals.{add-one}
 use native.Mathlib.Omega.{arith}
 use lib.Dec.{leb, lit≤, eqb}
 use lib.Ieee.{Float}
@@ -16,7 +15,7 @@ use Rattle.rules.specs.Lists.{all, rows, if_then_else_}
 use Rattle.rules.specs.Table.{primordials}
 use Rattle.rules.proofs.Indexed.{rows-on}
 use Rattle.rules.proofs.Laws.{test-le, test-eq, not-eq}
-use Rattle.soundness.specs.Words.{countsFit, blankFloats, blank, pointWords, pointsSound, recordWords, recordsSound, cornerNamed, cornersSound, inOrder}
+use Rattle.soundness.specs.Words.{countsFit, blankFloats, blank, pointWords, pointsSound, recordWords, cornerNamed}
 
 -- ---- counts
 
@@ -118,48 +117,7 @@ record-polytope at es b c f z p q s =
     sym (record-are at es ∙ ap (λ (y : Bool). if y then eqb 0 (getD es (at + 1) 0) && eqb noPlane (getD es (at + 2) 0) && eqb 1 (getD es (at + 3) 0) && blank (drop (at + 5) (take (at + 36) es)) else (leb (getD es (at + 1) 0) 1 && leb (getD es (at + 3) 0) 32 && blank (drop (at + 4 + getD es (at + 3) 0) (take (at + 36) es)))) (not-eq _ 0 z)
     ∙ (λ i. p i && q i && s i))
 
-pub records-start : (n : ℕ) (es : List ℕ) → recordsSound desk n es ≡ (all (recordWords desk) (rows (n - 0) 36 (drop (0 * 36) es)) && blank (drop (n * 36) es))
-unfolding recordsSound
-records-start n es = row-start (recordWords desk) 36 n es (blank (drop (n * 36) es))
-
 -- ---- corners
 
 pub named-is : (at k : ℕ) (es : List ℕ) (b : Bool) → eqb (getD es at 0) 0 ≡ b → (if b then eqb (getD es (at + 4) 0) k else true) ≡ cornerNamed k (take 36 (drop at es))
 named-is at k es b e = sym (ap₂ (λ (x y : ℕ). if eqb x 0 then eqb y k else true) (row-first at es) (row-fifth at es) ∙ ap (λ (c : Bool). if c then eqb (getD es (at + 4) 0) k else true) e)
-
-module _ (n v : ℕ) (es : List ℕ) where
-  pub order-start : cornersSound desk n v es ≡ inOrder 0 v (rows (n - 0) 36 (drop (0 * 36) es))
-  unfolding cornersSound
-  order-start = ap (λ (m : ℕ). inOrder 0 v (rows m 36 es)) (sym (sub-zero n))
-
-  abbrev after : ℕ → List (List ℕ)
-  after i = rows (n - (i + 1)) 36 (drop ((i + 1) * 36) es)
-
-  on : (k i : ℕ) → i < n → inOrder k v (rows (n - i) 36 (drop (i * 36) es)) ≡ inOrder k v (take 36 (drop (i * 36) es) ∷ after i)
-  on k i h = ap (inOrder k v) (rows-on 36 i n es h)
-
-  pub order-go : {reply : Bool} (k i o : ℕ) → reply ≡ inOrder k v (rows (n - i) 36 (drop (i * 36) es)) → i < n → cornerNamed k (take 36 (drop (i * 36) es)) ≡ true
-      → o ≡ cond (eqb (getD (take 36 (drop (i * 36) es)) 0 0) 0) 1 0 → reply ≡ inOrder (k + o) v (after i)
-  order-go k i o e h q r = e ∙ on k i h ∙ go (eqb (getD row 0 0) 0) q ∙ ap (λ (j : ℕ). inOrder (k + j) v (after i)) (sym r)
-    where
-      row : List ℕ
-      row = take 36 (drop (i * 36) es)
-
-      go : (b : Bool) → (if b then eqb (getD row 4 0) k else true) ≡ true
-          → (if b then eqb (getD row 4 0) k && inOrder (suc k) v (after i) else inOrder k v (after i)) ≡ inOrder (k + cond b 1 0) v (after i)
-      go true q = ap (λ (c : Bool). c && inOrder (suc k) v (after i)) q ∙ ap (λ (j : ℕ). inOrder j v (after i)) (sym (add-one k))
-      go false q = ap (λ (j : ℕ). inOrder j v (after i)) (let z : k ≡ k + 0 = omega arith in z)
-
-  pub order-no : {reply : Bool} (k i : ℕ) → reply ≡ inOrder k v (rows (n - i) 36 (drop (i * 36) es)) → i < n → cornerNamed k (take 36 (drop (i * 36) es)) ≡ false → false ≡ reply
-  order-no k i e h q = sym (e ∙ on k i h ∙ go (eqb (getD row 0 0) 0) q)
-    where
-      row : List ℕ
-      row = take 36 (drop (i * 36) es)
-
-      go : (b : Bool) → (if b then eqb (getD row 4 0) k else true) ≡ false
-          → (if b then eqb (getD row 4 0) k && inOrder (suc k) v (after i) else inOrder k v (after i)) ≡ false
-      go true q = ap (λ (c : Bool). c && inOrder (suc k) v (after i)) q
-      go false q = absurd (true≢false q)
-
-  pub order-end : {reply : Bool} (k i : ℕ) → reply ≡ inOrder k v (rows (n - i) 36 (drop (i * 36) es)) → n ≤ i → eqb k v ≡ reply
-  order-end k i e h = sym (e ∙ ap (λ (m : ℕ). inOrder k v (rows m 36 (drop (i * 36) es))) (let z : n - i ≡ 0 = omega arith in z))

@@ -1,20 +1,42 @@
--- Loops that go over a whole part of a list and keep only whether an entry has failed its test.
--- The invariant says that all entries pass exactly when none has failed yet and those that are left pass.
-use Prim.Native.Nat.{ℕ, _+_, _≤_, _<_}
-use mathlib.Core.Path.{_≡_, sym}
-use mathlib.Core.Bool.{Bool, true, false, not, _&&_, _||_}
+-- Loops that go over a whole part of a list and keep only the bits that they have met, where an entry passes its test when it has none.
+-- The invariant says that all entries pass exactly when no bit has been met yet and those that are left pass.
+use Prim.Native.Nat.{ℕ, zero, suc, _+_, _≤_, _<_}
+use mathlib.Core.Path.{_≡_, refl, sym, ap, _∙_}
+use mathlib.Core.Bool.{Bool, true, false, _&&_}
 use mathlib.Core.List.{List}
+use native.Mathlib.Omega.{arith}
+use lib.Bits.{bitOr, or-add-and, and-le-r}
+use lib.Dec.{eqb, eqb·zero-suc, eqb·suc-zero}
 use lib.ListN.{length, getD, take, drop}
 use Rattle.rules.specs.Lists.{all}
 use Rattle.rules.proofs.Indexed.{all-front-no, all-front-go, all-front-end}
+use Rattle.rules.proofs.Laws.{not-eq}
+
+pub zero-first : (x : ℕ) → eqb 0 x ≡ eqb x 0
+zero-first zero = refl
+zero-first (suc x) = eqb·zero-suc x ∙ sym (eqb·suc-zero x)
+
+-- bits gathered of two numbers are none exactly when neither has any
+pub no-bits : (a b : ℕ) → eqb (bitOr a b) 0 ≡ (eqb a 0 && eqb b 0)
+no-bits zero b = refl
+no-bits (suc a) b =
+    not-eq (bitOr (suc a) b) 0 (λ q. let s = or-add-and (suc a) b in let l = and-le-r (suc a) b in let z : ⊥ = omega (arith, q, s, l) in z)
+    ∙ ap (λ (c : Bool). c && eqb b 0) (sym (eqb·suc-zero a))
 
 module _ {A : Type 0} (p : A → Bool) (z : A) (n : ℕ) (l : List A) (fit : n ≤ length l) where
-  pub unseen-go : {b : Bool} (seen passed : Bool) (i : ℕ) → b ≡ (not seen && all p (drop i (take n l))) → i < n → p (getD l i z) ≡ passed
-      → b ≡ (not (seen || not passed) && all p (drop (i + 1) (take n l)))
-  unseen-go true passed i e h q = e
-  unseen-go false true i e h q = all-front-go p z n l fit i e h q
-  unseen-go false false i e h q = sym (all-front-no p z n l fit i e h q)
+  step : {b : Bool} (clear passed : Bool) (i : ℕ) → b ≡ (clear && all p (drop i (take n l))) → i < n → p (getD l i z) ≡ passed
+      → b ≡ ((clear && passed) && all p (drop (i + 1) (take n l)))
+  step false passed i e h q = e
+  step true true i e h q = all-front-go p z n l fit i e h q
+  step true false i e h q = sym (all-front-no p z n l fit i e h q)
 
-  pub unseen-end : {b : Bool} (seen : Bool) (i : ℕ) → b ≡ (not seen && all p (drop i (take n l))) → n ≤ i → not seen ≡ b
-  unseen-end true i e h = sym e
-  unseen-end false i e h = all-front-end p z n l fit i e h
+  pub unseen-go : {b : Bool} (seen x i : ℕ) → b ≡ (eqb seen 0 && all p (drop i (take n l))) → i < n → p (getD l i z) ≡ eqb x 0
+      → b ≡ (eqb (bitOr seen x) 0 && all p (drop (i + 1) (take n l)))
+  unseen-go seen x i e h q = step (eqb seen 0) (eqb x 0) i e h q ∙ ap (λ (c : Bool). c && all p (drop (i + 1) (take n l))) (sym (no-bits seen x))
+
+  pub unseen-end : {b : Bool} (seen i : ℕ) → b ≡ (eqb seen 0 && all p (drop i (take n l))) → n ≤ i → eqb seen 0 ≡ b
+  unseen-end {b} seen i e h = go (eqb seen 0) e
+    where
+      go : (clear : Bool) → b ≡ (clear && all p (drop i (take n l))) → clear ≡ b
+      go true e = all-front-end p z n l fit i e h
+      go false e = sym e

@@ -1,13 +1,14 @@
 -- The soundness of the lent memory, told by its words and rows alone: nothing is read into a table. Definitions only.
-use Prim.Native.Nat.{ℕ, _*_, suc}
-use mathlib.Core.Bool.{Bool, _&&_, true, not}
+use Prim.Native.Nat.{ℕ, _+_, _*_, _<_, suc}
+use mathlib.Core.Path.{_≡_}
+use mathlib.Core.Bool.{Bool, _&&_, true, not, cond}
 use mathlib.Core.List.{List, [], _∷_}
 use lib.Dec.{eqb, leb, ltb}
 use lib.Ieee.{Float}
 use lib.ListN.{length, take, drop, getD}
 use Rattle.rules.specs.Floats.{sameBits, plusZero, within, farthest, unit, farthestPlane}
 use Rattle.rules.specs.Limits.{Limits, noPlane}
-use Rattle.rules.specs.Lists.{all, rows, if_then_else_, rises, allFrom, distinct, alike}
+use Rattle.rules.specs.Lists.{all, any, rows, if_then_else_, rises, allFrom, distinct, alike}
 use Rattle.rules.specs.Memory.{planeWidth, elementWidth, rightSize}
 use Rattle.rules.specs.Held.{memoryOf}
 use Rattle.rules.specs.Table.{primordials}
@@ -35,6 +36,10 @@ planeWords L d row = unit (take d row) && within farthestPlane (getD row (L .dim
 
 -- ---- rows of elements: rank, mark, hyperplane, count, boundary
 
+-- 32 zeros and then 32 words of ones
+abbrev pub Mask : List ℕ → Type 0
+Mask l = (k : ℕ) → k < 64 → getD l k 0 ≡ cond (ltb k 32) 0 65535
+
 -- the row is what is written of some element
 unfoldable pub recordWords : Limits → List ℕ → Bool
 recordWords L row =
@@ -53,6 +58,10 @@ cornerNamed k r = if eqb (getD r 0 0) 0 then eqb (getD r 4 0) k else true
 abbrev pub boundaryIn : List ℕ → List ℕ
 boundaryIn row = take (getD row 3 0) (drop 4 row)
 
+-- the numbers rise, are below the element's own, and are of rank one less
+abbrev pub numbersFit : Limits → List ℕ → ℕ → ℕ → List ℕ → Bool
+numbersFit L es e r b = rises b && all (λ x. ltb x e) b && all (λ x. eqb (suc (getD es (x * elementWidth L) 0)) r) b
+
 unfoldable pub boundaryWords : Limits → List ℕ → ℕ → ℕ → List ℕ → Bool
 boundaryWords L es e r b =
     rises b && all (λ x. ltb x e) b && all (λ x. eqb (suc (getD es (x * elementWidth L) 0)) r) b && ltb r (length b) && closedRaw es r b
@@ -60,11 +69,20 @@ boundaryWords L es e r b =
 unfoldable pub facetWords : ℕ → ℕ → ℕ → ℕ → ℕ → Bool
 facetWords d h r plane mark = if eqb (suc r) d then ltb plane h else (eqb plane noPlane && not (eqb mark 1))
 
+-- each edge before row e has two ends within the room
+pub record EdgesLow (es : List ℕ) (e : ℕ) : Type 0 where
+  pub first : (x : ℕ) → x < e → getD es (x * 36) 0 ≡ 1 → getD es (x * 36 + 4) 0 < 512
+  pub second : (x : ℕ) → x < e → getD es (x * 36) 0 ≡ 1 → getD es (x * 36 + 5) 0 < 512
+
 -- the row of element e
 unfoldable pub elementSound : Limits → List ℕ → ℕ → ℕ → ℕ → List ℕ → Bool
 elementSound L es d h e row =
     if eqb (getD row 0 0) 0 then true
     else (leb (getD row 0 0) d && boundaryWords L es e (getD row 0 0) (boundaryIn row) && facetWords d h (getD row 0 0) (getD row 2 0) (getD row 1 0))
+
+-- the row of element e, where vertex k is the next to be named
+abbrev pub rowSound : Limits → List ℕ → ℕ → ℕ → ℕ → ℕ → List ℕ → Bool
+rowSound L es d h k e row = recordWords L row && cornerNamed k row && elementSound L es d h e row
 
 -- ---- the whole
 
@@ -82,6 +100,14 @@ cornersSound L n v es = inOrder 0 v (rows n (elementWidth L) es)
 
 unfoldable pub elementsSound : Limits → ℕ → ℕ → ℕ → List ℕ → Bool
 elementsSound L d n h es = allFrom 0 (elementSound L es d h) (rows n (elementWidth L) es)
+
+-- the rows in use, but for the test that no two are equal
+abbrev pub rowsInUse : Limits → ℕ → ℕ → ℕ → ℕ → List ℕ → Bool
+rowsInUse L d n v h es = all (recordWords L) (rows n (elementWidth L) es) && cornersSound L n v es && elementsSound L d n h es
+
+-- row i is equal to no earlier one
+unfoldable pub rowNew : List ℕ → ℕ → Bool
+rowNew es i = not (any (alike eqb (take 36 (drop (i * 36) es))) (rows i 36 es))
 
 unfoldable pub rowsDistinct : Limits → ℕ → List ℕ → Bool
 rowsDistinct L n es = distinct (alike eqb) (rows n (elementWidth L) es)

@@ -2,7 +2,6 @@
 use hypermath::hyperplane_at;
 use hypermath::is_unit;
 use hypermath::is_within;
-use hypermath::is_zero_bits;
 use space::words::AXES;
 use space::words::PLANE_FLOATS;
 use space::words::PLANE_WIDTH;
@@ -10,27 +9,38 @@ use space::words::POINT_FLOATS;
 ghost use Prim.Native.Nat.{_+_, _*_, _<_, _≤_, _-_};
 ghost use mathlib.Core.Path.{_≡_};
 ghost use mathlib.Core.Bool.{true};
+ghost use lib.Dec.{eqb};
 ghost use lib.ListN.{length, take, drop};
 ghost use Rattle.rules.specs.Limits.{desk};
 ghost use Rattle.rules.specs.Lists.{all};
-ghost use Rattle.rules.specs.Floats.{within, farthest};
-ghost use Rattle.soundness.specs.Words.{blank, blankFloats, pointWords, pointsSound, planeWords, planesSound, floatsSound};
+ghost use Rattle.rules.specs.Floats.{sameBits, plusZero, within, farthest};
+ghost use Rattle.soundness.specs.Words.{blankFloats, pointWords, pointsSound, planeWords, planesSound, floatsSound};
 
 // The farthest a coordinate and a hyperplane may lie.
 const FARTHEST: f64 = 65536.0;
 
 const FARTHEST_PLANE: f64 = 262144.0;
 
+// The bits of a float, which are all zero for +0 only; a NaN's are not read, and are given as all ones.
+fn bits_of(x: f64) -> u64
+    ensures { λ r. ⌜ eqb r 0 ≡ sameBits plusZero x ⌝ }
+{
+    if x != x {
+        return 0xffff_ffff_ffff_ffff;
+    }
+    f64::to_bits(x)
+}
+
 // Unused room is zero bits: -0 is not blank. Many are read at once, as of the words.
 fn blank_floats(list: &[f64], from: usize, to: usize) -> bool
     requires { ⌜ (from ≤ to) × (to ≤ length (now list)) ⌝ }
     ensures { λ r. ⌜ r ≡ blankFloats (drop from (take to (now (list .entry)))) ⌝ }
 {
-    let mut seen = false;
+    let mut seen = 0u64;
     for i in from..to {
-        seen = seen | !is_zero_bits(list[i]);
+        seen = seen | bits_of(list[i]);
     }
-    !seen
+    seen == 0
 }
 
 // Each coordinate is a number from -65,536 to 65,536.

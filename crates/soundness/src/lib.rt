@@ -1,3 +1,4 @@
 // Whether a lent memory is sound, on any four slices, line by line.
+mod chains;
 mod floats;
 pub mod sound;

@@ -1,5 +1,7 @@
 // Document 01, "A table is sound when", over the words of the lent memory: one function for each of its lines.
+use crate::chains::rows_distinct;
 use crate::floats::floats_sound;
+use space::chains::INDEX;
 use space::closed::closed_at;
 use space::words::AXES;
 use space::words::ELEMENT_WORDS;
@@ -10,28 +12,23 @@ use space::words::VERTICES;
 use space::words::WIDTH;
 use space::words::right_size;
 use space::words::wide;
-ghost use Prim.Native.Nat.{suc, _+_, _*_, _<_, _≤_, _-_};
+ghost use Prim.Native.Nat.{_+_, _*_, _<_, _≤_};
 ghost use mathlib.Core.Path.{_≡_};
 ghost use mathlib.Core.Bool.{cond, true};
-ghost use lib.Dec.{eqb, ltb};
+ghost use lib.Dec.{eqb};
 ghost use lib.ListN.{length, getD, take, drop};
 ghost use Rattle.rules.specs.Limits.{desk};
-ghost use Rattle.rules.specs.Lists.{all, any, alike, rows, rises};
 ghost use Rattle.rules.specs.Memory.{soundMemory};
 ghost use Rattle.rules.specs.Held.{memoryOf};
 ghost use Rattle.rules.specs.Replies.{isSoundReply};
-ghost use Rattle.space.specs.Closed.{closedRaw};
-ghost use Rattle.soundness.specs.Chains.{keyOf, Linked, Lowest};
-ghost use Rattle.soundness.specs.Words.{blank, countsFit, recordWords, recordsSound, cornerNamed, cornersSound, rowsDistinct, boundaryWords, facetWords, elementSound, elementsSound, rowsSound};
+ghost use Rattle.space.specs.Chains.{Indexed};
+ghost use Rattle.soundness.specs.Words.{blank, countsFit, Mask, recordWords, cornerNamed, numbersFit, boundaryWords, facetWords, EdgesLow, elementSound, rowSound, rowsInUse, rowsSound};
 
 // How many words stand before a boundary: rank, mark, hyperplane, count.
 const HEAD: usize = 4;
 
 // Room for so many numbers in a boundary.
 const BOUNDARY: u16 = 32;
-
-// The end of a chain: no row has this number.
-const NO_ROW: u16 = 512;
 
 // The dimension and every count fit the room, and the hyperplanes of the space are there.
 fn counts_fit(d: usize, n: usize, v: usize, h: usize) -> bool
@@ -58,21 +55,51 @@ fn counts_fit(d: usize, n: usize, v: usize, h: usize) -> bool
     2 * d <= h
 }
 
-// Unused words are zero. The loop goes to the end whatever it meets, so that many words are read at once.
+// Unused words are zero. Their bits are gathered to the end whatever is met, so that many words are read at once.
 fn blank_words(list: &[u16], from: usize, to: usize) -> bool
     requires { ⌜ (from ≤ to) × (to ≤ length (now list)) ⌝ }
     ensures { λ r. ⌜ r ≡ blank (drop from (take to (now (list .entry)))) ⌝ }
 {
-    let mut seen = false;
+    let mut seen = 0u16;
     for i in from..to {
-        seen = seen | (list[i] != 0);
+        seen = seen | list[i];
     }
-    !seen
+    seen == 0
+}
+
+// Zeros and then ones: 32 entries of it, from entry 32 - n on, keep of 32 words those past the first n.
+fn past_mask() -> [u16; 64]
+    ensures { λ r. ⌜ Mask r ⌝ }
+{
+    let mut past = [0u16; 64];
+    for k in 32..64 {
+        past[k] = 65535;
+    }
+    past
+}
+
+// The word under an entry of the mask.
+fn kept(x: u16, mask: u16) -> u16
+    ensures { λ r. ⌜ (mask ≡ 0 → r ≡ 0) × (mask ≡ 65535 → r ≡ x) ⌝ }
+{
+    x & mask
+}
+
+// Nothing stands past the first n numbers of a boundary. All of its room is read, so that the loop has one length and no test.
+fn past_blank(elements: &[u16], at: usize, n: usize, past: &[u16; 64]) -> bool
+    requires { ⌜ (n ≤ 32) × (at + 36 ≤ length (now elements)) × Mask (now past) ⌝ }
+    ensures { λ r. ⌜ r ≡ blank (drop (at + 4 + n) (take (at + 36) (now (elements .entry)))) ⌝ }
+{
+    let mut seen = 0u16;
+    for j in 0..32 {
+        seen = seen | kept(elements[at + HEAD + j], past[32 - n + j]);
+    }
+    seen == 0
 }
 
 // A row is what is written of some element: a vertex has one fixed form, and nothing stands past a boundary.
-fn record_sound(elements: &[u16], at: usize) -> bool
-    requires { ⌜ at + 36 ≤ length (now elements) ⌝ }
+fn record_sound(elements: &[u16], at: usize, past: &[u16; 64]) -> bool
+    requires { ⌜ (at + 36 ≤ length (now elements)) × Mask (now past) ⌝ }
     ensures { λ r. ⌜ r ≡ recordWords desk (take 36 (drop at (now (elements .entry)))) ⌝ }
 {
     if elements[at] == 0 {
@@ -85,7 +112,7 @@ fn record_sound(elements: &[u16], at: usize) -> bool
         if elements[at + 3] != 1 {
             return false;
         }
-        return blank_words(elements, at + 5, at + WIDTH);
+        return past_blank(elements, at, 1, past);
     }
     if 1 < elements[at + 1] {
         return false;
@@ -94,20 +121,7 @@ fn record_sound(elements: &[u16], at: usize) -> bool
         return false;
     }
     let n = wide(elements[at + 3]);
-    blank_words(elements, at + HEAD + n, at + WIDTH)
-}
-
-// The elements in use, and zeros past them.
-fn records_sound(elements: &[u16], n: usize) -> bool
-    requires { ⌜ (n ≤ 512) × (length (now elements) ≡ 18432) ⌝ }
-    ensures { λ r. ⌜ r ≡ recordsSound desk n (now (elements .entry)) ⌝ }
-{
-    for i in 0..n {
-        if !record_sound(elements, i * WIDTH) {
-            return false;
-        }
-    }
-    blank_words(elements, n * WIDTH, ELEMENT_WORDS)
+    past_blank(elements, at, n, past)
 }
 
 // The row is no vertex element's, or it names vertex k.
@@ -129,73 +143,27 @@ fn one_if_corner(elements: &[u16], at: usize) -> usize
     if elements[at] == 0 { 1 } else { 0 }
 }
 
-// Vertex elements name vertices 0, 1, 2 .. in order, each once.
-fn corners_sound(elements: &[u16], n: usize, v: usize) -> bool
-    requires { ⌜ (n ≤ 512) × (length (now elements) ≡ 18432) ⌝ }
-    ensures { λ r. ⌜ r ≡ cornersSound desk n v (now (elements .entry)) ⌝ }
+// The boundary numbers rise strictly, are below the element's own, and are of rank one less: only a number below is one whose rank can be read.
+fn numbers_fit(elements: &[u16], from: usize, to: usize, e: usize, rank: usize) -> bool
+    requires { ⌜ (from ≤ to) × (to ≤ length (now elements)) × (length (now elements) ≡ 18432) × (e ≤ 512) ⌝ }
+    ensures { λ r. ⌜ r ≡ numbersFit desk (now (elements .entry)) e rank (drop from (take to (now (elements .entry)))) ⌝ }
 {
-    let mut k = 0usize;
-    for i in 0..n {
-        if !corner_named(elements, i * WIDTH, k) {
+    let mut low = 0usize;
+    for i in from..to {
+        let x = wide(elements[i]);
+        if x < low {
             return false;
         }
-        k = k + one_if_corner(elements, i * WIDTH);
-    }
-    k == v
-}
-
-// The boundary numbers are below the element's own.
-fn all_below(list: &[u16], from: usize, to: usize, e: usize) -> bool
-    requires { ⌜ (from ≤ to) × (to ≤ length (now list)) ⌝ }
-    ensures { λ r. ⌜ r ≡ all (λ x. ltb x e) (drop from (take to (now (list .entry)))) ⌝ }
-{
-    for i in from..to {
-        let x = wide(list[i]);
         if e <= x {
             return false;
         }
-    }
-    true
-}
-
-// The boundary has rank one less.
-fn all_ranked(elements: &[u16], from: usize, to: usize, e: usize, rank: usize) -> bool
-    requires { ⌜ (from ≤ to) × (to ≤ length (now elements)) × (length (now elements) ≡ 18432) × (e ≤ 512) × (all (λ x. ltb x e) (drop from (take to (now elements))) ≡ true) ⌝ }
-    ensures { λ r. ⌜ r ≡ all (λ x. eqb (suc (getD (now (elements .entry)) (x * 36) 0)) rank) (drop from (take to (now (elements .entry)))) ⌝ }
-{
-    for i in from..to {
-        let x = wide(elements[i]);
         let below = wide(elements[x * WIDTH]);
         if below + 1 != rank {
             return false;
         }
+        low = x + 1;
     }
     true
-}
-
-// The boundary numbers rise strictly.
-fn rises_on(list: &[u16], from: usize, to: usize) -> bool
-    requires { ⌜ (from < to) × (to ≤ length (now list)) ⌝ }
-    ensures { λ r. ⌜ r ≡ rises (drop from (take to (now (list .entry)))) ⌝ }
-{
-    for i in from + 1..to {
-        if list[i] <= list[i - 1] {
-            return false;
-        }
-    }
-    true
-}
-
-// Test 7 of the boundary that stands at a place, which is copied out because the test takes a list.
-fn closed_here(elements: &[u16], at: usize, n: usize, e: usize, rank: usize) -> bool
-    requires { ⌜ (length (now elements) ≡ 18432) × (at + n ≤ 18432) × (n ≤ 32) × (e ≤ 512) × (all (λ x. ltb x e) (drop at (take (at + n) (now elements))) ≡ true) ⌝ }
-    ensures { λ r. ⌜ r ≡ closedRaw (now (elements .entry)) rank (drop at (take (at + n) (now (elements .entry)))) ⌝ }
-{
-    let mut list = [0u16; 33];
-    for j in 0..n {
-        list[j] = elements[at + j];
-    }
-    closed_at(elements, rank, &list, n)
 }
 
 // It names a hyperplane in use exactly when rank + 1 is the dimension, and has a primordial mark only then.
@@ -214,27 +182,21 @@ fn facet_sound(d: usize, h: usize, rank: usize, plane: usize, mark: usize) -> bo
 
 // More of them than the rank, rising, earlier, of rank one less, and closed.
 fn boundary_sound(elements: &[u16], at: usize, n: usize, e: usize, rank: usize) -> bool
-    requires { ⌜ (length (now elements) ≡ 18432) × (at + n ≤ 18432) × (n ≤ 32) × (e ≤ 512) ⌝ }
+    requires { ⌜ (length (now elements) ≡ 18432) × (at + n ≤ 18432) × (n ≤ 32) × (e ≤ 512) × EdgesLow (now elements) e ⌝ }
     ensures { λ r. ⌜ r ≡ boundaryWords desk (now (elements .entry)) e rank (drop at (take (at + n) (now (elements .entry)))) ⌝ }
 {
     if n <= rank {
         return false;
     }
-    if !rises_on(elements, at, at + n) {
+    if !numbers_fit(elements, at, at + n, e, rank) {
         return false;
     }
-    if !all_below(elements, at, at + n, e) {
-        return false;
-    }
-    if !all_ranked(elements, at, at + n, e, rank) {
-        return false;
-    }
-    closed_here(elements, at, n, e, rank)
+    closed_at(elements, rank, elements, at, n)
 }
 
 // A polytope's rank, boundary and hyperplane; a vertex element is tested by its record.
 fn element_sound(elements: &[u16], e: usize, d: usize, h: usize) -> bool
-    requires { ⌜ (length (now elements) ≡ 18432) × (e < 512) × (recordWords desk (take 36 (drop (e * 36) (now elements))) ≡ true) ⌝ }
+    requires { ⌜ (length (now elements) ≡ 18432) × (e < 512) × (recordWords desk (take 36 (drop (e * 36) (now elements))) ≡ true) × EdgesLow (now elements) e ⌝ }
     ensures { λ r. ⌜ r ≡ elementSound desk (now (elements .entry)) d h e (take 36 (drop (e * 36) (now (elements .entry)))) ⌝ }
 {
     let at = e * WIDTH;
@@ -254,96 +216,60 @@ fn element_sound(elements: &[u16], e: usize, d: usize, h: usize) -> bool
     facet_sound(d, h, rank, plane, mark)
 }
 
-// Every element in use.
-fn elements_sound(elements: &[u16], n: usize, d: usize, h: usize) -> bool
-    requires { ⌜ (n ≤ 512) × (length (now elements) ≡ 18432) × (recordsSound desk n (now elements) ≡ true) ⌝ }
-    ensures { λ r. ⌜ r ≡ elementsSound desk d n h (now (elements .entry)) ⌝ }
+// One row, where vertex k is the next to be named: what is read past its record is read only once the record is sound.
+fn row_sound(elements: &[u16], e: usize, d: usize, h: usize, k: usize, past: &[u16; 64]) -> bool
+    requires { ⌜ (length (now elements) ≡ 18432) × (e < 512) × Mask (now past) × EdgesLow (now elements) e ⌝ }
+    ensures { λ r. ⌜ r ≡ rowSound desk (now (elements .entry)) d h k e (take 36 (drop (e * 36) (now (elements .entry)))) ⌝ }
 {
+    if !record_sound(elements, e * WIDTH, past) {
+        return false;
+    }
+    if !corner_named(elements, e * WIDTH, k) {
+        return false;
+    }
+    element_sound(elements, e, d, h)
+}
+
+// The rows in use, each read once; vertex elements name vertices 0, 1, 2 .. in order, each once.
+fn rows_in_use(elements: &[u16], d: usize, n: usize, v: usize, h: usize) -> bool
+    requires { ⌜ (n ≤ 512) × (length (now elements) ≡ 18432) ⌝ }
+    ensures { λ r. ⌜ r ≡ rowsInUse desk d n v h (now (elements .entry)) ⌝ }
+{
+    let past = past_mask();
+    let mut k = 0usize;
     for i in 0..n {
-        if !element_sound(elements, i, d, h) {
+        if !row_sound(elements, i, d, h, k, &past) {
             return false;
         }
+        k = k + one_if_corner(elements, i * WIDTH);
     }
-    true
+    k == v
 }
 
-// Two rows are equal in all words.
-fn same_rows(elements: &[u16], a: usize, b: usize) -> bool
-    requires { ⌜ (a + 36 ≤ length (now elements)) × (b + 36 ≤ length (now elements)) ⌝ }
-    ensures { λ r. ⌜ r ≡ alike eqb (take 36 (drop a (now (elements .entry)))) (take 36 (drop b (now (elements .entry)))) ⌝ }
+// The slice of elements: the rows in use, zeros past them, and no two rows equal.
+fn rows_sound(elements: &[u16], d: usize, n: usize, v: usize, h: usize, index: &mut [u16]) -> bool
+    requires { ⌜ (n ≤ 512) × (length (now elements) ≡ 18432) × Indexed (now elements) 0 (now index) ⌝ }
+    ensures { λ r. ⌜ (r ≡ rowsSound desk d n v h (now (elements .entry))) × (r ≡ true → Indexed (now (elements .entry)) n (now (index .exit))) ⌝ }
 {
-    for j in 0..WIDTH {
-        if elements[a + j] != elements[b + j] {
-            return false;
-        }
-    }
-    true
-}
-
-// The row's first boundary number, which equal rows share; a remainder, so that any word is a place in the lists below.
-fn key_of(elements: &[u16], i: usize) -> usize
-    requires { ⌜ (i < 512) × (length (now elements) ≡ 18432) ⌝ }
-    ensures { λ r. ⌜ (r ≡ keyOf (now (elements .entry)) i) × (r < 512) ⌝ }
-{
-    wide(elements[i * WIDTH + HEAD]) % ELEMENTS
-}
-
-// Some later row is equal to row i: only those with its key are looked at.
-fn met_on_chain(elements: &[u16], n: usize, i: usize, next: &[u16; 512], from: u16) -> bool
-    requires { ⌜ (i < n) × (n ≤ 512) × (length (now elements) ≡ 18432) × Linked (now elements) n (now next) (i + 1) × Lowest (now elements) n (keyOf (now elements) i) (i + 1) from ⌝ }
-    ensures { λ r. ⌜ r ≡ any (λ y. alike eqb y (take 36 (drop (i * 36) (now (elements .entry))))) (rows (n - (i + 1)) 36 (drop ((i + 1) * 36) (now (elements .entry)))) ⌝ }
-{
-    let mut j = wide(from);
-    while j < n {
-        if same_rows(elements, j * WIDTH, i * WIDTH) {
-            return true;
-        }
-        j = wide(next[j]);
-    }
-    false
-}
-
-// No two elements are equal in all fields: from the last row down, each is compared with the later ones of its key.
-fn rows_distinct(elements: &[u16], n: usize) -> bool
-    requires { ⌜ (n ≤ 512) × (length (now elements) ≡ 18432) ⌝ }
-    ensures { λ r. ⌜ r ≡ rowsDistinct desk n (now (elements .entry)) ⌝ }
-{
-    let mut first = [NO_ROW; 512];
-    let mut next = [NO_ROW; 512];
-    let mut i = n;
-    while 0 < i {
-        i = i - 1;
-        let key = key_of(elements, i);
-        let from = first[key];
-        if met_on_chain(elements, n, i, &next, from) {
-            return false;
-        }
-        next[i] = from;
-        first[key] = i as u16;
-    }
-    true
-}
-
-// The slice of elements: its rows are read only once each is known to be some element's.
-fn rows_sound(elements: &[u16], d: usize, n: usize, v: usize, h: usize) -> bool
-    requires { ⌜ (n ≤ 512) × (length (now elements) ≡ 18432) ⌝ }
-    ensures { λ r. ⌜ r ≡ rowsSound desk d n v h (now (elements .entry)) ⌝ }
-{
-    if !records_sound(elements, n) {
+    if !rows_in_use(elements, d, n, v, h) {
         return false;
     }
-    if !corners_sound(elements, n, v) {
+    if !blank_words(elements, n * WIDTH, ELEMENT_WORDS) {
         return false;
     }
-    if !elements_sound(elements, n, d, h) {
-        return false;
-    }
-    rows_distinct(elements, n)
+    rows_distinct(elements, n, index)
 }
 
-// Lengths and counts come first: the other tests rely on them.
-pub fn memory_sound(counts: &[u16], points: &[f64], planes: &[f64], elements: &[u16]) -> bool
-    ensures { λ r. ⌜ r ≡ soundMemory desk (memoryOf (now (counts .entry)) (now (points .entry)) (now (planes .entry)) (now (elements .entry))) ⌝ }
+// Lengths and counts come first: the other tests rely on them. The rows of a sound memory are in the index then.
+pub fn memory_indexed(
+    counts: &[u16],
+    points: &[f64],
+    planes: &[f64],
+    elements: &[u16],
+    index: &mut [u16],
+) -> bool
+    requires { ⌜ Indexed (now elements) 0 (now index) ⌝ }
+    ensures { λ r. ⌜ (r ≡ soundMemory desk (memoryOf (now (counts .entry)) (now (points .entry)) (now (planes .entry)) (now (elements .entry)))) × (r ≡ true → Indexed (now (elements .entry)) (getD (now (counts .entry)) 1 0) (now (index .exit))) ⌝ }
 {
     if !right_size(counts, points, planes, elements) {
         return false;
@@ -358,7 +284,15 @@ pub fn memory_sound(counts: &[u16], points: &[f64], planes: &[f64], elements: &[
     if !floats_sound(points, planes, d, v, h) {
         return false;
     }
-    rows_sound(elements, d, n, v, h)
+    rows_sound(elements, d, n, v, h, index)
+}
+
+// The same, where the index is not asked for.
+pub fn memory_sound(counts: &[u16], points: &[f64], planes: &[f64], elements: &[u16]) -> bool
+    ensures { λ r. ⌜ r ≡ soundMemory desk (memoryOf (now (counts .entry)) (now (points .entry)) (now (planes .entry)) (now (elements .entry))) ⌝ }
+{
+    let mut index = [0u16; INDEX];
+    memory_indexed(counts, points, planes, elements, &mut index)
 }
 
 // Document 01, `is_sound`: 0 when the memory is sound, 3 when not.

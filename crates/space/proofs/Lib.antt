@@ -5,6 +5,7 @@ pub mod SameRows
 pub mod Lent
 pub mod Zeros
 pub mod RowWords
+pub mod Indexing
 pub mod RowAdds
 pub mod RowMade
 pub mod VertexMemo

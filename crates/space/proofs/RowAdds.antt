@@ -4,10 +4,11 @@ use mathlib.Core.Path.{_≡_, refl, sym, ap, ap₂, _∙_}
 use mathlib.Core.Bool.{Bool, true}
 use mathlib.Core.Option.{Option, none, some}
 use mathlib.Core.List.{List}
+use native.Mathlib.Nat.{le-of-eq}
 use native.Mathlib.Omega.{arith}
 use lib.Dec.{eqb, lit≤}
-use lib.ListN.{getD, set}
-use lib.Seq.{sets}
+use lib.ListN.{length, getD, take, set}
+use lib.Seq.{sets, take-all}
 use lib.Ieee.{Float}
 use borrow.Author.Tests.{lt-ltb, le-ltb}
 use Rattle.rules.specs.Limits.{Readable, desk}
@@ -20,13 +21,17 @@ use Rattle.space.proofs.SameRows.{find-rows}
 use Rattle.space.proofs.Room.{element-fitted, element-counted, element-words-stored, row-short}
 use Rattle.rules.specs.declared.ElementId.{ElementId}
 use Rattle.space.specs.Found.{elementNumber, placedAt, RowAdded}
-use Rattle.space.specs.declared.rows.FoundElement.{FoundElement}
-use Rattle.space.specs.declared.rows.FoundElement.the-variants.{None as NoElement, At as AtElement}
+use Rattle.space.specs.declared.chains.FoundElement.{FoundElement}
+use Rattle.space.specs.declared.chains.FoundElement.the-variants.{None as NoElement, At as AtElement}
 use Rattle.space.specs.declared.rows.Placed.the-variants as placed
 use Rattle.space.proofs.Slices.{slices}
 
 pub readable-desk : Readable desk
 readable-desk = record { planes = lit≤ tt; boundary = lit≤ tt }
+
+-- the row is all of the words that the search reads
+pub row-whole : (es row : List ℕ) (n : ℕ) {o : Option ℕ} → length row ≡ 36 → o ≡ find (alike eqb (take 36 row)) (rows n 36 es) → o ≡ find (alike eqb row) (rows n 36 es)
+row-whole es row n l f = f ∙ ap (λ (r : List ℕ). find (alike eqb r) (rows n 36 es)) (take-all 36 row (le-of-eq l))
 
 module _ (cs es row : List ℕ) (n : ℕ) (found : FoundElement) (k : n ≡ getD cs 1 0) (f : elementNumber found ≡ find (alike eqb row) (rows n 36 es)) where
   module _ (ps hs : List Float) (t : Table) (e : Element) (H : Holds desk cs ps hs es t) (q : row ≡ elementWords desk e) (p : fitting desk e ≡ true) where
@@ -57,9 +62,9 @@ module _ (cs es row : List ℕ) (n : ℕ) (found : FoundElement) (k : n ≡ getD
         stopped 9 t (ap (λ (o : Option ℕ). shareElement desk e o t) s ∙ ap (λ (b : Bool). if b then done (elementCount t) (withElement e t) else refused 9) (le-ltb (elementCount t) 512 l′)) refl (extends-refl t) H);
   }
 
-  pub row-new : (es′ : List ℕ) → found ≡ NoElement → n < 512 → es′ ≡ sets es (n * 36) row → RowAdded cs es row (placedAt n) (set cs 1 (n + 1)) es′
+  pub row-new : (cs′ es′ : List ℕ) → found ≡ NoElement → n < 512 → cs′ ≡ set cs 1 (n + 1) → es′ ≡ sets es (n * 36) row → RowAdded cs es row (placedAt n) cs′ es′
   unfolding addElement pointsOf planesOf
-  row-new es′ g l w = record {
+  row-new cs′ es′ g l v w = record {
     of = λ ps hs t e H q p.
         (let s : find (sameElement e) (t .elements) ≡ none = sym (search-is ps hs t e H q p) ∙ sym f ∙ ap elementNumber g in
         let m = number ps hs t e H q p in
@@ -68,7 +73,7 @@ module _ (cs es row : List ℕ) (n : ℕ) (found : FoundElement) (k : n ≡ getD
         (ap (λ (o : Option ℕ). shareElement desk e o t) s ∙ ap (λ (b : Bool). if b then done (elementCount t) (withElement e t) else refused 9) (lt-ltb (elementCount t) 512 l′))
         (ap placedAt m)
         record {
-          counts = ap₂ (λ (c : List ℕ) (i : ℕ). set c 1 (i + 1)) (H .counts) m ∙ sym (element-counted desk t (H .fits) e);
+          counts = v ∙ ap₂ (λ (c : List ℕ) (i : ℕ). set c 1 (i + 1)) (H .counts) m ∙ sym (element-counted desk t (H .fits) e);
           points = H .points;
           planes = H .planes;
           elements = w ∙ (λ i. sets (H .elements i) (m i * 36) (q i)) ∙ sym (element-words-stored desk readable-desk t (H .fits) e l′ p);

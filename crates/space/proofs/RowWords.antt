@@ -3,7 +3,7 @@ use Prim.Native.Nat.{ℕ, _+_, _≤_, _<_}
 use mathlib.Core.Bool.{Bool, true, false}
 use mathlib.Core.List.{List, _++_, map, [], _∷_}
 use mathlib.Core.Option.{Option}
-use mathlib.Core.Path.{_≡_, _∙_, ap, sym, refl}
+use mathlib.Core.Path.{_≡_, _∙_, ap, ap₂, sym, refl}
 use native.Mathlib.Nat.{le-of-lt, le-of-eq, le-trans}
 use native.Mathlib.Numerals.{add-one}
 use native.Mathlib.Omega.{arith}
@@ -36,28 +36,32 @@ module _ {A : Type 0} where
   map-same [] = refl
   map-same (x ∷ xs) = ap (λ (l : List A). x ∷ l) (map-same xs)
 
--- at 36 words, as the code has it
-module _ (es row : List ℕ) (at : ℕ) (r : length row ≡ 36) (h : at + 36 ≤ length es) where
-  in-row : (j : ℕ) → j < 36 → j < length row
-  in-row j k = omega (arith, r, k)
+-- two rows of 36 words, as the code has them
+module _ (es words : List ℕ) (at from : ℕ) (r : from + 36 ≤ length words) (h : at + 36 ≤ length es) where
+  abbrev rowIn : List ℕ → ℕ → List ℕ
+  rowIn l i = take 36 (drop i l)
 
-  part-long : length (take 36 (drop at es)) ≡ 36
-  part-long = length-take-le 36 (drop at es) (let e = length-drop at es in let q : 36 ≤ length (drop at es) = omega (arith, e, h) in q)
+  part-long : (l : List ℕ) (i : ℕ) → i + 36 ≤ length l → length (rowIn l i) ≡ 36
+  part-long l i k = length-take-le 36 (drop i l) (let e = length-drop i l in let q : 36 ≤ length (drop i l) = omega (arith, e, k) in q)
 
-  in-part : (j : ℕ) → j < 36 → j < length (take 36 (drop at es))
-  in-part j k = let e = part-long in omega (arith, e, k)
+  in-part : (l : List ℕ) (i : ℕ) → i + 36 ≤ length l → (j : ℕ) → j < 36 → j < length (rowIn l i)
+  in-part l i k j m = let e = part-long l i k in omega (arith, e, m)
 
-  word : (j : ℕ) → j < 36 → eqb (getD row j 0) (getD (take 36 (drop at es)) j 0) ≡ eqb (getD row j 0) (getD es (at + j) 0)
-  word j k = ap (eqb (getD row j 0)) (getD-take 36 (drop at es) j 0 k ∙ getD-drop at es j 0)
+  part-word : (l : List ℕ) (i j : ℕ) → j < 36 → getD (rowIn l i) j 0 ≡ getD l (i + j) 0
+  part-word l i j k = getD-take 36 (drop i l) j 0 k ∙ getD-drop i l j 0
 
-  pub same-go : {b : Bool} (j : ℕ) → b ≡ alike eqb (drop j row) (drop j (take 36 (drop at es))) → j < 36 → eqb (getD row j 0) (getD es (at + j) 0) ≡ true → b ≡ alike eqb (drop (j + 1) row) (drop (j + 1) (take 36 (drop at es)))
-  same-go j e k q = alike-go eqb 0 row (take 36 (drop at es)) j e (in-row j k) (in-part j k) (word j k ∙ q)
+  word : (j : ℕ) → j < 36 → eqb (getD (rowIn words from) j 0) (getD (rowIn es at) j 0) ≡ eqb (getD words (from + j) 0) (getD es (at + j) 0)
+  word j k = ap₂ eqb (part-word words from j k) (part-word es at j k)
 
-  pub same-not : {b : Bool} (j : ℕ) → b ≡ alike eqb (drop j row) (drop j (take 36 (drop at es))) → j < 36 → eqb (getD row j 0) (getD es (at + j) 0) ≡ false → false ≡ b
-  same-not j e k q = alike-no eqb 0 row (take 36 (drop at es)) j e (in-row j k) (in-part j k) (word j k ∙ q)
+  pub same-go : {b : Bool} (j : ℕ) → b ≡ alike eqb (drop j (rowIn words from)) (drop j (rowIn es at)) → j < 36 → eqb (getD words (from + j) 0) (getD es (at + j) 0) ≡ true
+      → b ≡ alike eqb (drop (j + 1) (rowIn words from)) (drop (j + 1) (rowIn es at))
+  same-go j e k q = alike-go eqb 0 (rowIn words from) (rowIn es at) j e (in-part words from r j k) (in-part es at h j k) (word j k ∙ q)
 
-  pub same-end : {b : Bool} (j : ℕ) → b ≡ alike eqb (drop j row) (drop j (take 36 (drop at es))) → 36 ≤ j → true ≡ b
-  same-end j e k = alike-end eqb 0 row (take 36 (drop at es)) j e (le-trans (le-of-eq r) k) (le-trans (le-of-eq part-long) k)
+  pub same-not : {b : Bool} (j : ℕ) → b ≡ alike eqb (drop j (rowIn words from)) (drop j (rowIn es at)) → j < 36 → eqb (getD words (from + j) 0) (getD es (at + j) 0) ≡ false → false ≡ b
+  same-not j e k q = alike-no eqb 0 (rowIn words from) (rowIn es at) j e (in-part words from r j k) (in-part es at h j k) (word j k ∙ q)
+
+  pub same-end : {b : Bool} (j : ℕ) → b ≡ alike eqb (drop j (rowIn words from)) (drop j (rowIn es at)) → 36 ≤ j → true ≡ b
+  same-end j e k = alike-end eqb 0 (rowIn words from) (rowIn es at) j e (le-trans (le-of-eq (part-long words from r)) k) (le-trans (le-of-eq (part-long es at h)) k)
 
 -- what is left of a search for a row
 abbrev pub rowFrom : (List ℕ → Bool) → ℕ → List ℕ → ℕ → Option ℕ

@@ -12,10 +12,20 @@ use Rattle.rules.specs.Table.{Table, elementCount, boundary}
 pub record Low (list : List ℕ) (n : ℕ) : Type 0 where
   pub at : (k : ℕ) → k < n → getD list k 0 < 512
 
+-- the two ends of each of the first n edges of a list are numbers within the room
+pub record LowEnds (es list : List ℕ) (n : ℕ) : Type 0 where
+  pub first : (k : ℕ) → k < n → getD es (getD list k 0 * 36 + 4) 0 < 512
+  pub second : (k : ℕ) → k < n → getD es (getD list k 0 * 36 + 5) 0 < 512
+
 -- the two ends of each edge, as the memory has them
 unfoldable pub rawEnds : List ℕ → List ℕ → List ℕ
 rawEnds es [] = []
 rawEnds es (x ∷ xs) = getD es (x * 36 + 4) 0 ∷ getD es (x * 36 + 5) 0 ∷ rawEnds es xs
+
+-- a list has, for each number within the room, how often it is an end of the edges
+pub record Counted (es edges met : List ℕ) : Type 0 where
+  pub long : length met ≡ 512
+  pub times : (v : ℕ) → v < 512 → getD met v 0 ≡ occurrences v (rawEnds es edges)
 
 -- test 7, as the memory has it
 abbrev pub closedRaw : List ℕ → ℕ → List ℕ → Bool

@@ -9,8 +9,8 @@ use Rattle.rules.specs.Limits.{desk}
 use Rattle.rules.specs.Table.{ElementNumber, Element, Table}
 use Rattle.rules.specs.Held.{Holds, elementWords, fitting, Came}
 use Rattle.rules.specs.Cut.{addElement}
-use Rattle.space.specs.declared.rows.FoundElement.{FoundElement}
-use Rattle.space.specs.declared.rows.FoundElement.the-variants.{None as NoElement, At as AtElement}
+use Rattle.space.specs.declared.chains.FoundElement.{FoundElement}
+use Rattle.space.specs.declared.chains.FoundElement.the-variants.{None as NoElement, At as AtElement}
 use Rattle.space.specs.declared.rows.Placed.{Placed}
 use Rattle.space.specs.declared.rows.Placed.the-variants as placed
 

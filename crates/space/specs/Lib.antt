@@ -1,4 +1,5 @@
 -- What the contracts of this crate cite beside the rules.
+pub mod Chains
 pub mod Closed
 pub mod Found
 pub mod Restored

@@ -23,7 +23,8 @@ ghost use Rattle.rules.specs.Limits.{desk};
 ghost use Rattle.rules.specs.Table.{corner};
 ghost use Rattle.rules.specs.Table as table;
 ghost use Rattle.rules.specs.Held.{elementWords};
-ghost use Rattle.space.specs.Closed.{Low};
+ghost use Rattle.space.specs.Chains.{Indexed};
+ghost use Rattle.space.specs.Closed.{Low, LowEnds};
 ghost use Rattle.space.specs.Shared.{storedPoint, four, InRoom, VertexShared, VertexAdded, rowOf, five, HyperplaneShared, HyperplaneAdded, PolytopeAdded};
 
 // What adding a hyperplane gives.
@@ -73,16 +74,17 @@ fn share_vertex(
     counts: &mut [u16],
     points: &mut [f64],
     elements: &mut [u16],
+    index: &mut [u16],
     p: [f64; 4],
     m: FoundVertex,
 ) -> Placed
-    requires { ⌜ (length (now counts) ≡ 4) × (length (now points) ≡ 1024) × (length (now elements) ≡ 18432) × (getD (now counts) 1 0 ≤ 512) × InRoom m ⌝ }
-    ensures { λ r. ⌜ VertexShared (now (counts .entry)) (now (points .entry)) (now (elements .entry)) p m r (now (counts .exit)) (now (points .exit)) (now (elements .exit)) ⌝ }
+    requires { ⌜ (length (now counts) ≡ 4) × (length (now points) ≡ 1024) × (length (now elements) ≡ 18432) × (getD (now counts) 1 0 ≤ 512) × InRoom m × Indexed (now elements) (getD (now counts) 1 0) (now index) ⌝ }
+    ensures { λ r. ⌜ VertexShared (now (counts .entry)) (now (points .entry)) (now (elements .entry)) p m r (now (counts .exit)) (now (points .exit)) (now (elements .exit)) × Indexed (now (elements .exit)) (getD (now (counts .exit)) 1 0) (now (index .exit)) ⌝ }
 {
     match m {
         FoundVertex::At(v) => {
             let row = corner_row(v);
-            rows::add_row(counts, elements, &row)
+            rows::add_row(counts, elements, index, &row)
         }
         FoundVertex::None => {
             let n = wide(counts[2]);
@@ -92,7 +94,7 @@ fn share_vertex(
             put_point(points, n * AXES, p);
             counts[2] = (n + 1) as u16;
             let row = corner_row(VertexId(n));
-            rows::add_row(counts, elements, &row)
+            rows::add_row(counts, elements, index, &row)
         }
     }
 }
@@ -102,15 +104,16 @@ pub fn add_vertex(
     counts: &mut [u16],
     points: &mut [f64],
     elements: &mut [u16],
+    index: &mut [u16],
     p: [f64; 4],
 ) -> Placed
-    requires { ⌜ (length (now counts) ≡ 4) × (length (now points) ≡ 1024) × (length (now elements) ≡ 18432) × (getD (now counts) 1 0 ≤ 512) × (getD (now counts) 2 0 ≤ 256) ⌝ }
-    ensures { λ r. ⌜ VertexAdded (now (counts .entry)) (now (points .entry)) (now (elements .entry)) p r (now (counts .exit)) (now (points .exit)) (now (elements .exit)) ⌝ }
+    requires { ⌜ (length (now counts) ≡ 4) × (length (now points) ≡ 1024) × (length (now elements) ≡ 18432) × (getD (now counts) 1 0 ≤ 512) × (getD (now counts) 2 0 ≤ 256) × Indexed (now elements) (getD (now counts) 1 0) (now index) ⌝ }
+    ensures { λ r. ⌜ VertexAdded (now (counts .entry)) (now (points .entry)) (now (elements .entry)) p r (now (counts .exit)) (now (points .exit)) (now (elements .exit)) × Indexed (now (elements .exit)) (getD (now (counts .exit)) 1 0) (now (index .exit)) ⌝ }
 {
     let d = wide(counts[0]);
     let n = wide(counts[2]);
     let m = hypermath::find_vertex(d, points, n, p);
-    share_vertex(counts, points, elements, p, m)
+    share_vertex(counts, points, elements, index, p, m)
 }
 
 // How many hyperplanes are the cube's own.
@@ -188,14 +191,15 @@ pub fn add_hyperplane(counts: &mut [u16], planes: &mut [f64], h: Hyperplane) -> 
 pub fn add_polytope(
     counts: &mut [u16],
     elements: &mut [u16],
+    index: &mut [u16],
     rank: usize,
     list: &[u16; 33],
     n: usize,
     plane: u16,
     mark: bool,
 ) -> Added
-    requires { ⌜ (length (now counts) ≡ 4) × (length (now elements) ≡ 18432) × (getD (now counts) 1 0 ≤ 512) × (length (now list) ≡ 33) × (n ≤ 33) × (rank < 65536) × Low (now list) n ⌝ }
-    ensures { λ r. ⌜ PolytopeAdded (now (counts .entry)) (now (elements .entry)) rank (take n (now (list .entry))) plane mark r (now (counts .exit)) (now (elements .exit)) ⌝ }
+    requires { ⌜ (length (now counts) ≡ 4) × (length (now elements) ≡ 18432) × (getD (now counts) 1 0 ≤ 512) × (length (now list) ≡ 33) × (n ≤ 33) × (rank < 65536) × Low (now list) n × (rank ≡ 2 → LowEnds (now elements) (now list) n) × Indexed (now elements) (getD (now counts) 1 0) (now index) ⌝ }
+    ensures { λ r. ⌜ PolytopeAdded (now (counts .entry)) (now (elements .entry)) rank (take n (now (list .entry))) plane mark r (now (counts .exit)) (now (elements .exit)) × Indexed (now (elements .exit)) (getD (now (counts .exit)) 1 0) (now (index .exit)) ⌝ }
 {
     if n <= rank {
         return Added::Made(ElementOrNone::None);
@@ -203,11 +207,11 @@ pub fn add_polytope(
     if BOUNDARY < n {
         return Added::Refused(11);
     }
-    if !closed_at(elements, rank, list, n) {
+    if !closed_at(elements, rank, list, 0, n) {
         return Added::Refused(7);
     }
     let row = rows::polytope_row(rank, list, n, plane, mark);
-    let placed = rows::add_row(counts, elements, &row);
+    let placed = rows::add_row(counts, elements, index, &row);
     match placed {
         Placed::Refused(no) => Added::Refused(no),
         Placed::At(e) => Added::Made(ElementOrNone::Some(e)),

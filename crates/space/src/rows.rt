@@ -1,4 +1,8 @@
 // Rows of elements in the lent memory: read, searched, appended.
+use crate::chains::FoundElement;
+use crate::chains::find_row;
+use crate::chains::join;
+use crate::chains::key_of;
 use crate::words::ELEMENTS;
 use crate::words::WIDTH;
 use crate::words::wide;
@@ -8,19 +12,13 @@ ghost use mathlib.Core.Bool.{cond};
 ghost use mathlib.Core.Path.{_≡_};
 ghost use lib.Dec.{eqb};
 ghost use lib.Seq.{sets};
-ghost use lib.ListN.{length, getD, take, drop};
+ghost use lib.ListN.{length, getD, take, set};
 ghost use Rattle.rules.specs.Limits.{desk};
-ghost use Rattle.rules.specs.Lists.{alike, find, rows};
 ghost use Rattle.rules.specs.Table.{polytope};
 ghost use Rattle.rules.specs.Memory.{planeNamed};
 ghost use Rattle.rules.specs.Held.{elementWords};
-ghost use Rattle.space.specs.Found.{elementNumber, RowAdded};
-
-// The lowest element whose row is the given one, or none.
-pub enum FoundElement {
-    None,
-    At(ElementId),
-}
+ghost use Rattle.space.specs.Chains.{Indexed};
+ghost use Rattle.space.specs.Found.{RowAdded};
 
 // What adding an element gives.
 pub enum Placed {
@@ -70,31 +68,7 @@ pub fn boundary_at(elements: &[u16], e: ElementId, i: usize) -> u16
     elements[at + (4 + i)]
 }
 
-fn same_row(elements: &[u16], at: usize, row: &[u16; 36]) -> bool
-    requires { ⌜ (at + 36 ≤ length (now elements)) × (length (now row) ≡ 36) ⌝ }
-    ensures { λ r. ⌜ r ≡ alike eqb (now (row .entry)) (take 36 (drop at (now (elements .entry)))) ⌝ }
-{
-    for j in 0..WIDTH {
-        if row[j] != elements[at + j] {
-            return false;
-        }
-    }
-    true
-}
-
-fn find_row(elements: &[u16], n: usize, row: &[u16; 36]) -> FoundElement
-    requires { ⌜ (length (now elements) ≡ 18432) × (n ≤ 512) × (length (now row) ≡ 36) ⌝ }
-    ensures { λ r. ⌜ elementNumber r ≡ find (alike eqb (now (row .entry))) (rows n 36 (now (elements .entry))) ⌝ }
-{
-    for i in 0..n {
-        if same_row(elements, i * WIDTH, row) {
-            return FoundElement::At(ElementId(i));
-        }
-    }
-    FoundElement::None
-}
-
-pub fn put_row(elements: &mut [u16], at: usize, row: &[u16; 36])
+pub fn put_row(elements: &mut [u16], at: usize, row: &[u16])
     requires { ⌜ (at + 36 ≤ length (now elements)) × (length (now row) ≡ 36) ⌝ }
     ensures { λ r. ⌜ now (elements .exit) ≡ sets (now (elements .entry)) at (now (row .entry)) ⌝ }
 {
@@ -103,21 +77,31 @@ pub fn put_row(elements: &mut [u16], at: usize, row: &[u16; 36])
     }
 }
 
+// The row stored behind the last, and at the start of its chain.
+fn append_row(counts: &mut [u16], elements: &mut [u16], index: &mut [u16], row: &[u16], n: usize)
+    requires { ⌜ (length (now counts) ≡ 4) × (length (now elements) ≡ 18432) × (n < 512) × (length (now row) ≡ 36) × Indexed (now elements) n (now index) ⌝ }
+    ensures { λ r. ⌜ (now (counts .exit) ≡ set (now (counts .entry)) 1 (n + 1)) × (now (elements .exit) ≡ sets (now (elements .entry)) (n * 36) (now (row .entry))) × Indexed (now (elements .exit)) (n + 1) (now (index .exit)) ⌝ }
+{
+    let key = key_of(row, 0);
+    put_row(elements, n * WIDTH, row);
+    join(index, key, n);
+    counts[1] = (n + 1) as u16;
+}
+
 // The element of an equal row, which is there already; or the row appended (9).
-pub fn add_row(counts: &mut [u16], elements: &mut [u16], row: &[u16; 36]) -> Placed
-    requires { ⌜ (length (now counts) ≡ 4) × (length (now elements) ≡ 18432) × (getD (now counts) 1 0 ≤ 512) × (length (now row) ≡ 36) ⌝ }
-    ensures { λ r. ⌜ RowAdded (now (counts .entry)) (now (elements .entry)) (now (row .entry)) r (now (counts .exit)) (now (elements .exit)) ⌝ }
+pub fn add_row(counts: &mut [u16], elements: &mut [u16], index: &mut [u16], row: &[u16]) -> Placed
+    requires { ⌜ (length (now counts) ≡ 4) × (length (now elements) ≡ 18432) × (getD (now counts) 1 0 ≤ 512) × (length (now row) ≡ 36) × Indexed (now elements) (getD (now counts) 1 0) (now index) ⌝ }
+    ensures { λ r. ⌜ RowAdded (now (counts .entry)) (now (elements .entry)) (now (row .entry)) r (now (counts .exit)) (now (elements .exit)) × Indexed (now (elements .exit)) (getD (now (counts .exit)) 1 0) (now (index .exit)) ⌝ }
 {
     let n = wide(counts[1]);
-    let found = find_row(elements, n, row);
+    let found = find_row(elements, n, row, 0, index);
     match found {
         FoundElement::At(i) => Placed::At(i),
         FoundElement::None => {
             if ELEMENTS <= n {
                 return Placed::Refused(9);
             }
-            put_row(elements, n * WIDTH, row);
-            counts[1] = (n + 1) as u16;
+            append_row(counts, elements, index, row, n);
             Placed::At(ElementId(n))
         }
     }

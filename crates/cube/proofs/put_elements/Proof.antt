@@ -1,12 +1,12 @@
 -- The invariant: the rows of the elements so far, and how many of those are corners and facets.
-use mathlib.Core.Path.{_≡_, refl, ap, _∙_}
 use Prim.Native.Nat.{_≤_, _<_, _-_, _^_}
+use mathlib.Core.Path.{_≡_, refl, ap, _∙_}
 use native.Mathlib.Omega.{arith}
 use lib.ListN.{length}
 use Rattle.rules.specs.Cube.{isVertex, isFacet, chosen}
+use borrow.Author.Needs.{needs}
 use Rattle.cube.specs.Cubes.{cubeElements}
 use Rattle.cube.proofs.CubeEntries.{elements-next, chosen-counted, chosen-few}
-use borrow.Author.Needs.{needs}
 use Rattle.cube.proofs.put_elements.Statement.{statement}
 use Rattle.cube.proofs.put_elements.Tie as tie
 
@@ -31,6 +31,9 @@ cast-put-row c = search needs
 
 mul-put-row : tie.Need-mul-put-row Inv-loop μ-loop
 mul-put-row c = search needs
+
+slice-aggregate-put-row : tie.Need-slice-aggregate-put-row Inv-loop μ-loop
+slice-aggregate-put-row c = search needs
 
 put-row-requires : tie.Need-put-row-requires Inv-loop μ-loop
 put-row-requires c κs = ((let z = c .before .before .before .before .loop .inv .4 in omega (arith, z)), search needs)
@@ -98,6 +101,7 @@ put-elements-spec =
     cube-row-requires
     cast-put-row
     mul-put-row
+    slice-aggregate-put-row
     put-row-requires
     is-corner-requires
     one-more-if-requires

@@ -1,58 +1,22 @@
 -- 3, 4, 5, rule 1 and the rules from 2 on: each way the code goes is a case of the reply. `four`: a normal by value has four components.
-use mathlib.Core.Path.{sym, _∙_}
 use mathlib.Core.Bool.{true}
+use mathlib.Core.Path.{refl, sym, _∙_}
+use native.Mathlib.Nat.{le-trans}
 use native.Mathlib.Omega.{arith}
-use lib.ListN.{length-map}
-use borrow.Author.Tests.{not-true, not-false}
+use lib.ListN.{length-map, replicate, getD-replicate}
+use lib.Dec.{lit≤}
+use Rattle.space.proofs.Indexing.{index-none}
 use Rattle.cut.proofs.Replies.{unsound, counts-four, unused, not-unit, cut-ready, unfit, all-inside, all-outside, replied-as}
+use borrow.Author.Tests.{not-true, not-false}
 use borrow.Author.Needs.{needs}
 use Rattle.cut.proofs.cut.Statement.{statement}
 use Rattle.cut.proofs.cut.Tie as tie
 
-returns : tie.Need-returns
-returns c =
-    let at = c .before .before .before .before .before .before .before .before .before .before in
-    let four = sym (length-map (at .args .divider .normal) _) ∙ at .good .1 .1 .1 .1 .0 .1 .1 .0 .1 .0 .1 in
-    unsound (at .args .divider) _ _ _ _ _ _ _ four (sym (c .before .memory-sound .ensures) ∙ not-true _ (c .if1 .taken))
+slice-aggregate-memory-indexed : tie.Need-slice-aggregate-memory-indexed
+slice-aggregate-memory-indexed c = search needs
 
-returns-2 : tie.Need-returns-2
-returns-2 c =
-    let at = c .before .before .before .before .before .before .before .before .before .before .before .before .before .before in
-    let four = sym (length-map (at .args .divider .normal) _) ∙ at .good .1 .1 .1 .1 .0 .1 .1 .0 .1 .0 .1 in
-    unused (at .args .divider) _ _ _ _ _ _ _ four (sym (c .before .before .before .before .before .memory-sound .ensures) ∙ not-false _ (c .before .before .before .before .if1 .left)) _ (c .before .before .wide .ensures .0) (c .if2 .taken)
-
-returns-3 : tie.Need-returns-3
-returns-3 c =
-    let at = c .before .before .before .before .before .before .before .before .before .before .before .before .before .before .before .before .before .before .before in
-    let four = sym (length-map (at .args .divider .normal) _) ∙ at .good .1 .1 .1 .1 .0 .1 .1 .0 .1 .0 .1 in
-    not-unit (at .args .divider) _ _ _ _ _ _ _ four (sym (c .before .before .before .before .before .before .before .before .before .before .memory-sound .ensures) ∙ not-false _ (c .before .before .before .before .before .before .before .before .before .if1 .left)) _ (c .before .before .before .before .before .before .before .wide .ensures .0) (c .before .before .before .before .before .if2 .left) _ (c .before .before .wide2 .ensures .0) (sym (c .before .is-unit .ensures) ∙ not-true _ (c .if3 .taken))
-
-returns-4 : tie.Need-returns-4
-returns-4 c =
-    let at = c .before .before .before .before .before .before .before .before .before .before .before .before .before .before .before .before .before .before .before .before .before .before in
-    let four = sym (length-map (at .args .divider .normal) _) ∙ at .good .1 .1 .1 .1 .0 .1 .1 .0 .1 .0 .1 in
-    unfit (at .args .divider) _ _ _ _ _ _ _ four (sym (c .before .before .before .before .before .before .before .before .before .before .before .before .before .memory-sound .ensures) ∙ not-false _ (c .before .before .before .before .before .before .before .before .before .before .before .before .if1 .left)) _ (c .before .before .before .before .before .before .before .before .before .before .wide .ensures .0) (c .before .before .before .before .before .before .before .before .if2 .left) _ (c .before .before .before .before .before .wide2 .ensures .0) (sym (c .before .before .before .before .is-unit .ensures) ∙ not-false _ (c .before .before .before .if3 .left)) (sym (c .before .before .distance-kind .ensures) ∙ c .enum-told .given .1)
-
-returns-5 : tie.Need-returns-5
-returns-5 c =
-    let at = c .before .before .before .before .before .before .before .before .before .before .before .before .before .before .before .before .before .before .before .before .before .before in
-    let four = sym (length-map (at .args .divider .normal) _) ∙ at .good .1 .1 .1 .1 .0 .1 .1 .0 .1 .0 .1 in
-    all-inside (at .args .divider) _ _ _ _ _ _ _ four (sym (c .before .before .before .before .before .before .before .before .before .before .before .before .before .memory-sound .ensures) ∙ not-false _ (c .before .before .before .before .before .before .before .before .before .before .before .before .if1 .left)) _ (c .before .before .before .before .before .before .before .before .before .before .wide .ensures .0) (c .before .before .before .before .before .before .before .before .if2 .left) _ (c .before .before .before .before .before .wide2 .ensures .0) (sym (c .before .before .before .before .is-unit .ensures) ∙ not-false _ (c .before .before .before .if3 .left)) (sym (c .before .before .distance-kind .ensures) ∙ c .enum-told2 .given .1)
-
-returns-6 : tie.Need-returns-6
-returns-6 c =
-    let at = c .before .before .before .before .before .before .before .before .before .before .before .before .before .before .before .before .before .before .before .before .before .before in
-    let four = sym (length-map (at .args .divider .normal) _) ∙ at .good .1 .1 .1 .1 .0 .1 .1 .0 .1 .0 .1 in
-    all-outside (at .args .divider) _ _ _ _ _ _ _ four (sym (c .before .before .before .before .before .before .before .before .before .before .before .before .before .memory-sound .ensures) ∙ not-false _ (c .before .before .before .before .before .before .before .before .before .before .before .before .if1 .left)) _ (c .before .before .before .before .before .before .before .before .before .before .wide .ensures .0) (c .before .before .before .before .before .before .before .before .if2 .left) _ (c .before .before .before .before .before .wide2 .ensures .0) (sym (c .before .before .before .before .is-unit .ensures) ∙ not-false _ (c .before .before .before .if3 .left)) (sym (c .before .before .distance-kind .ensures) ∙ c .enum-told3 .given .1)
-
-returns-7 : tie.Need-returns-7
-returns-7 c =
-    let at = c .before .before .before .before .before .before .before .before .before .before .before .before .before .before .before .before .before .before .before .before .before .before .before .before .before .before .before .before .before .before .before .before .before .before .before .before .before in
-    let four = sym (length-map (at .args .divider .normal) _) ∙ at .good .1 .1 .1 .1 .0 .1 .1 .0 .1 .0 .1 in
-    replied-as (at .args .divider) _ _ _ _ _ _ _ four (sym (c .before .before .before .before .before .before .before .before .before .before .before .before .before .before .before .before .before .before .before .before .before .before .before .before .before .before .before .before .memory-sound .ensures) ∙ not-false _ (c .before .before .before .before .before .before .before .before .before .before .before .before .before .before .before .before .before .before .before .before .before .before .before .before .before .before .before .if1 .left)) _ (c .before .before .before .before .before .before .before .before .before .before .before .before .before .before .before .before .before .before .before .before .before .before .before .before .before .wide .ensures .0) (c .before .before .before .before .before .before .before .before .before .before .before .before .before .before .before .before .before .before .before .before .before .before .before .if2 .left) _ (c .before .before .before .before .before .before .before .before .before .before .before .before .before .before .before .before .before .before .before .before .wide2 .ensures .0) (sym (c .before .before .before .before .before .before .before .before .before .before .before .before .before .before .before .before .before .before .before .is-unit .ensures) ∙ not-false _ (c .before .before .before .before .before .before .before .before .before .before .before .before .before .before .before .before .before .before .if3 .left)) (sym (c .before .before .before .before .before .before .before .before .before .before .before .before .before .before .before .before .before .distance-kind .ensures) ∙ c .before .before .before .before .before .before .before .before .before .before .before .before .before .before .before .enum-told4 .given .1) (c .before .before .before .before .before .before .before .before .before .before .before .before .before .before .is-kept .ensures) (c .before .before .before .before .before .before .before .before .before .before .before .before .before .is-kept2 .ensures) (c .before .before .before .before .before .before .before .before .cut-finite .ensures)
-
-memory-sound-requires : tie.Need-memory-sound-requires
-memory-sound-requires c κs = search needs
+memory-indexed-requires : tie.Need-memory-indexed-requires
+memory-indexed-requires c κs = index-none _ (replicate 1024 0) refl (λ k h. getD-replicate 1024 k 0 0 (le-trans h (lit≤ tt)))
 
 same-length : tie.Need-same-length
 same-length c = search needs
@@ -66,11 +30,15 @@ same-length-3 c = search needs
 same-length-4 : tie.Need-same-length-4
 same-length-4 c = search needs
 
+returns : tie.Need-returns
+returns c =
+    let four = sym (length-map (c .before .before .before .before .before .before .before .before .before .before .before .before .args .divider .normal) _) ∙ c .before .before .before .before .before .before .before .before .before .before .before .before .good .1 .1 .1 .1 .0 .1 .1 .0 .1 .0 .1 in
+    unsound (c .before .before .before .before .before .before .before .before .before .before .before .before .args .divider) _ _ _ _ _ _ _ four (sym (c .before .before .memory-indexed .ensures .0) ∙ not-true _ (c .if1 .taken))
+
 slice-read-wide : tie.Need-slice-read-wide
 slice-read-wide c =
-    let at = c .before .before .before .before .before .before .before .before .before .before .before in
-    let four = sym (length-map (at .args .divider .normal) _) ∙ at .good .1 .1 .1 .1 .0 .1 .1 .0 .1 .0 .1 in
-    omega (arith, counts-four (at .args .divider) true true 0 _ _ _ _ four (sym (c .before .before .memory-sound .ensures) ∙ not-false _ (c .before .if1 .left)))
+    let four = sym (length-map (c .before .before .before .before .before .before .before .before .before .before .before .before .before .args .divider .normal) _) ∙ c .before .before .before .before .before .before .before .before .before .before .before .before .before .good .1 .1 .1 .1 .0 .1 .1 .0 .1 .0 .1 in
+    omega (arith, counts-four (c .before .before .before .before .before .before .before .before .before .before .before .before .before .args .divider) true true 0 _ _ _ _ four (sym (c .before .before .before .memory-indexed .ensures .0) ∙ not-false _ (c .before .if1 .left)))
 
 wide-requires : tie.Need-wide-requires
 wide-requires c κs = search needs
@@ -87,11 +55,15 @@ same-length-7 c = search needs
 same-length-8 : tie.Need-same-length-8
 same-length-8 c = search needs
 
+returns-2 : tie.Need-returns-2
+returns-2 c =
+    let four = sym (length-map (c .before .before .before .before .before .before .before .before .before .before .before .before .before .before .before .before .args .divider .normal) _) ∙ c .before .before .before .before .before .before .before .before .before .before .before .before .before .before .before .before .good .1 .1 .1 .1 .0 .1 .1 .0 .1 .0 .1 in
+    unused (c .before .before .before .before .before .before .before .before .before .before .before .before .before .before .before .before .args .divider) _ _ _ _ _ _ _ four (sym (c .before .before .before .before .before .before .memory-indexed .ensures .0) ∙ not-false _ (c .before .before .before .before .if1 .left)) _ (c .before .before .wide .ensures .0) (c .if2 .taken)
+
 slice-read-wide-2 : tie.Need-slice-read-wide-2
 slice-read-wide-2 c =
-    let at = c .before .before .before .before .before .before .before .before .before .before .before .before .before .before .before .before in
-    let four = sym (length-map (at .args .divider .normal) _) ∙ at .good .1 .1 .1 .1 .0 .1 .1 .0 .1 .0 .1 in
-    omega (arith, counts-four (at .args .divider) true true 0 _ _ _ _ four (sym (c .before .before .before .before .before .before .before .memory-sound .ensures) ∙ not-false _ (c .before .before .before .before .before .before .if1 .left)))
+    let four = sym (length-map (c .before .before .before .before .before .before .before .before .before .before .before .before .before .before .before .before .before .before .args .divider .normal) _) ∙ c .before .before .before .before .before .before .before .before .before .before .before .before .before .before .before .before .before .before .good .1 .1 .1 .1 .0 .1 .1 .0 .1 .0 .1 in
+    omega (arith, counts-four (c .before .before .before .before .before .before .before .before .before .before .before .before .before .before .before .before .before .before .args .divider) true true 0 _ _ _ _ four (sym (c .before .before .before .before .before .before .before .before .memory-indexed .ensures .0) ∙ not-false _ (c .before .before .before .before .before .before .if1 .left)))
 
 wide-requires-2 : tie.Need-wide-requires-2
 wide-requires-2 c κs = search needs
@@ -110,6 +82,11 @@ same-length-11 c = search needs
 
 same-length-12 : tie.Need-same-length-12
 same-length-12 c = search needs
+
+returns-3 : tie.Need-returns-3
+returns-3 c =
+    let four = sym (length-map (c .before .before .before .before .before .before .before .before .before .before .before .before .before .before .before .before .before .before .before .before .before .args .divider .normal) _) ∙ c .before .before .before .before .before .before .before .before .before .before .before .before .before .before .before .before .before .before .before .before .before .good .1 .1 .1 .1 .0 .1 .1 .0 .1 .0 .1 in
+    not-unit (c .before .before .before .before .before .before .before .before .before .before .before .before .before .before .before .before .before .before .before .before .before .args .divider) _ _ _ _ _ _ _ four (sym (c .before .before .before .before .before .before .before .before .before .before .before .memory-indexed .ensures .0) ∙ not-false _ (c .before .before .before .before .before .before .before .before .before .if1 .left)) _ (c .before .before .before .before .before .before .before .wide .ensures .0) (c .before .before .before .before .before .if2 .left) _ (c .before .before .wide2 .ensures .0) (sym (c .before .is-unit .ensures) ∙ not-true _ (c .if3 .taken))
 
 distance-kind-requires : tie.Need-distance-kind-requires
 distance-kind-requires c κs = search needs
@@ -132,11 +109,13 @@ is-kept-requires c κs = search needs
 is-kept-requires-2 : tie.Need-is-kept-requires-2
 is-kept-requires-2 c κs = search needs
 
+slice-aggregate-cut-finite : tie.Need-slice-aggregate-cut-finite
+slice-aggregate-cut-finite c = search needs
+
 cut-finite-requires : tie.Need-cut-finite-requires
 cut-finite-requires c κs =
-    let at = c .before .before .before .before .before .before .before .before .before .before .before .before .before .before .before .before .before .before .before .before .before .before .before .before .before .before .before .before in
-    let four = sym (length-map (at .args .divider .normal) _) ∙ at .good .1 .1 .1 .1 .0 .1 .1 .0 .1 .0 .1 in
-    cut-ready (at .args .divider) true true _ _ _ _ _ four (sym (c .before .before .before .before .before .before .before .before .before .before .before .before .before .before .before .before .before .before .before .memory-sound .ensures) ∙ not-false _ (c .before .before .before .before .before .before .before .before .before .before .before .before .before .before .before .before .before .before .if1 .left)) _ (c .before .before .before .before .before .before .before .before .before .before .before .before .before .before .before .before .wide .ensures .0) (c .before .before .before .before .before .before .before .before .before .before .before .before .before .before .if2 .left) _ (c .before .before .before .before .before .before .before .before .before .before .before .wide2 .ensures .0) (sym (c .before .before .before .before .before .before .before .before .before .before .is-unit .ensures) ∙ not-false _ (c .before .before .before .before .before .before .before .before .before .if3 .left)) (sym (c .before .before .before .before .before .before .before .before .distance-kind .ensures) ∙ c .before .before .before .before .before .before .enum-told4 .given .1)
+    let four = sym (length-map (c .before .before .before .before .before .before .before .before .before .before .before .before .before .before .before .before .before .before .before .before .before .before .before .before .before .before .before .before .before .before .before .args .divider .normal) _) ∙ c .before .before .before .before .before .before .before .before .before .before .before .before .before .before .before .before .before .before .before .before .before .before .before .before .before .before .before .before .before .before .before .good .1 .1 .1 .1 .0 .1 .1 .0 .1 .0 .1 in
+    (cut-ready (c .before .before .before .before .before .before .before .before .before .before .before .before .before .before .before .before .before .before .before .before .before .before .before .before .before .before .before .before .before .before .before .args .divider) true true _ _ _ _ _ four (sym (c .before .before .before .before .before .before .before .before .before .before .before .before .before .before .before .before .before .before .before .before .before .memory-indexed .ensures .0) ∙ not-false _ (c .before .before .before .before .before .before .before .before .before .before .before .before .before .before .before .before .before .before .before .if1 .left)) _ (c .before .before .before .before .before .before .before .before .before .before .before .before .before .before .before .before .before .wide .ensures .0) (c .before .before .before .before .before .before .before .before .before .before .before .before .before .before .before .if2 .left) _ (c .before .before .before .before .before .before .before .before .before .before .before .before .wide2 .ensures .0) (sym (c .before .before .before .before .before .before .before .before .before .before .before .is-unit .ensures) ∙ not-false _ (c .before .before .before .before .before .before .before .before .before .before .if3 .left)) (sym (c .before .before .before .before .before .before .before .before .before .distance-kind .ensures) ∙ c .before .before .before .before .before .before .before .enum-told4 .given .1), c .before .before .before .before .before .before .before .before .before .before .before .before .before .before .before .before .before .before .before .before .before .memory-indexed .ensures .1 (not-false _ (c .before .before .before .before .before .before .before .before .before .before .before .before .before .before .before .before .before .before .before .if1 .left)))
 
 same-length-13 : tie.Need-same-length-13
 same-length-13 c = search needs
@@ -150,6 +129,11 @@ same-length-15 c = search needs
 same-length-16 : tie.Need-same-length-16
 same-length-16 c = search needs
 
+returns-4 : tie.Need-returns-4
+returns-4 c =
+    let four = sym (length-map (c .before .before .before .before .before .before .before .before .before .before .before .before .before .before .before .before .before .before .before .before .before .before .before .before .args .divider .normal) _) ∙ c .before .before .before .before .before .before .before .before .before .before .before .before .before .before .before .before .before .before .before .before .before .before .before .before .good .1 .1 .1 .1 .0 .1 .1 .0 .1 .0 .1 in
+    unfit (c .before .before .before .before .before .before .before .before .before .before .before .before .before .before .before .before .before .before .before .before .before .before .before .before .args .divider) _ _ _ _ _ _ _ four (sym (c .before .before .before .before .before .before .before .before .before .before .before .before .before .before .memory-indexed .ensures .0) ∙ not-false _ (c .before .before .before .before .before .before .before .before .before .before .before .before .if1 .left)) _ (c .before .before .before .before .before .before .before .before .before .before .wide .ensures .0) (c .before .before .before .before .before .before .before .before .if2 .left) _ (c .before .before .before .before .before .wide2 .ensures .0) (sym (c .before .before .before .before .is-unit .ensures) ∙ not-false _ (c .before .before .before .if3 .left)) (sym (c .before .before .distance-kind .ensures) ∙ c .enum-told .given .1)
+
 same-length-17 : tie.Need-same-length-17
 same-length-17 c = search needs
 
@@ -161,6 +145,11 @@ same-length-19 c = search needs
 
 same-length-20 : tie.Need-same-length-20
 same-length-20 c = search needs
+
+returns-5 : tie.Need-returns-5
+returns-5 c =
+    let four = sym (length-map (c .before .before .before .before .before .before .before .before .before .before .before .before .before .before .before .before .before .before .before .before .before .before .before .before .args .divider .normal) _) ∙ c .before .before .before .before .before .before .before .before .before .before .before .before .before .before .before .before .before .before .before .before .before .before .before .before .good .1 .1 .1 .1 .0 .1 .1 .0 .1 .0 .1 in
+    all-inside (c .before .before .before .before .before .before .before .before .before .before .before .before .before .before .before .before .before .before .before .before .before .before .before .before .args .divider) _ _ _ _ _ _ _ four (sym (c .before .before .before .before .before .before .before .before .before .before .before .before .before .before .memory-indexed .ensures .0) ∙ not-false _ (c .before .before .before .before .before .before .before .before .before .before .before .before .if1 .left)) _ (c .before .before .before .before .before .before .before .before .before .before .wide .ensures .0) (c .before .before .before .before .before .before .before .before .if2 .left) _ (c .before .before .before .before .before .wide2 .ensures .0) (sym (c .before .before .before .before .is-unit .ensures) ∙ not-false _ (c .before .before .before .if3 .left)) (sym (c .before .before .distance-kind .ensures) ∙ c .enum-told2 .given .1)
 
 same-length-21 : tie.Need-same-length-21
 same-length-21 c = search needs
@@ -174,6 +163,11 @@ same-length-23 c = search needs
 same-length-24 : tie.Need-same-length-24
 same-length-24 c = search needs
 
+returns-6 : tie.Need-returns-6
+returns-6 c =
+    let four = sym (length-map (c .before .before .before .before .before .before .before .before .before .before .before .before .before .before .before .before .before .before .before .before .before .before .before .before .args .divider .normal) _) ∙ c .before .before .before .before .before .before .before .before .before .before .before .before .before .before .before .before .before .before .before .before .before .before .before .before .good .1 .1 .1 .1 .0 .1 .1 .0 .1 .0 .1 in
+    all-outside (c .before .before .before .before .before .before .before .before .before .before .before .before .before .before .before .before .before .before .before .before .before .before .before .before .args .divider) _ _ _ _ _ _ _ four (sym (c .before .before .before .before .before .before .before .before .before .before .before .before .before .before .memory-indexed .ensures .0) ∙ not-false _ (c .before .before .before .before .before .before .before .before .before .before .before .before .if1 .left)) _ (c .before .before .before .before .before .before .before .before .before .before .wide .ensures .0) (c .before .before .before .before .before .before .before .before .if2 .left) _ (c .before .before .before .before .before .wide2 .ensures .0) (sym (c .before .before .before .before .is-unit .ensures) ∙ not-false _ (c .before .before .before .if3 .left)) (sym (c .before .before .distance-kind .ensures) ∙ c .enum-told3 .given .1)
+
 same-length-25 : tie.Need-same-length-25
 same-length-25 c = search needs
 
@@ -186,11 +180,17 @@ same-length-27 c = search needs
 same-length-28 : tie.Need-same-length-28
 same-length-28 c = search needs
 
+returns-7 : tie.Need-returns-7
+returns-7 c =
+    let four = sym (length-map (c .before .before .before .before .before .before .before .before .before .before .before .before .before .before .before .before .before .before .before .before .before .before .before .before .before .before .before .before .before .before .before .before .before .before .before .before .before .before .before .before .before .args .divider .normal) _) ∙ c .before .before .before .before .before .before .before .before .before .before .before .before .before .before .before .before .before .before .before .before .before .before .before .before .before .before .before .before .before .before .before .before .before .before .before .before .before .before .before .before .before .good .1 .1 .1 .1 .0 .1 .1 .0 .1 .0 .1 in
+    replied-as (c .before .before .before .before .before .before .before .before .before .before .before .before .before .before .before .before .before .before .before .before .before .before .before .before .before .before .before .before .before .before .before .before .before .before .before .before .before .before .before .before .before .args .divider) _ _ _ _ _ _ _ four (sym (c .before .before .before .before .before .before .before .before .before .before .before .before .before .before .before .before .before .before .before .before .before .before .before .before .before .before .before .before .before .before .before .memory-indexed .ensures .0) ∙ not-false _ (c .before .before .before .before .before .before .before .before .before .before .before .before .before .before .before .before .before .before .before .before .before .before .before .before .before .before .before .before .before .if1 .left)) _ (c .before .before .before .before .before .before .before .before .before .before .before .before .before .before .before .before .before .before .before .before .before .before .before .before .before .before .before .wide .ensures .0) (c .before .before .before .before .before .before .before .before .before .before .before .before .before .before .before .before .before .before .before .before .before .before .before .before .before .if2 .left) _ (c .before .before .before .before .before .before .before .before .before .before .before .before .before .before .before .before .before .before .before .before .before .before .wide2 .ensures .0) (sym (c .before .before .before .before .before .before .before .before .before .before .before .before .before .before .before .before .before .before .before .before .before .is-unit .ensures) ∙ not-false _ (c .before .before .before .before .before .before .before .before .before .before .before .before .before .before .before .before .before .before .before .before .if3 .left)) (sym (c .before .before .before .before .before .before .before .before .before .before .before .before .before .before .before .before .before .before .before .distance-kind .ensures) ∙ c .before .before .before .before .before .before .before .before .before .before .before .before .before .before .before .before .before .enum-told4 .given .1) (c .before .before .before .before .before .before .before .before .before .before .before .before .before .before .before .before .is-kept .ensures) (c .before .before .before .before .before .before .before .before .before .before .before .before .before .before .before .is-kept2 .ensures) (c .before .before .before .before .before .before .before .before .before .cut-finite .ensures)
+
 pub cut-spec : {M : Type 1} → statement M
 cut-spec =
     tie.close
     (tie.spec
-    memory-sound-requires
+    slice-aggregate-memory-indexed
+    memory-indexed-requires
     same-length
     same-length-2
     same-length-3
@@ -218,6 +218,7 @@ cut-spec =
     enum-told-4
     is-kept-requires
     is-kept-requires-2
+    slice-aggregate-cut-finite
     cut-finite-requires
     same-length-13
     same-length-14

@@ -5,7 +5,9 @@ use Rattle.ends.proofs.cut_crossed.Statement.{statement}
 use Rattle.ends.proofs.cut_crossed.Tie as tie
 
 add-vertex-requires : tie.Need-add-vertex-requires
-add-vertex-requires c κs = vertex-asked (c .before .before .before .before .before .before .pre)
+add-vertex-requires c κs =
+    let asked = vertex-asked (c .before .before .before .before .before .before .before .before .pre .0) in
+    (asked .0, asked .1, asked .2, asked .3, asked .4, c .before .before .before .before .before .before .before .before .pre .1)
 
 enum-known-placed : tie.Need-enum-known-placed
 enum-known-placed c = search needs
@@ -17,10 +19,7 @@ crossed-at-requires : tie.Need-crossed-at-requires
 crossed-at-requires c κs = search needs
 
 rule6-requires : tie.Need-rule6-requires
-rule6-requires c κs =
-    let made = c .before .before in
-    let added = made .before .before .before .before .before .before .before .before .before .before in
-    crossed-ready (added .add-vertex .ensures) _ (made .before .before .placed2 .given .1) (made .crossed-at .ensures) (added .before .before .before .before .before .before .before .pre)
+rule6-requires c κs = (crossed-ready (c .before .before .before .before .before .before .before .before .before .before .before .before .before .before .before .add-vertex .ensures .0) _ (c .before .before .before .before .before .placed2 .given .1) (c .before .before .before .crossed-at .ensures) (c .before .before .before .before .before .before .before .before .before .before .before .before .before .before .before .before .before .before .before .before .before .before .before .before .pre .0), c .before .before .before .before .before .before .before .before .before .before .before .before .before .before .before .add-vertex .ensures .1)
 
 same-length : tie.Need-same-length
 same-length c = search needs
@@ -31,11 +30,11 @@ same-length-2 c = search needs
 same-length-3 : tie.Need-same-length-3
 same-length-3 c = search needs
 
-returns : tie.Need-returns
-returns c = crossed-refused (c .before .before .before .before .before .before .before .before .before .add-vertex .ensures) _ (c .before .placed .given .1)
-
 same-length-4 : tie.Need-same-length-4
 same-length-4 c = search needs
+
+returns : tie.Need-returns
+returns c = (crossed-refused (c .before .before .before .before .before .before .before .before .before .before .before .add-vertex .ensures .0) _ (c .before .placed .given .1), c .before .before .before .before .before .before .before .before .before .before .before .add-vertex .ensures .1)
 
 same-length-5 : tie.Need-same-length-5
 same-length-5 c = search needs
@@ -43,12 +42,14 @@ same-length-5 c = search needs
 same-length-6 : tie.Need-same-length-6
 same-length-6 c = search needs
 
+same-length-7 : tie.Need-same-length-7
+same-length-7 c = search needs
+
+same-length-8 : tie.Need-same-length-8
+same-length-8 c = search needs
+
 returns-2 : tie.Need-returns-2
-returns-2 c =
-    let called = c .before .before .before .before in
-    let made = called .before .before .before in
-    let added = made .before .before .before .before .before .before .before .before .before .before in
-    crossed-done (added .add-vertex .ensures) _ (made .before .before .placed2 .given .1) (made .crossed-at .ensures) (called .rule6 .ensures)
+returns-2 c = (crossed-done (c .before .before .before .before .before .before .before .before .before .before .before .before .before .before .before .before .before .before .before .before .before .before .add-vertex .ensures .0) _ (c .before .before .before .before .before .before .before .before .before .before .before .before .placed2 .given .1) (c .before .before .before .before .before .before .before .before .before .before .crossed-at .ensures) (c .before .before .before .before .before .before .rule6 .ensures .0), c .before .before .before .before .before .before .rule6 .ensures .1)
 
 pub cut-crossed-spec : {M : Type 1} → statement M
 cut-crossed-spec =
@@ -62,8 +63,10 @@ cut-crossed-spec =
     same-length
     same-length-2
     same-length-3
-    returns
     same-length-4
+    returns
     same-length-5
     same-length-6
+    same-length-7
+    same-length-8
     returns-2)

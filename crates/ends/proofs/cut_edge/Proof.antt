@@ -1,22 +1,22 @@
 -- Two ways, by the edge test: rule 6 on what the ends answered, or the crossing first.
 use native.Mathlib.Omega.{arith}
+use Rattle.space.proofs.Slices.{slices}
 use Rattle.ends.proofs.Edges.{ends-ready, ends-low, missed-ready, missed-cut, crossing-ready, crossing-cut}
 use borrow.Author.Needs.{needs}
 use Rattle.ends.proofs.cut_edge.Statement.{statement}
 use Rattle.ends.proofs.cut_edge.Tie as tie
-use Rattle.space.proofs.Slices.{slices}
 
 slice-read-wide : tie.Need-slice-read-wide
-slice-read-wide c = omega (arith, slices (c .before .before .before .before .pre .fit .holds) .counts)
+slice-read-wide c = omega (arith, slices (c .before .before .before .before .before .pre .0 .fit .holds) .counts)
 
 wide-requires : tie.Need-wide-requires
 wide-requires c κs = search needs
 
 read-ends-requires : tie.Need-read-ends-requires
-read-ends-requires c κs = ends-ready (c .before .before .before .before .before .before .before .pre)
+read-ends-requires c κs = ends-ready (c .before .before .before .before .before .before .before .before .pre .0)
 
 both-ends-requires : tie.Need-both-ends-requires
-both-ends-requires c κs = ends-low (ends-ready (c .before .before .before .before .before .before .before .before .before .pre)) (c .before .read-ends .ensures)
+both-ends-requires c κs = ends-low (ends-ready (c .before .before .before .before .before .before .before .before .before .before .pre .0)) (c .before .read-ends .ensures)
 
 edge-test-requires : tie.Need-edge-test-requires
 edge-test-requires c κs = search needs
@@ -25,10 +25,7 @@ enum-told : tie.Need-enum-told
 enum-told c = search needs
 
 rule6-requires : tie.Need-rule6-requires
-rule6-requires c κs =
-    let answered = c .before .before .before .before .before .before .before in
-    let read = answered .before .before in
-    missed-ready _ _ _ (read .before .before .before .wide .ensures .0) (read .read-ends .ensures) (answered .both-ends .ensures) (read .before .before .before .before .before .before .before .before .pre)
+rule6-requires c κs = (missed-ready _ _ _ (c .before .before .before .before .before .before .before .before .before .before .before .before .before .wide .ensures .0) (c .before .before .before .before .before .before .before .before .before .before .read-ends .ensures) (c .before .before .before .before .before .before .before .before .both-ends .ensures) (c .before .before .before .before .before .before .before .before .before .before .before .before .before .before .before .before .before .before .before .pre .0), c .before .before .before .before .before .before .before .before .before .before .before .before .before .before .before .before .before .before .before .pre .1)
 
 enum-known-crossing : tie.Need-enum-known-crossing
 enum-known-crossing c = search needs
@@ -37,11 +34,11 @@ crossing-point-requires : tie.Need-crossing-point-requires
 crossing-point-requires c κs = search needs
 
 cut-crossed-requires : tie.Need-cut-crossed-requires
-cut-crossed-requires c κs =
-    let answered = c .before .before .before .before .before .before .before .before .before .before in
-    let read = answered .before .before in
-    crossing-ready _ _ _ (read .before .before .before .wide .ensures .0) (read .read-ends .ensures) (answered .both-ends .ensures) _ _ (c .before .before .before .crossing-point .ensures)
-    (read .before .before .before .before .before .before .before .before .pre)
+cut-crossed-requires c κs = (
+  crossing-ready _ _ _ (c .before .before .before .before .before .before .before .before .before .before .before .before .before .before .before .before .wide .ensures .0) (c .before .before .before .before .before .before .before .before .before .before .before .before .before .read-ends .ensures) (c .before .before .before .before .before .before .before .before .before .before .before .both-ends .ensures) _ _ (c .before .before .before .before .crossing-point .ensures)
+      (c .before .before .before .before .before .before .before .before .before .before .before .before .before .before .before .before .before .before .before .before .before .before .pre .0),
+  c .before .before .before .before .before .before .before .before .before .before .before .before .before .before .before .before .before .before .before .before .before .before .pre .1,
+)
 
 same-length : tie.Need-same-length
 same-length c = search needs
@@ -52,17 +49,15 @@ same-length-2 c = search needs
 same-length-3 : tie.Need-same-length-3
 same-length-3 c = search needs
 
-returns : tie.Need-returns
-returns c =
-    let called = c .before .before .before .before in
-    let tested = called .before .before .before .before .before in
-    let answered = tested .before .before .before in
-    let read = answered .before .before in
-    missed-cut _ _ _ (read .before .before .before .wide .ensures .0) (read .read-ends .ensures) (answered .both-ends .ensures)
-    _ (tested .edge-test .ensures) (called .before .before .before .enum-told .given .1) (called .rule6 .ensures)
-
 same-length-4 : tie.Need-same-length-4
 same-length-4 c = search needs
+
+returns : tie.Need-returns
+returns c = (
+  missed-cut _ _ _ (c .before .before .before .before .before .before .before .before .before .before .before .before .before .before .before .before .before .before .before .before .wide .ensures .0) (c .before .before .before .before .before .before .before .before .before .before .before .before .before .before .before .before .before .read-ends .ensures) (c .before .before .before .before .before .before .before .before .before .before .before .before .before .before .before .both-ends .ensures)
+      _ (c .before .before .before .before .before .before .before .before .before .before .before .before .edge-test .ensures) (c .before .before .before .before .before .before .before .before .before .before .enum-told .given .1) (c .before .before .before .before .before .before .rule6 .ensures .0),
+  c .before .before .before .before .before .before .rule6 .ensures .1,
+)
 
 same-length-5 : tie.Need-same-length-5
 same-length-5 c = search needs
@@ -70,14 +65,18 @@ same-length-5 c = search needs
 same-length-6 : tie.Need-same-length-6
 same-length-6 c = search needs
 
+same-length-7 : tie.Need-same-length-7
+same-length-7 c = search needs
+
+same-length-8 : tie.Need-same-length-8
+same-length-8 c = search needs
+
 returns-2 : tie.Need-returns-2
-returns-2 c =
-    let called = c .before .before .before .before .before .before in
-    let tested = called .before .before .before .before .before .before .before .before in
-    let answered = tested .before .before .before in
-    let read = answered .before .before in
-    crossing-cut _ _ _ (read .before .before .before .wide .ensures .0) (read .read-ends .ensures) (answered .both-ends .ensures) _ _ (called .before .before .before .before .crossing-point .ensures)
-    _ (tested .edge-test .ensures) (called .before .before .before .before .before .before .crossing .given .1) (called .cut-crossed .ensures)
+returns-2 c = (
+  crossing-cut _ _ _ (c .before .before .before .before .before .before .before .before .before .before .before .before .before .before .before .before .before .before .before .before .before .before .before .before .before .wide .ensures .0) (c .before .before .before .before .before .before .before .before .before .before .before .before .before .before .before .before .before .before .before .before .before .before .read-ends .ensures) (c .before .before .before .before .before .before .before .before .before .before .before .before .before .before .before .before .before .before .before .before .both-ends .ensures) _ _ (c .before .before .before .before .before .before .before .before .before .before .before .before .before .crossing-point .ensures)
+      _ (c .before .before .before .before .before .before .before .before .before .before .before .before .before .before .before .before .before .edge-test .ensures) (c .before .before .before .before .before .before .before .before .before .before .before .before .before .before .before .crossing .given .1) (c .before .before .before .before .before .before .before .before .cut-crossed .ensures .0),
+  c .before .before .before .before .before .before .before .before .cut-crossed .ensures .1,
+)
 
 pub cut-edge-spec : {M : Type 1} → statement M
 cut-edge-spec =
@@ -96,8 +95,10 @@ cut-edge-spec =
     same-length
     same-length-2
     same-length-3
-    returns
     same-length-4
+    returns
     same-length-5
     same-length-6
+    same-length-7
+    same-length-8
     returns-2)

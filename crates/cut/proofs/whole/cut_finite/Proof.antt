@@ -5,29 +5,23 @@ use borrow.Author.Needs.{needs}
 use Rattle.cut.proofs.whole.cut_finite.Statement.{statement}
 use Rattle.cut.proofs.whole.cut_finite.Tie as tie
 
-returns : tie.Need-returns
-returns c = whole-refused (c .before .before .before .before .before .before .before .before .before .before .before .before .before .before .before .before .before .before .before .before .before .before .before .before .cut-named .ensures) _ (c .before .before .before .before .before .before .before .before .before .before .before .before .before .before .reply .given .1) (c .before .before .before .before .before .before .before .before .restore .ensures)
-
-returns-2 : tie.Need-returns-2
-returns-2 c = whole-done (c .before .before .before .before .before .before .before .before .before .before .before .cut-named .ensures) _ (c .before .reply2 .given .1)
-
 slice-read-e : tie.Need-slice-read-e
-slice-read-e c = omega (arith, counts-ready (c .before .before .before .before .before .pre))
+slice-read-e c = omega (arith, counts-ready (c .before .before .before .before .before .before .pre .0))
 
 slice-read-v : tie.Need-slice-read-v
-slice-read-v c = omega (arith, counts-ready (c .before .before .before .before .before .before .pre))
+slice-read-v c = omega (arith, counts-ready (c .before .before .before .before .before .before .before .pre .0))
 
 slice-read-p : tie.Need-slice-read-p
-slice-read-p c = omega (arith, counts-ready (c .before .before .before .before .before .before .before .pre))
+slice-read-p c = omega (arith, counts-ready (c .before .before .before .before .before .before .before .before .pre .0))
 
 cut-named-requires : tie.Need-cut-named-requires
-cut-named-requires c κs = c .before .before .before .before .before .before .before .before .before .before .before .pre
+cut-named-requires c κs = c .before .before .before .before .before .before .before .before .before .before .before .before .before .pre
 
 enum-known-reply : tie.Need-enum-known-reply
 enum-known-reply c = search needs
 
 restore-requires : tie.Need-restore-requires
-restore-requires c κs = whole-asks (c .before .before .before .before .before .before .before .before .before .before .before .before .before .before .before .cut-named .ensures) _ (c .before .before .before .before .before .reply .given .1) (c .before .before .before .before .before .before .before .before .before .before .before .before .before .before .before .before .before .before .before .before .before .before .before .before .before .before .before .pre)
+restore-requires c κs = whole-asks (c .before .before .before .before .before .before .before .before .before .before .before .before .before .before .before .before .before .cut-named .ensures) _ (c .before .before .before .before .before .reply .given .1) (c .before .before .before .before .before .before .before .before .before .before .before .before .before .before .before .before .before .before .before .before .before .before .before .before .before .before .before .before .before .before .before .pre .0)
 
 enum-known-reply-2 : tie.Need-enum-known-reply-2
 enum-known-reply-2 c = search needs
@@ -47,6 +41,9 @@ same-length-4 c = search needs
 same-length-5 : tie.Need-same-length-5
 same-length-5 c = search needs
 
+returns : tie.Need-returns
+returns c = whole-refused (c .before .before .before .before .before .before .before .before .before .before .before .before .before .before .before .before .before .before .before .before .before .before .before .before .before .before .cut-named .ensures) _ (c .before .before .before .before .before .before .before .before .before .before .before .before .before .before .reply .given .1) (c .before .before .before .before .before .before .before .before .restore .ensures)
+
 same-length-6 : tie.Need-same-length-6
 same-length-6 c = search needs
 
@@ -55,6 +52,15 @@ same-length-7 c = search needs
 
 same-length-8 : tie.Need-same-length-8
 same-length-8 c = search needs
+
+same-length-9 : tie.Need-same-length-9
+same-length-9 c = search needs
+
+same-length-10 : tie.Need-same-length-10
+same-length-10 c = search needs
+
+returns-2 : tie.Need-returns-2
+returns-2 c = whole-done (c .before .before .before .before .before .before .before .before .before .before .before .before .before .cut-named .ensures) _ (c .before .reply2 .given .1)
 
 pub cut-finite-spec : {M : Type 1} → statement M
 cut-finite-spec =
@@ -71,9 +77,11 @@ cut-finite-spec =
     same-length-2
     same-length-3
     same-length-4
-    returns
     same-length-5
+    returns
     same-length-6
     same-length-7
     same-length-8
+    same-length-9
+    same-length-10
     returns-2)

@@ -5,13 +5,15 @@ use Rattle.gathered.proofs.answer.new_intersection.Statement.{statement
 use Rattle.gathered.proofs.answer.new_intersection.Tie as tie
 
 plane-of-intersection-requires : tie.Need-plane-of-intersection-requires
-plane-of-intersection-requires c κs = plane-asks (c .before .before .before .before .pre)
+plane-of-intersection-requires c κs = plane-asks (c .before .before .before .before .before .pre .0)
 
 sub-add-polytope : tie.Need-sub-add-polytope
-sub-add-polytope c = let h = c .before .before .before .before .before .before .before .before .pre .fit .some in search needs
+sub-add-polytope c = let h = c .before .before .before .before .before .before .before .before .before .before .pre .0 .fit .some in search needs
 
 add-polytope-requires : tie.Need-add-polytope-requires
-add-polytope-requires c κs = intersection-asks (c .before .before .before .before .before .before .before .before .before .pre)
+add-polytope-requires c κs =
+    let asked = intersection-asks (c .before .before .before .before .before .before .before .before .before .before .before .pre .0) in
+    (asked .0, asked .1, asked .2, asked .3, asked .4, asked .5, asked .6, asked .7, c .before .before .before .before .before .before .before .before .before .before .before .pre .1)
 
 same-length : tie.Need-same-length
 same-length c = search needs
@@ -19,11 +21,11 @@ same-length c = search needs
 same-length-2 : tie.Need-same-length-2
 same-length-2 c = search needs
 
+same-length-3 : tie.Need-same-length-3
+same-length-3 c = search needs
+
 returns : tie.Need-returns
-returns c =
-    let added = c .before .before .before .before in
-    let plane = added .before .before .before .before .before in
-    intersection-made _ (plane .plane-of-intersection .ensures) (added .add-polytope .ensures)
+returns c = (intersection-made _ (c .before .before .before .before .before .before .before .before .before .before .before .before .plane-of-intersection .ensures) (c .before .before .before .before .before .before .add-polytope .ensures .0), c .before .before .before .before .before .before .add-polytope .ensures .1)
 
 pub new-intersection-spec : {M : Type 1} → statement M
 new-intersection-spec =
@@ -34,4 +36,5 @@ new-intersection-spec =
     add-polytope-requires
     same-length
     same-length-2
+    same-length-3
     returns)

@@ -1,7 +1,8 @@
--- All floats are blank exactly when none that is not has been seen and the floats that are left are.
+-- All floats are blank exactly when no bit of them has been seen and the floats that are left are.
 use Prim.Native.Nat.{_-_, _≤_}
 use mathlib.Core.Path.{_≡_, refl, sym}
-use mathlib.Core.Bool.{not, _&&_}
+use mathlib.Core.Bool.{_&&_}
+use lib.Dec.{eqb}
 use lib.Ieee.{nan}
 use lib.ListN.{drop, take}
 use Rattle.rules.specs.Floats.{sameBits, plusZero}
@@ -12,7 +13,7 @@ use Rattle.soundness.proofs.floats.blank_floats.Statement.{statement}
 use Rattle.soundness.proofs.floats.blank_floats.Tie as tie
 
 abbrev Inv-loop : tie.InvT-loop
-Inv-loop list from to seen₀ i₀ seen i = (i ≤ to) × (blankFloats (drop from (take to list)) ≡ (not seen && blankFloats (drop i (take to list))))
+Inv-loop list from to seen₀ i₀ seen i = (i ≤ to) × (blankFloats (drop from (take to list)) ≡ (eqb seen 0 && blankFloats (drop i (take to list))))
 
 abbrev μ-loop : tie.MeasureT-loop
 μ-loop list from to seen₀ i₀ seen i = to - i
@@ -20,14 +21,14 @@ abbrev μ-loop : tie.MeasureT-loop
 loop-holds : tie.Need-loop-holds Inv-loop μ-loop
 loop-holds c = (search needs, refl)
 
-mul-is-zero-bits : tie.Need-mul-is-zero-bits Inv-loop μ-loop
-mul-is-zero-bits c = search needs
+mul-bits-of : tie.Need-mul-bits-of Inv-loop μ-loop
+mul-bits-of c = search needs
 
-shared-slice-read-is-zero-bits : tie.Need-shared-slice-read-is-zero-bits Inv-loop μ-loop
-shared-slice-read-is-zero-bits c = search needs
+shared-slice-read-bits-of : tie.Need-shared-slice-read-bits-of Inv-loop μ-loop
+shared-slice-read-bits-of c = search needs
 
-is-zero-bits-requires : tie.Need-is-zero-bits-requires Inv-loop μ-loop
-is-zero-bits-requires c κs = search needs
+bits-of-requires : tie.Need-bits-of-requires Inv-loop μ-loop
+bits-of-requires c κs = search needs
 
 add-i : tie.Need-add-i Inv-loop μ-loop
 add-i c = search needs
@@ -41,7 +42,7 @@ loop-again c =
     let p = c .before .before .before .before .before .pre in
     let at = c .before .before .before .loop in (
       search needs,
-      unseen-go (sameBits plusZero) nan (a .to) (a .list .now) (p .1) (at .seen) _ (at .i) (at .inv .1) (search needs) (sym (c .is-zero-bits .ensures)),
+      unseen-go (sameBits plusZero) nan (a .to) (a .list .now) (p .1) (at .seen) _ (at .i) (at .inv .1) (search needs) (sym (c .bits-of .ensures)),
     )
 
 returns : tie.Need-returns Inv-loop μ-loop
@@ -57,9 +58,9 @@ blank-floats-spec =
     Inv-loop
     μ-loop
     loop-holds
-    mul-is-zero-bits
-    shared-slice-read-is-zero-bits
-    is-zero-bits-requires
+    mul-bits-of
+    shared-slice-read-bits-of
+    bits-of-requires
     add-i
     loop-less
     loop-again

@@ -1,21 +1,17 @@
--- All words are blank exactly when none that is not has been seen and the words that are left are.
-use Prim.Native.Nat.{ℕ, zero, suc, _-_, _≤_}
-use mathlib.Core.Path.{_≡_, refl, sym, _∙_}
-use mathlib.Core.Bool.{not, _&&_}
-use lib.Dec.{eqb, eqb·zero-suc, eqb·suc-zero}
+-- All words are blank exactly when no bit of them has been seen and the words that are left are.
+use Prim.Native.Nat.{_-_, _≤_}
+use mathlib.Core.Path.{_≡_, refl}
+use mathlib.Core.Bool.{_&&_}
+use lib.Dec.{eqb}
 use lib.ListN.{getD, drop, take}
 use Rattle.soundness.specs.Words.{blank}
-use Rattle.soundness.proofs.Unseen.{unseen-go, unseen-end}
+use Rattle.soundness.proofs.Unseen.{zero-first, unseen-go, unseen-end}
 use borrow.Author.Needs.{needs}
 use Rattle.soundness.proofs.sound.blank_words.Statement.{statement}
 use Rattle.soundness.proofs.sound.blank_words.Tie as tie
 
-zero-first : (x : ℕ) → eqb 0 x ≡ eqb x 0
-zero-first zero = refl
-zero-first (suc x) = eqb·zero-suc x ∙ sym (eqb·suc-zero x)
-
 abbrev Inv-loop : tie.InvT-loop
-Inv-loop list from to seen₀ i₀ seen i = (i ≤ to) × (blank (drop from (take to list)) ≡ (not seen && blank (drop i (take to list))))
+Inv-loop list from to seen₀ i₀ seen i = (i ≤ to) × (blank (drop from (take to list)) ≡ (eqb seen 0 && blank (drop i (take to list))))
 
 abbrev μ-loop : tie.MeasureT-loop
 μ-loop list from to seen₀ i₀ seen i = to - i

@@ -55,7 +55,7 @@ boundary-sound-requires c κs =
     let u = p .1 in
     let fit = read-fits (a .elements .now) (a .e) (a .d) (a .h) _ _ (c .before .before .before .before .wide .ensures .0) (c .wide2 .ensures .0) (p .2)
     (c .before .before .before .if1 .left) in
-    (l, omega (arith, fit, u), fit, omega (arith, u))
+    (l, omega (arith, fit, u), fit, omega (arith, u), p .3)
 
 returns-3 : tie.Need-returns-3
 returns-3 c =

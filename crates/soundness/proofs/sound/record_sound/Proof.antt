@@ -1,7 +1,8 @@
 -- The answer is read off the tests that were taken, those of a vertex element or those of a polytope.
 use Prim.Native.Nat.{_+_, ℕ}
 use mathlib.Core.Bool.{false, true}
-use mathlib.Core.Path.{sym, refl, ap, _∙_}
+use mathlib.Core.Path.{_≡_, sym, refl, ap, _∙_}
+use native.Mathlib.Omega.{arith}
 use lib.ListN.{take, getD, drop}
 use Rattle.rules.proofs.Laws.{not-eq, test-eq, test-le}
 use Rattle.soundness.specs.Words.{blank}
@@ -61,21 +62,16 @@ returns-3 c =
     record-corner (a .at) (a .elements .now) true true false _ (c .before .before .before .before .before .before .if1 .taken)
     (test-eq 0 _ (sym (c .before .before .before .before .if2 .left))) (test-eq 65535 _ (sym (c .before .before .if3 .left))) (not-eq 1 _ (λ q. c .if4 .taken (sym q))) refl
 
-add-blank-words : tie.Need-add-blank-words
-add-blank-words c = search needs
-
-add-blank-words-2 : tie.Need-add-blank-words-2
-add-blank-words-2 c = search needs
-
-blank-words-requires : tie.Need-blank-words-requires
-blank-words-requires c κs = search needs
+past-blank-requires : tie.Need-past-blank-requires
+past-blank-requires c κs = (search needs, search needs, c .before .before .before .before .before .before .before .before .before .pre .1)
 
 returns-4 : tie.Need-returns-4
 returns-4 c =
     let a = c .before .before .before .before .before .before .before .before .before .before .args in
     record-corner (a .at) (a .elements .now) true true true _ (c .before .before .before .before .before .before .before .if1 .taken)
     (test-eq 0 _ (sym (c .before .before .before .before .before .if2 .left))) (test-eq 65535 _ (sym (c .before .before .before .if3 .left)))
-    (test-eq 1 _ (sym (c .before .if4 .left))) (sym (c .blank-words .ensures))
+    (test-eq 1 _ (sym (c .before .if4 .left)))
+    (ap (λ (k : ℕ). blank (drop k (take (a .at + 36) (a .elements .now)))) (let q : a .at + 5 ≡ a .at + 4 + 1 = omega arith in q) ∙ sym (c .past-blank .ensures))
 
 add-if5 : tie.Need-add-if5
 add-if5 c = search needs
@@ -118,24 +114,15 @@ shared-slice-read-wide c = search needs
 wide-requires : tie.Need-wide-requires
 wide-requires c κs = search needs
 
-add-blank-words-3 : tie.Need-add-blank-words-3
-add-blank-words-3 c = search needs
-
-add-blank-words-4 : tie.Need-add-blank-words-4
-add-blank-words-4 c = search needs
-
-add-blank-words-5 : tie.Need-add-blank-words-5
-add-blank-words-5 c = search needs
-
-blank-words-requires-2 : tie.Need-blank-words-requires-2
-blank-words-requires-2 c κs = search needs
+past-blank-requires-2 : tie.Need-past-blank-requires-2
+past-blank-requires-2 c κs = (search needs, search needs, c .before .before .before .before .before .before .before .before .before .pre .1)
 
 returns-7 : tie.Need-returns-7
 returns-7 c =
     let a = c .before .before .before .before .before .before .before .before .before .before .args in
     record-polytope (a .at) (a .elements .now) true true _ (c .before .before .before .before .before .before .before .if1 .left)
     (test-le (getD (a .elements .now) (a .at + 1) 0) 1 (search needs)) (test-le (getD (a .elements .now) (a .at + 3) 0) 32 (search needs))
-    (ap (λ (k : ℕ). blank (drop (a .at + 4 + k) (take (a .at + 36) (a .elements .now)))) (sym (c .before .wide .ensures .0)) ∙ sym (c .blank-words2 .ensures))
+    (ap (λ (k : ℕ). blank (drop (a .at + 4 + k) (take (a .at + 36) (a .elements .now)))) (sym (c .before .wide .ensures .0)) ∙ sym (c .past-blank2 .ensures))
 
 pub record-sound-spec : {M : Type 1} → statement M
 record-sound-spec =
@@ -155,9 +142,7 @@ record-sound-spec =
     mul-if4
     shared-slice-read-if4
     returns-3
-    add-blank-words
-    add-blank-words-2
-    blank-words-requires
+    past-blank-requires
     returns-4
     add-if5
     mul-if5
@@ -171,8 +156,5 @@ record-sound-spec =
     mul-wide
     shared-slice-read-wide
     wide-requires
-    add-blank-words-3
-    add-blank-words-4
-    add-blank-words-5
-    blank-words-requires-2
+    past-blank-requires-2
     returns-7)

@@ -1,69 +1,90 @@
--- The tests that are left are as good as all of them, until one fails.
-use Prim.Native.Nat.{ℕ, _-_, _≤_}
-use mathlib.Core.Bool.{Bool}
-use mathlib.Core.List.{List}
-use mathlib.Core.Path.{_≡_, refl, _∙_, sym}
+-- The ends that are counted so far and those that are left make up the whole; the test then reads the counts.
+use Prim.Native.Nat.{_-_, _≤_}
+use mathlib.Core.Path.{_∙_}
 use native.Mathlib.Omega.{arith}
-use lib.Dec.{eqb}
-use lib.ListN.{take, drop}
-use Rattle.rules.specs.Lists.{occurrences, all}
-use Rattle.rules.proofs.Laws.{not-eq, test-eq}
-use Rattle.space.specs.Closed.{rawEnds}
-use Rattle.space.proofs.TwiceMet.{twice-no-1, twice-no-2, twice-go, twice-end}
+use Rattle.space.proofs.TwiceMet.{Counting, edge-low, first-low, second-low, count-start, room-one, room-two, count-go, count-end}
 use borrow.Author.Needs.{needs}
 use Rattle.space.proofs.closed.each_twice.Statement.{statement}
 use Rattle.space.proofs.closed.each_twice.Tie as tie
 
-abbrev twice : List ℕ → List ℕ → ℕ → ℕ → Bool
-twice es list n v = eqb (occurrences v (rawEnds es (take n list))) 2
-
 abbrev Inv-loop : tie.InvT-loop
-Inv-loop elements list n k₀ k = (k ≤ n) × (all (twice elements list n) (rawEnds elements (take n list)) ≡ all (twice elements list n) (rawEnds elements (drop k (take n list))))
+Inv-loop elements list at n met₀ k₀ met k = (k ≤ n) × Counting elements list at n met k
 
 abbrev μ-loop : tie.MeasureT-loop
-μ-loop elements list n k₀ k = n - k
+μ-loop elements list at n met₀ k₀ met k = n - k
 
 loop-holds : tie.Need-loop-holds Inv-loop μ-loop
-loop-holds c = (search needs, refl)
+loop-holds c = let a = c .before .before .args in (search needs, count-start (a .elements .now) (a .list .now) (a .at) (a .n) (c .before .before .pre .1))
+
+add-e : tie.Need-add-e Inv-loop μ-loop
+add-e c = search needs
 
 mul-e : tie.Need-mul-e Inv-loop μ-loop
 mul-e c = search needs
 
-element-copy-out-e : tie.Need-element-copy-out-e Inv-loop μ-loop
-element-copy-out-e c = search needs
+shared-slice-read-e : tie.Need-shared-slice-read-e Inv-loop μ-loop
+shared-slice-read-e c = search needs
 
 end-of-requires : tie.Need-end-of-requires Inv-loop μ-loop
-end-of-requires c κs = (search needs, c .before .before .before .before .pre .3 .at (c .before .before .loop .k) (search needs), search needs)
+end-of-requires c κs =
+    let a = c .before .before .before .before .before .args in
+    let p = c .before .before .before .before .before .pre in
+    (search needs, edge-low (a .elements .now) (a .list .now) (a .at) (a .n) (p .1) (c .before .before .loop .k) (p .3) (search needs), search needs)
 
-times-met-requires : tie.Need-times-met-requires Inv-loop μ-loop
-times-met-requires c κs = search needs
+wide-requires : tie.Need-wide-requires Inv-loop μ-loop
+wide-requires c κs = search needs
 
-returns : tie.Need-returns Inv-loop μ-loop
-returns c =
+array-read-met : tie.Need-array-read-met Inv-loop μ-loop
+array-read-met c =
     let a = c .before .before .before .before .before .before .before .args in
     let p = c .before .before .before .before .before .before .before .pre in
-    let at = c .before .before .before .before .before .loop in
-    twice-no-1 (a .elements .now) (a .list .now) (a .n) (p .1) (p .2) (twice (a .elements .now) (a .list .now) (a .n)) (at .k) (search needs) _ 0
-    (c .before .before .end-of .ensures) (at .inv .1) (not-eq _ _ (λ q. c .if1 .taken (c .before .times-met .ensures ∙ q)))
+    first-low (a .elements .now) (a .list .now) (a .at) (a .n) (p .1) (c .before .before .before .before .loop .k) _ (p .4) (search needs) (c .wide .ensures .0 ∙ c .before .end-of .ensures)
+
+add-met : tie.Need-add-met Inv-loop μ-loop
+add-met c =
+    let a = c .before .before .before .before .before .before .before .args in
+    let p = c .before .before .before .before .before .before .before .pre in
+    let at = c .before .before .before .before .loop in
+    let r = room-one (a .elements .now) (a .list .now) (a .at) (a .n) (p .1) (at .met) (at .k) _ (at .inv .1) (search needs) (p .2)
+    (first-low (a .elements .now) (a .list .now) (a .at) (a .n) (p .1) (at .k) _ (p .4) (search needs) (c .wide .ensures .0 ∙ c .before .end-of .ensures)) in
+    search needs
+
+array-write-met : tie.Need-array-write-met Inv-loop μ-loop
+array-write-met c =
+    let a = c .before .before .before .before .before .before .before .args in
+    let p = c .before .before .before .before .before .before .before .pre in
+    first-low (a .elements .now) (a .list .now) (a .at) (a .n) (p .1) (c .before .before .before .before .loop .k) _ (p .4) (search needs) (c .wide .ensures .0 ∙ c .before .end-of .ensures)
 
 end-of-requires-2 : tie.Need-end-of-requires-2 Inv-loop μ-loop
 end-of-requires-2 c κs =
+    let a = c .before .before .before .before .before .before .before .args in
     let p = c .before .before .before .before .before .before .before .pre in
-    let at = c .before .before .before .before .before .loop in
-    (search needs, p .3 .at (at .k) (search needs), search needs)
+    (search needs, edge-low (a .elements .now) (a .list .now) (a .at) (a .n) (p .1) (c .before .before .before .before .loop .k) (p .3) (search needs), search needs)
 
-times-met-requires-2 : tie.Need-times-met-requires-2 Inv-loop μ-loop
-times-met-requires-2 c κs = search needs
+wide-requires-2 : tie.Need-wide-requires-2 Inv-loop μ-loop
+wide-requires-2 c κs = search needs
 
-returns-2 : tie.Need-returns-2 Inv-loop μ-loop
-returns-2 c =
-    let a = c .before .before .before .before .before .before .before .before .before .before .args in
-    let p = c .before .before .before .before .before .before .before .before .before .before .pre in
-    let at = c .before .before .before .before .before .before .before .before .loop in
-    twice-no-2 (a .elements .now) (a .list .now) (a .n) (p .1) (p .2) (twice (a .elements .now) (a .list .now) (a .n)) (at .k) (search needs) _ _
-    (c .before .before .before .before .before .end-of .ensures) (c .before .before .end-of2 .ensures)
-    (test-eq _ _ (sym (c .before .before .before .before .times-met .ensures) ∙ c .before .before .before .if1 .left)) (at .inv .1)
-    (not-eq _ _ (λ q. c .if2 .taken (c .before .times-met2 .ensures ∙ q)))
+array-read-met-2 : tie.Need-array-read-met-2 Inv-loop μ-loop
+array-read-met-2 c =
+    let a = c .before .before .before .before .before .before .before .before .before .args in
+    let p = c .before .before .before .before .before .before .before .before .before .pre in
+    second-low (a .elements .now) (a .list .now) (a .at) (a .n) (p .1) (c .before .before .before .before .before .before .loop .k) _ (p .4) (search needs) (c .wide2 .ensures .0 ∙ c .before .end-of2 .ensures)
+
+add-met-2 : tie.Need-add-met-2 Inv-loop μ-loop
+add-met-2 c =
+    let a = c .before .before .before .before .before .before .before .before .before .args in
+    let p = c .before .before .before .before .before .before .before .before .before .pre in
+    let at = c .before .before .before .before .before .before .loop in
+    let r = room-two (a .elements .now) (a .list .now) (a .at) (a .n) (p .1) (at .met) (at .k) _ (at .inv .1) (search needs) (p .2)
+    (first-low (a .elements .now) (a .list .now) (a .at) (a .n) (p .1) (at .k) _ (p .4) (search needs) (c .before .before .wide .ensures .0 ∙ c .before .before .before .end-of .ensures)) _
+    (second-low (a .elements .now) (a .list .now) (a .at) (a .n) (p .1) (at .k) _ (p .4) (search needs) (c .wide2 .ensures .0 ∙ c .before .end-of2 .ensures)) in
+    search needs
+
+array-write-met-2 : tie.Need-array-write-met-2 Inv-loop μ-loop
+array-write-met-2 c =
+    let a = c .before .before .before .before .before .before .before .before .before .args in
+    let p = c .before .before .before .before .before .before .before .before .before .pre in
+    second-low (a .elements .now) (a .list .now) (a .at) (a .n) (p .1) (c .before .before .before .before .before .before .loop .k) _ (p .4) (search needs) (c .wide2 .ensures .0 ∙ c .before .end-of2 .ensures)
 
 add-k : tie.Need-add-k Inv-loop μ-loop
 add-k c = search needs
@@ -73,22 +94,26 @@ loop-less c = search needs
 
 loop-again : tie.Need-loop-again Inv-loop μ-loop
 loop-again c =
-    let a = c .before .before .before .before .before .before .before .before .before .before .args in
-    let p = c .before .before .before .before .before .before .before .before .before .before .pre in
-    let at = c .before .before .before .before .before .before .before .before .loop in (
+    let a = c .before .before .before .before .before .before .before .before .before .args in
+    let p = c .before .before .before .before .before .before .before .before .before .pre in
+    let at = c .before .before .before .before .before .before .loop in
+    let e = c .before .before .wide .ensures .0 ∙ c .before .before .before .end-of .ensures in
+    let f = c .wide2 .ensures .0 ∙ c .before .end-of2 .ensures in (
       search needs,
-      twice-go (a .elements .now) (a .list .now) (a .n) (p .1) (p .2) (twice (a .elements .now) (a .list .now) (a .n)) (at .k) (search needs) _ _
-          (c .before .before .before .before .before .end-of .ensures) (c .before .before .end-of2 .ensures)
-          (test-eq _ _ (sym (c .before .before .before .before .times-met .ensures) ∙ c .before .before .before .if1 .left)) (at .inv .1)
-          (test-eq _ _ (sym (c .before .times-met2 .ensures) ∙ c .if2 .left)),
+      count-go (a .elements .now) (a .list .now) (a .at) (a .n) (p .1) (at .met) (at .k) _ (at .inv .1) (search needs) (p .2)
+          (first-low (a .elements .now) (a .list .now) (a .at) (a .n) (p .1) (at .k) _ (p .4) (search needs) e) _
+          (second-low (a .elements .now) (a .list .now) (a .at) (a .n) (p .1) (at .k) _ (p .4) (search needs) f) e f,
     )
 
-returns-3 : tie.Need-returns-3 Inv-loop μ-loop
-returns-3 c =
-    let a = c .before .before .before .args in
-    let p = c .before .before .before .pre in
-    let at = c .before .loop in
-    twice-end (a .elements .now) (a .list .now) (a .n) (p .1) (p .2) (twice (a .elements .now) (a .list .now) (a .n)) (at .k) (at .inv .1) (omega arith)
+all-twice-requires : tie.Need-all-twice-requires Inv-loop μ-loop
+all-twice-requires c κs =
+    let a = c .before .before .before .before .before .args in
+    let p = c .before .before .before .before .before .pre in
+    let at = c .before .before .loop in
+    (p .0, p .1, p .3, p .4, count-end (a .elements .now) (a .list .now) (a .at) (a .n) (p .1) (at .met) (at .k) (at .inv .1) (omega arith))
+
+returns : tie.Need-returns Inv-loop μ-loop
+returns c = search needs
 
 pub each-twice-spec : {M : Type 1} → statement M
 each-twice-spec =
@@ -97,15 +122,21 @@ each-twice-spec =
     Inv-loop
     μ-loop
     loop-holds
+    add-e
     mul-e
-    element-copy-out-e
+    shared-slice-read-e
     end-of-requires
-    times-met-requires
-    returns
+    wide-requires
+    array-read-met
+    add-met
+    array-write-met
     end-of-requires-2
-    times-met-requires-2
-    returns-2
+    wide-requires-2
+    array-read-met-2
+    add-met-2
+    array-write-met-2
     add-k
     loop-less
     loop-again
-    returns-3)
+    all-twice-requires
+    returns)

@@ -1,12 +1,12 @@
 -- The invariant: the words so far are stored.
-use borrow.Author.Needs.{needs}
-use mathlib.Core.Path.{_≡_, refl, sym, ap, _∙_}
 use Prim.Native.Nat.{ℕ, _+_, _≤_, _-_}
+use mathlib.Core.Path.{_≡_, refl, sym, ap, _∙_}
 use mathlib.Core.List.{List}
 use native.Mathlib.Omega.{arith}
 use lib.ListN.{length, getD, set, take, length-set}
 use lib.Seq.{sets}
 use Rattle.space.proofs.RowWords.{sets-more, sets-all}
+use borrow.Author.Needs.{needs}
 use Rattle.space.proofs.rows.put_row.Statement.{statement}
 use Rattle.space.proofs.rows.put_row.Tie as tie
 
@@ -22,8 +22,8 @@ loop-holds c = (search needs, search needs, refl, refl)
 mul-elements : tie.Need-mul-elements Inv-loop μ-loop
 mul-elements c = search needs
 
-element-copy-out-elements : tie.Need-element-copy-out-elements Inv-loop μ-loop
-element-copy-out-elements c = search needs
+shared-slice-read-elements : tie.Need-shared-slice-read-elements Inv-loop μ-loop
+shared-slice-read-elements c = search needs
 
 add-elements : tie.Need-add-elements Inv-loop μ-loop
 add-elements c = search needs
@@ -65,7 +65,7 @@ put-row-spec =
     μ-loop
     loop-holds
     mul-elements
-    element-copy-out-elements
+    shared-slice-read-elements
     add-elements
     mul-elements-2
     slice-write-elements

@@ -1,0 +1,73 @@
+-- The one loop over the rows in use. What is asked of all rows is asked of those that are left, where k is the vertex that is
+-- to be named next: records, vertices in order and elements are three tests of the first row and of the rows after it.
+use Prim.Native.Nat.{ℕ, suc, _+_, _-_, _*_, _≤_, _<_}
+use mathlib.Core.Bool.{Bool, true, false, cond, _&&_}
+use mathlib.Core.List.{List, _∷_}
+use mathlib.Core.Path.{_≡_, refl, sym, ap, ap₂, _∙_}
+use native.Mathlib.Nat.{sub-zero}
+use native.Mathlib.Numerals.{add-one}
+use native.Mathlib.Omega.{arith}
+use lib.Dec.{eqb}
+use lib.ListN.{getD, take, drop}
+use Rattle.rules.specs.Limits.{desk}
+use Rattle.rules.specs.Lists.{all, rows, allFrom, if_then_else_}
+use Rattle.rules.proofs.Indexed.{rows-on}
+use Rattle.rules.proofs.Laws.{and-left, and-right}
+use Rattle.soundness.specs.Words.{recordWords, cornerNamed, inOrder, elementSound, cornersSound, elementsSound, rowSound, rowsInUse}
+use Rattle.soundness.proofs.BoundaryFits.{by-three}
+
+module _ (es : List ℕ) (d n v h : ℕ) where
+  abbrev rowsFrom : ℕ → List (List ℕ)
+  rowsFrom i = rows (n - i) 36 (drop (i * 36) es)
+
+  abbrev row : ℕ → List ℕ
+  row i = take 36 (drop (i * 36) es)
+
+  abbrev pub left : ℕ → ℕ → Bool
+  left k i = all (recordWords desk) (rowsFrom i) && inOrder k v (rowsFrom i) && allFrom i (elementSound desk es d h) (rowsFrom i)
+
+  pub pass-start : rowsInUse desk d n v h es ≡ left 0 0
+  unfolding cornersSound elementsSound
+  pass-start = ap (λ (m : ℕ). all (recordWords desk) (rows m 36 es) && inOrder 0 v (rows m 36 es) && allFrom 0 (elementSound desk es d h) (rows m 36 es)) (sym (sub-zero n))
+
+  corner : (k : ℕ) (r : List ℕ) (rs : List (List ℕ)) (o : ℕ) → o ≡ cond (eqb (getD r 0 0) 0) 1 0 → inOrder k v (r ∷ rs) ≡ (cornerNamed k r && inOrder (k + o) v rs)
+  corner k r rs o e = go (eqb (getD r 0 0) 0) ∙ ap (λ (j : ℕ). cornerNamed k r && inOrder (k + j) v rs) (sym e)
+    where
+      go : (b : Bool) → (if b then eqb (getD r 4 0) k && inOrder (suc k) v rs else inOrder k v rs) ≡ ((if b then eqb (getD r 4 0) k else true) && inOrder (k + cond b 1 0) v rs)
+      go true = ap (λ (j : ℕ). eqb (getD r 4 0) k && inOrder j v rs) (sym (add-one k))
+      go false = ap (λ (j : ℕ). inOrder j v rs) (let z : k ≡ k + 0 = omega arith in z)
+
+  on : (k i o : ℕ) → i < n → o ≡ cond (eqb (getD (row i) 0 0) 0) 1 0 → left k i ≡ (rowSound desk es d h k i (row i) && left (k + o) (i + 1))
+  on k i o l e =
+      ap (λ (rs : List (List ℕ)). all (recordWords desk) rs && inOrder k v rs && allFrom i (elementSound desk es d h) rs) (rows-on 36 i n es l)
+      ∙ ap₂ (λ (b : Bool) (j : ℕ). (recordWords desk (row i) && all (recordWords desk) (rowsFrom (i + 1))) && b && (elementSound desk es d h i (row i) && allFrom j (elementSound desk es d h) (rowsFrom (i + 1))))
+      (corner k (row i) (rowsFrom (i + 1)) o e) (sym (add-one i))
+      ∙ by-three (recordWords desk (row i)) (all (recordWords desk) (rowsFrom (i + 1))) (cornerNamed k (row i)) (inOrder (k + o) v (rowsFrom (i + 1)))
+      (elementSound desk es d h i (row i)) (allFrom (i + 1) (elementSound desk es d h) (rowsFrom (i + 1)))
+
+  pub pass-go : {reply : Bool} (k i o : ℕ) → reply ≡ left k i → i < n → rowSound desk es d h k i (row i) ≡ true → o ≡ cond (eqb (getD (row i) 0 0) 0) 1 0 → reply ≡ left (k + o) (i + 1)
+  pass-go k i o t l q e = t ∙ on k i o l e ∙ ap (λ (b : Bool). b && left (k + o) (i + 1)) q
+
+  pub pass-no : {reply : Bool} (k i : ℕ) → reply ≡ left k i → i < n → rowSound desk es d h k i (row i) ≡ false → false ≡ reply
+  pass-no k i t l q =
+      let o : ℕ = cond (eqb (getD (row i) 0 0) 0) 1 0 in
+      sym (t ∙ on k i o l refl ∙ ap (λ (b : Bool). b && left (k + o) (i + 1)) q)
+
+  pub pass-end : {reply : Bool} (k i : ℕ) → reply ≡ left k i → n ≤ i → eqb k v ≡ reply
+  pass-end k i t l =
+      sym (t ∙ ap (λ (m : ℕ). all (recordWords desk) (rows m 36 (drop (i * 36) es)) && inOrder k v (rows m 36 (drop (i * 36) es)) && allFrom i (elementSound desk es d h) (rows m 36 (drop (i * 36) es)))
+      (let z : n - i ≡ 0 = omega arith in z) ∙ last (eqb k v))
+    where
+      last : (b : Bool) → (b && true) ≡ b
+      last true = refl
+      last false = refl
+
+-- the tests of one row
+pub row-is : (es : List ℕ) (d h k e : ℕ) (r : List ℕ) (a b c : Bool) → recordWords desk r ≡ a → cornerNamed k r ≡ b → elementSound desk es d h e r ≡ c → (a && b && c) ≡ rowSound desk es d h k e r
+row-is es d h k e r a b c p q s = sym (λ i. p i && q i && s i)
+
+pub row-record : (es : List ℕ) (d h k e : ℕ) (r : List ℕ) → rowSound desk es d h k e r ≡ true → recordWords desk r ≡ true
+row-record es d h k e r s = and-left (recordWords desk r) (cornerNamed k r) (and-left (recordWords desk r && cornerNamed k r) (elementSound desk es d h e r) s)
+
+pub row-element : (es : List ℕ) (d h k e : ℕ) (r : List ℕ) → rowSound desk es d h k e r ≡ true → elementSound desk es d h e r ≡ true
+row-element es d h k e r s = and-right (recordWords desk r && cornerNamed k r) (elementSound desk es d h e r) s

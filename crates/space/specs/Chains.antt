@@ -1,0 +1,34 @@
+-- Chains of rows with one key: the index leads from a key to the last row that has it, and from a row to the one before it. Definitions only.
+use Prim.Native.Nat.{ℕ, zero, suc, _+_, _*_, _-_, _%_, _≤_, _<_}
+use mathlib.Core.List.{List}
+use mathlib.Core.Option.{Option, none, some}
+use mathlib.Core.Path.{_≡_}
+use lib.ListN.{length, getD, take, drop, set}
+
+-- row j of the slice of elements
+abbrev pub rowAt : List ℕ → ℕ → List ℕ
+rowAt es j = take 36 (drop (j * 36) es)
+
+-- equal rows have equal keys
+unfoldable pub keyOf : List ℕ → ℕ
+keyOf row = getD row 4 0 % 512
+
+-- the row that a number of the index names: one less than it, or none
+abbrev pub numberOf : ℕ → Option ℕ
+numberOf zero = none
+numberOf (suc i) = some i
+
+-- x names the last of the first m rows with key k, or none where none of them has it
+pub record Last (es : List ℕ) (m k x : ℕ) : Type 0 where
+  pub there : 0 < x → (x ≤ m) × (keyOf (rowAt es (x - 1)) ≡ k)
+  pub over : (j : ℕ) → j < m → keyOf (rowAt es j) ≡ k → j < x
+
+-- the index of the first n rows: a chain's start for each key, and a link for each row
+pub record Indexed (es : List ℕ) (n : ℕ) (ix : List ℕ) : Type 0 where
+  pub long : length ix ≡ 1024
+  pub starts : (k : ℕ) → k < 512 → Last es n k (getD ix k 0)
+  pub links : (j : ℕ) → j < n → Last es j (keyOf (rowAt es j)) (getD ix (512 + j) 0)
+
+-- the index with row n as the start of the chain of key k
+abbrev pub joined : List ℕ → ℕ → ℕ → List ℕ
+joined ix k n = set (set ix (512 + n) (getD ix k 0)) k (n + 1)

@@ -1,0 +1,87 @@
+// The index of the rows: from a key to the last row that has it, and from each row to the one before it with its key.
+// Numbers in it are one more than a row's, so that 0 is the end of a chain. It is no part of the table: it lasts for one call.
+use crate::words::WIDTH;
+use crate::words::wide;
+use rules::ElementId;
+ghost use Prim.Native.Nat.{_+_, _*_, _<_, _≤_};
+ghost use mathlib.Core.Path.{_≡_};
+ghost use lib.Dec.{eqb};
+ghost use lib.ListN.{length, getD, take, drop, set};
+ghost use Rattle.rules.specs.Lists.{alike, find, rows};
+ghost use Rattle.space.specs.Chains.{keyOf, Indexed, numberOf, joined};
+ghost use Rattle.space.specs.Found.{elementNumber};
+
+// Room for a chain's start for each key, and for a link for each row behind them.
+const KEYS: usize = 512;
+
+// The words of the index.
+pub const INDEX: usize = 1024;
+
+// The lowest element whose row is the given one, or none.
+pub enum FoundElement {
+    None,
+    At(ElementId),
+}
+
+// The row's first boundary number, which equal rows share; a remainder, so that any word is a place in the index.
+pub fn key_of(words: &[u16], at: usize) -> usize
+    requires { ⌜ at + 36 ≤ length (now words) ⌝ }
+    ensures { λ r. ⌜ (r ≡ keyOf (take 36 (drop at (now (words .entry))))) × (r < 512) ⌝ }
+{
+    wide(words[at + 4]) % KEYS
+}
+
+// The row that stands at a place of some words is the table's row.
+fn same_row(elements: &[u16], at: usize, words: &[u16], from: usize) -> bool
+    requires { ⌜ (at + 36 ≤ length (now elements)) × (from + 36 ≤ length (now words)) ⌝ }
+    ensures { λ r. ⌜ r ≡ alike eqb (take 36 (drop from (now (words .entry)))) (take 36 (drop at (now (elements .entry)))) ⌝ }
+{
+    for j in 0..WIDTH {
+        if words[from + j] != elements[at + j] {
+            return false;
+        }
+    }
+    true
+}
+
+// Along the chain of the row's key down to its end: the last row met that is equal is the lowest.
+fn last_met(elements: &[u16], n: usize, words: &[u16], from: usize, index: &[u16]) -> usize
+    requires { ⌜ (length (now elements) ≡ 18432) × (n ≤ 512) × (from + 36 ≤ length (now words)) × Indexed (now elements) n (now index) ⌝ }
+    ensures { λ r. ⌜ numberOf r ≡ find (alike eqb (take 36 (drop from (now (words .entry))))) (rows n 36 (now (elements .entry))) ⌝ }
+{
+    let mut met = 0usize;
+    let mut x = wide(index[key_of(words, from)]);
+    while 0 < x {
+        if same_row(elements, (x - 1) * WIDTH, words, from) {
+            met = x;
+        }
+        x = wide(index[KEYS + (x - 1)]);
+    }
+    met
+}
+
+pub fn find_row(
+    elements: &[u16],
+    n: usize,
+    words: &[u16],
+    from: usize,
+    index: &[u16],
+) -> FoundElement
+    requires { ⌜ (length (now elements) ≡ 18432) × (n ≤ 512) × (from + 36 ≤ length (now words)) × Indexed (now elements) n (now index) ⌝ }
+    ensures { λ r. ⌜ elementNumber r ≡ find (alike eqb (take 36 (drop from (now (words .entry))))) (rows n 36 (now (elements .entry))) ⌝ }
+{
+    let met = last_met(elements, n, words, from, index);
+    if met == 0 {
+        return FoundElement::None;
+    }
+    FoundElement::At(ElementId(met - 1))
+}
+
+// Row n is the new start of its key's chain.
+pub fn join(index: &mut [u16], key: usize, n: usize)
+    requires { ⌜ (length (now index) ≡ 1024) × (key < 512) × (n < 512) ⌝ }
+    ensures { λ r. ⌜ now (index .exit) ≡ joined (now (index .entry)) key n ⌝ }
+{
+    index[KEYS + n] = index[key];
+    index[key] = (n + 1) as u16;
+}
