@@ -127,16 +127,16 @@ cut-boundary-enum-known-step : (t : ℕ) → cut-boundary-lts.Need-enum-known-st
 cut-boundary-enum-known-step t c = search needs
 
 cut-boundary-same-length : (t : ℕ) → cut-boundary-lts.Need-same-length (cut-boundary-claims t) (cut-boundary-at t) cut-boundary.Post cut-boundary-Inv-loop cut-boundary-μ-loop
-cut-boundary-same-length t c =     c .before .before .before .before .before .before .before .before .before .before .before .cut-element .kept .0 ∙ c .before .before .before .before .before .before .before .before .before .before .before .before .before .before .before .before .before .before .before .before .before .loop .inv .1
+cut-boundary-same-length t c = c .before .before .before .before .before .before .before .before .before .before .before .cut-element .kept .0 ∙ c .before .before .before .before .before .before .before .before .before .before .before .before .before .before .before .before .before .before .before .before .before .loop .inv .1
 
 cut-boundary-same-length-2 : (t : ℕ) → cut-boundary-lts.Need-same-length-2 (cut-boundary-claims t) (cut-boundary-at t) cut-boundary.Post cut-boundary-Inv-loop cut-boundary-μ-loop
-cut-boundary-same-length-2 t c =     c .before .before .before .before .before .before .before .before .before .before .before .cut-element .kept .1 .0 ∙ c .before .before .before .before .before .before .before .before .before .before .before .before .before .before .before .before .before .before .before .before .before .loop .inv .2
+cut-boundary-same-length-2 t c = c .before .before .before .before .before .before .before .before .before .before .before .cut-element .kept .1 .0 ∙ c .before .before .before .before .before .before .before .before .before .before .before .before .before .before .before .before .before .before .before .before .before .loop .inv .2
 
 cut-boundary-same-length-3 : (t : ℕ) → cut-boundary-lts.Need-same-length-3 (cut-boundary-claims t) (cut-boundary-at t) cut-boundary.Post cut-boundary-Inv-loop cut-boundary-μ-loop
-cut-boundary-same-length-3 t c =     c .before .before .before .before .before .before .before .before .before .before .before .cut-element .kept .1 .1 .0 ∙ c .before .before .before .before .before .before .before .before .before .before .before .before .before .before .before .before .before .before .before .before .before .loop .inv .3
+cut-boundary-same-length-3 t c = c .before .before .before .before .before .before .before .before .before .before .before .cut-element .kept .1 .1 .0 ∙ c .before .before .before .before .before .before .before .before .before .before .before .before .before .before .before .before .before .before .before .before .before .loop .inv .3
 
 cut-boundary-same-length-4 : (t : ℕ) → cut-boundary-lts.Need-same-length-4 (cut-boundary-claims t) (cut-boundary-at t) cut-boundary.Post cut-boundary-Inv-loop cut-boundary-μ-loop
-cut-boundary-same-length-4 t c =     c .before .before .before .before .before .before .before .before .before .before .before .cut-element .kept .1 .1 .1 .0 ∙ c .before .before .before .before .before .before .before .before .before .before .before .before .before .before .before .before .before .before .before .before .before .loop .inv .4
+cut-boundary-same-length-4 t c = c .before .before .before .before .before .before .before .before .before .before .before .cut-element .kept .1 .1 .1 .0 ∙ c .before .before .before .before .before .before .before .before .before .before .before .before .before .before .before .before .before .before .before .before .before .loop .inv .4
 
 cut-boundary-returns : (t : ℕ) → cut-boundary-lts.Need-returns (cut-boundary-claims t) (cut-boundary-at t) cut-boundary.Post cut-boundary-Inv-loop cut-boundary-μ-loop
 cut-boundary-returns t c =
@@ -178,16 +178,16 @@ cut-boundary-loop-again t c =
     )
 
 cut-boundary-same-length-5 : (t : ℕ) → cut-boundary-lts.Need-same-length-5 (cut-boundary-claims t) (cut-boundary-at t) cut-boundary.Post cut-boundary-Inv-loop cut-boundary-μ-loop
-cut-boundary-same-length-5 t c =     c .before .loop .inv .1
+cut-boundary-same-length-5 t c = c .before .loop .inv .1
 
 cut-boundary-same-length-6 : (t : ℕ) → cut-boundary-lts.Need-same-length-6 (cut-boundary-claims t) (cut-boundary-at t) cut-boundary.Post cut-boundary-Inv-loop cut-boundary-μ-loop
-cut-boundary-same-length-6 t c =     c .before .loop .inv .2
+cut-boundary-same-length-6 t c = c .before .loop .inv .2
 
 cut-boundary-same-length-7 : (t : ℕ) → cut-boundary-lts.Need-same-length-7 (cut-boundary-claims t) (cut-boundary-at t) cut-boundary.Post cut-boundary-Inv-loop cut-boundary-μ-loop
-cut-boundary-same-length-7 t c =     c .before .loop .inv .3
+cut-boundary-same-length-7 t c = c .before .loop .inv .3
 
 cut-boundary-same-length-8 : (t : ℕ) → cut-boundary-lts.Need-same-length-8 (cut-boundary-claims t) (cut-boundary-at t) cut-boundary.Post cut-boundary-Inv-loop cut-boundary-μ-loop
-cut-boundary-same-length-8 t c =     c .before .loop .inv .4
+cut-boundary-same-length-8 t c = c .before .loop .inv .4
 
 cut-boundary-returns-2 : (t : ℕ) → cut-boundary-lts.Need-returns-2 (cut-boundary-claims t) (cut-boundary-at t) cut-boundary.Post cut-boundary-Inv-loop cut-boundary-μ-loop
 cut-boundary-returns-2 t c =
@@ -215,16 +215,16 @@ cut-element-keep-requires : (t : ℕ) → cut-element-lts.Need-keep-requires (cu
 cut-element-keep-requires t c κs = (ask-words (c .before .before .before .before .before .before .before .before .before .before .before .before .before .before .before .before .before .before .before .before .before .before .before .pre .1 .0), ask-low (c .before .before .before .before .before .before .before .before .before .before .before .before .before .before .before .before .before .before .before .before .before .before .before .pre .1 .0), low-room (c .before .before .before .before .before .before .before .before .before .cut-low .ensures .0) (c .before .before .before .before .before .before .before .before .before .before .before .before .before .before .before .before .before .before .before .before .before .before .before .pre .1 .0))
 
 cut-element-same-length : (t : ℕ) → cut-element-lts.Need-same-length (cut-element-claims t) (cut-element-at t) cut-element.Post
-cut-element-same-length t c =     c .before .before .before .before .before .before .before .before .before .before .cut-low .kept .0
+cut-element-same-length t c = c .before .before .before .before .before .before .before .before .before .before .cut-low .kept .0
 
 cut-element-same-length-2 : (t : ℕ) → cut-element-lts.Need-same-length-2 (cut-element-claims t) (cut-element-at t) cut-element.Post
-cut-element-same-length-2 t c =     c .before .before .before .before .before .before .before .before .before .before .cut-low .kept .1 .0
+cut-element-same-length-2 t c = c .before .before .before .before .before .before .before .before .before .before .cut-low .kept .1 .0
 
 cut-element-same-length-3 : (t : ℕ) → cut-element-lts.Need-same-length-3 (cut-element-claims t) (cut-element-at t) cut-element.Post
-cut-element-same-length-3 t c =     c .before .before .before .before .before .before .before .before .before .before .cut-low .kept .1 .1 .0
+cut-element-same-length-3 t c = c .before .before .before .before .before .before .before .before .before .before .cut-low .kept .1 .1 .0
 
 cut-element-same-length-4 : (t : ℕ) → cut-element-lts.Need-same-length-4 (cut-element-claims t) (cut-element-at t) cut-element.Post
-cut-element-same-length-4 t c =     c .before .before .before .before .before .before .before .before .before .before .cut-low .kept .1 .1 .1 .0
+cut-element-same-length-4 t c = c .before .before .before .before .before .before .before .before .before .before .cut-low .kept .1 .1 .1 .0
 
 cut-element-returns-2 : (t : ℕ) → cut-element-lts.Need-returns-2 (cut-element-claims t) (cut-element-at t) cut-element.Post
 cut-element-returns-2 t c = (low-asked (c .before .before .before .before .before .before .before .before .before .before .cut-low .ensures .0) (c .keep .ensures .0) (c .keep .ensures .1), c .before .before .before .before .before .before .before .before .before .before .cut-low .ensures .1)
@@ -247,31 +247,31 @@ cut-element-keep-requires-2 t c κs =
     (round.rule6-words (c .before .before .before .before .before .before .before .before .before .before .before .before .before .before .before .before .before .before .before .before .before .before .before .before .before .before .before .before .if1 .left) B (c .before .before .before .before .before .before .before .before .before .before .before .before .enum-told2 .given .1) (c .before .before .before .before .before .before .before .before .before .before .before .before .before .before .before .before .before .before .before .before .before .before .before .before .before .before .before .before .before .before .before .before .before .before .before .before .before .pre .1 .0), ask-low (c .before .before .before .before .before .before .before .before .before .before .before .before .before .before .before .before .before .before .before .before .before .before .before .before .before .before .before .before .before .before .before .before .before .before .before .before .before .pre .1 .0), round.element-room (c .before .before .before .before .before .before .before .before .before .before .before .before .before .before .before .before .before .before .before .before .before .before .before .before .before .before .before .before .if1 .left) B (c .before .before .before .before .before .before .before .before .before .before .before .before .enum-told2 .given .1) (c .before .before .before .before .before .before .before .rule6 .ensures .0) (c .before .before .before .before .before .before .before .before .before .before .before .before .before .before .before .before .before .before .before .before .before .before .before .before .before .before .before .before .before .before .before .before .before .before .before .before .before .pre .1 .0))
 
 cut-element-same-length-5 : (t : ℕ) → cut-element-lts.Need-same-length-5 (cut-element-claims t) (cut-element-at t) cut-element.Post
-cut-element-same-length-5 t c =     c .before .before .before .before .before .before .before .before .before .before .before .cut-boundary .kept .0
+cut-element-same-length-5 t c = c .before .before .before .before .before .before .before .before .before .before .before .cut-boundary .kept .0
 
 cut-element-same-length-6 : (t : ℕ) → cut-element-lts.Need-same-length-6 (cut-element-claims t) (cut-element-at t) cut-element.Post
-cut-element-same-length-6 t c =     c .before .before .before .before .before .before .before .before .before .before .before .cut-boundary .kept .1 .0
+cut-element-same-length-6 t c = c .before .before .before .before .before .before .before .before .before .before .before .cut-boundary .kept .1 .0
 
 cut-element-same-length-7 : (t : ℕ) → cut-element-lts.Need-same-length-7 (cut-element-claims t) (cut-element-at t) cut-element.Post
-cut-element-same-length-7 t c =     c .before .before .before .before .before .before .before .before .before .before .before .cut-boundary .kept .1 .1 .0
+cut-element-same-length-7 t c = c .before .before .before .before .before .before .before .before .before .before .before .cut-boundary .kept .1 .1 .0
 
 cut-element-same-length-8 : (t : ℕ) → cut-element-lts.Need-same-length-8 (cut-element-claims t) (cut-element-at t) cut-element.Post
-cut-element-same-length-8 t c =     c .before .before .before .before .before .before .before .before .before .before .before .cut-boundary .kept .1 .1 .1 .0
+cut-element-same-length-8 t c = c .before .before .before .before .before .before .before .before .before .before .before .cut-boundary .kept .1 .1 .1 .0
 
 cut-element-returns-3 : (t : ℕ) → cut-element-lts.Need-returns-3 (cut-element-claims t) (cut-element-at t) cut-element.Post
 cut-element-returns-3 t c = (round.element-refused (c .before .before .before .before .before .before .before .before .before .before .before .before .before .before .before .before .before .if1 .left) (c .before .before .before .before .before .before .before .before .before .before .before .cut-boundary .ensures .0) _ (c .before .stop .given .1), c .before .before .before .before .before .before .before .before .before .before .before .cut-boundary .ensures .1)
 
 cut-element-same-length-9 : (t : ℕ) → cut-element-lts.Need-same-length-9 (cut-element-claims t) (cut-element-at t) cut-element.Post
-cut-element-same-length-9 t c =     c .before .before .before .before .before .before .before .before .rule6 .kept .0 ∙ c .before .before .before .before .before .before .before .before .before .before .before .before .before .before .before .before .before .before .before .before .before .before .before .cut-boundary .kept .0
+cut-element-same-length-9 t c = c .before .before .before .before .before .before .before .before .rule6 .kept .0 ∙ c .before .before .before .before .before .before .before .before .before .before .before .before .before .before .before .before .before .before .before .before .before .before .before .cut-boundary .kept .0
 
 cut-element-same-length-10 : (t : ℕ) → cut-element-lts.Need-same-length-10 (cut-element-claims t) (cut-element-at t) cut-element.Post
-cut-element-same-length-10 t c =     c .before .before .before .before .before .before .before .before .before .before .before .before .before .before .before .before .before .before .before .before .before .before .before .cut-boundary .kept .1 .0
+cut-element-same-length-10 t c = c .before .before .before .before .before .before .before .before .before .before .before .before .before .before .before .before .before .before .before .before .before .before .before .cut-boundary .kept .1 .0
 
 cut-element-same-length-11 : (t : ℕ) → cut-element-lts.Need-same-length-11 (cut-element-claims t) (cut-element-at t) cut-element.Post
-cut-element-same-length-11 t c =     c .before .before .before .before .before .before .before .before .rule6 .kept .1 .0 ∙ c .before .before .before .before .before .before .before .before .before .before .before .before .before .before .before .before .before .before .before .before .before .before .before .cut-boundary .kept .1 .1 .0
+cut-element-same-length-11 t c = c .before .before .before .before .before .before .before .before .rule6 .kept .1 .0 ∙ c .before .before .before .before .before .before .before .before .before .before .before .before .before .before .before .before .before .before .before .before .before .before .before .cut-boundary .kept .1 .1 .0
 
 cut-element-same-length-12 : (t : ℕ) → cut-element-lts.Need-same-length-12 (cut-element-claims t) (cut-element-at t) cut-element.Post
-cut-element-same-length-12 t c =     c .before .before .before .before .before .before .before .before .rule6 .kept .1 .1 .0 ∙ c .before .before .before .before .before .before .before .before .before .before .before .before .before .before .before .before .before .before .before .before .before .before .before .cut-boundary .kept .1 .1 .1 .0
+cut-element-same-length-12 t c = c .before .before .before .before .before .before .before .before .rule6 .kept .1 .1 .0 ∙ c .before .before .before .before .before .before .before .before .before .before .before .before .before .before .before .before .before .before .before .before .before .before .before .cut-boundary .kept .1 .1 .1 .0
 
 cut-element-returns-4 : (t : ℕ) → cut-element-lts.Need-returns-4 (cut-element-claims t) (cut-element-at t) cut-element.Post
 cut-element-returns-4 t c = (round.element-answered (c .before .before .before .before .before .before .before .before .before .before .before .before .before .before .before .before .before .before .before .before .before .before .before .before .before .before .before .before .before .if1 .left) (c .before .before .before .before .before .before .before .before .before .before .before .before .before .before .before .before .before .before .before .before .before .before .before .cut-boundary .ensures .0) (c .before .before .before .before .before .before .before .before .before .before .before .before .before .enum-told2 .given .1) (c .before .before .before .before .before .before .before .before .rule6 .ensures .0) (c .keep2 .ensures .0) (c .keep2 .ensures .1), c .before .before .before .before .before .before .before .before .rule6 .ensures .1)
