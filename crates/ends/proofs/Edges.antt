@@ -12,15 +12,14 @@ use Rattle.rules.specs.Lists.{pad}
 use Rattle.rules.specs.Floats.{plusZero, sideOf, edgeTest, crossingPoint}
 use Rattle.rules.specs.Table.{Element, corner, polytope, Table, rankOf, boundaryOf, rank, boundary, element, pointAt}
 use Rattle.rules.specs.Held.{Extends, Holds, Came, went, stopped, Sets, Ranked}
-use Rattle.rules.specs.Cut.{Outcome, done, next, give, Cutting, Gathered, cornerAnswer, gathering, nothingYet, addVertex, crossEdge, cutEnds, cutEdge, cutElement, rule6}
-use Rattle.rules.specs.declared.Side.{Side}
-use Rattle.rules.specs.declared.Side.the-variants.{Inside, On, Outside}
+use Rattle.rules.specs.Cut.{Outcome, done, next, give, Cutting, Gathered, cornerAnswer, nothingYet, addVertex, crossEdge, cutEnds, cutEdge, cutElement, rule6}
 use Rattle.rules.specs.declared.Crossing.{Crossing}
 use Rattle.rules.specs.declared.Crossing.the-variants.{None as NoCrossing, At}
 use Rattle.rules.specs.declared.ElementId.{ElementId}
 use Rattle.rules.specs.declared.ElementCutOutput.{ElementCutOutput}
 use Rattle.rules.specs.declared.CutReply.{CutReply}
 use Rattle.rules.specs.declared.CutReply.the-variants as reply
+use Rattle.rules.proofs.Borders.{sound-bordered}
 use Rattle.rules.proofs.Extends.{extends-trans, begins-length, count-more, element-same}
 use Rattle.rules.proofs.Good.{Good, sound-good, good-sound}
 use Rattle.rules.proofs.Ranked.{corner-answer, sets-gathering, sets-none}
@@ -33,7 +32,7 @@ use Rattle.space.specs.declared.rows.Placed.the-variants as placed
 use Rattle.space.proofs.Room.{listOf, list-word}
 use Rattle.space.proofs.VertexMemo.{dimension-is}
 use Rattle.space.proofs.Slices.{slices}
-use Rattle.gathered.specs.Sets.{Gathers, Sized, OutputInRoom, GatheredIn}
+use Rattle.gathered.specs.Sets.{Sized}
 use Rattle.gathered.specs.Cutting.{Fit, cutOf, Rule6Fit, Rule6Ready, Rule6Done}
 use Rattle.gathered.specs.declared.answer.Cutter.{Cutter}
 use Rattle.gathered.specs.declared.sets.Answers.{Answers}
@@ -43,7 +42,7 @@ use Rattle.ends.specs.declared.EdgeEnds.{EdgeEnds}
 use Rattle.ends.specs.Elements.{Ready, ElementCut}
 use Rattle.ends.proofs.Vertices as vertex
 
--- ---- what the two ends answer
+-- ---- what is gathered
 
 pub sized-more : {s : Answers} (i m : ℕ) → i ≤ m → Sized s i → Sized s m
 sized-more i m h z = record {
@@ -52,27 +51,6 @@ sized-more i m h z = record {
   outside = at-most i m h (z .outside);
   intersections = at-most i m h (z .intersections);
 }
-
-pub answer-room : {x : ElementCutOutput} (e : ℕ) (s : Float) → e < 512 → x ≡ cornerAnswer e (sideOf s) → OutputInRoom x
-answer-room e s l q = subst OutputInRoom (sym q) (go (sideOf s))
-  where
-    go : (y : Side) → OutputInRoom (cornerAnswer e y)
-    go Inside = (l, tt, tt)
-    go On = tt
-    go Outside = (tt, l, tt)
-
-module _ {x y : ElementCutOutput} {n o r : Answers} {s u : Float} (a b : ℕ) (sa sb : Float) where
-  pub ends-gathered : Gathers n nothingYet × Sized n 0 → s ≡ sa → x ≡ cornerAnswer a (sideOf s) → GatheredIn n a x o
-      → u ≡ sb → y ≡ cornerAnswer b (sideOf u) → GatheredIn o b y r → EndsGathered a b sa sb r
-  ends-gathered N hs hx G hu hy H =
-      let xa : x ≡ cornerAnswer a (sideOf sa) = hx ∙ ap (λ (z : Float). cornerAnswer a (sideOf z)) hs in
-      let yb : y ≡ cornerAnswer b (sideOf sb) = hy ∙ ap (λ (z : Float). cornerAnswer b (sideOf z)) hu in
-      let first : GatheredIn n a (cornerAnswer a (sideOf sa)) o = subst (λ (z : ElementCutOutput). GatheredIn n a z o) xa G in
-      let both : GatheredIn o b (cornerAnswer b (sideOf sb)) r = subst (λ (z : ElementCutOutput). GatheredIn o b z r) yb H in
-      record {
-        of = both .of (gathering a (cornerAnswer a (sideOf sa)) nothingYet) (first .of nothingYet (N .0));
-        sized = both .sized 1 (first .sized 0 (N .1));
-      }
 
 pub crossed : (s : Answers) (v : ElementId) → Crossed s (v .0) (record { flushes = 1; flush = v; inside = s .inside; outside = s .outside; intersections = s .intersections })
 crossed s v = record {
@@ -216,6 +194,15 @@ module _ {cs : List ℕ} {ps hs : List Float} {es : List ℕ} {e : ℕ} {k : Cut
       ranked = (let q = end-ranked .1 in let z : rank t x ≡ 0 = omega (arith, q) in z);
     }
 
+  -- a sound boundary rises
+  ends-rise : (x y : ℕ) → x ≡ getD es (e * 36 + 4) 0 → y ≡ getD es (e * 36 + 5) 0 → x < y
+  ends-rise x y hx hy =
+      let q = F .ranked in
+      let above = sound-bordered desk t (F .sound) e (F .used) (let z : 0 < rank t e = omega (arith, q) in z) .rising 0 1 (lit≤ tt) (own .two) in
+      let first = end-is 0 x (lit≤ tt) hx in
+      let second = end-is 1 y (lit≤ tt) hy in
+      omega (arith, above, first, second)
+
 pub ends-ready : {cs : List ℕ} {ps : List Float} {es : List ℕ} {e : ℕ} {k : Cutter} → Ready cs ps es 1 e k → EndsReady ps es e
 ends-ready {cs} {k = k} R = record { counts = cs; planes = R .planes; cutter = k; table = R .table; fit = R .fit }
 
@@ -226,8 +213,8 @@ module _ {ps : List Float} {es : List ℕ} {e : ℕ} (R : EndsReady ps es e) whe
   pub end-asked : (i x : ℕ) → i < 2 → x ≡ getD es (e * 36 + (4 + i)) 0 → (length ps ≡ 1024) × (length es ≡ 18432) × (x < 512) × (getD es (x * 36 + 4) 0 < 256)
   end-asked i x l h = vertex.point-asked (end-fit (R .fit) i x l h)
 
-  pub ends-low : {r : EdgeEnds} → EndsRead ps es e r → (r .a .0 < 512) × (r .b .0 < 512)
-  ends-low E = (end-asked 0 _ (lit≤ tt) (E .first) .2, end-asked 1 _ (lit≤ tt) (E .second) .2)
+  pub ends-low : {r : EdgeEnds} → EndsRead ps es e r → (r .a .0 < 512) × (r .b .0 < 512) × (r .a .0 < r .b .0)
+  ends-low E = (end-asked 0 _ (lit≤ tt) (E .first) .2, end-asked 1 _ (lit≤ tt) (E .second) .2, ends-rise (R .fit) _ _ (E .first) (E .second))
 
 -- ---- the edge
 

@@ -1,7 +1,7 @@
 -- What rules 3 and 4 do: the cut of a vertex, and of an edge by its two ends. Definitions only.
 use Prim.Native.Nat.{ℕ, _+_, _*_, _≤_}
 use mathlib.Core.Path.{_≡_}
-use mathlib.Core.Bool.{true}
+use mathlib.Core.Bool.{Bool, true, false}
 use mathlib.Core.List.{List, [], _∷_}
 use lib.ListN.{getD, take}
 use lib.Ieee.{Float}
@@ -13,6 +13,8 @@ use Rattle.rules.specs.Sound.{soundPoint}
 use Rattle.rules.specs.Held.{Holds, Came, Sets}
 use Rattle.rules.specs.Cut.{Outcome, next, Cutting, Gathered, cornerAnswer, distanceOf, gathering, nothingYet, crossEdge, rule6}
 use Rattle.rules.specs.declared.Hyperplane.{Hyperplane}
+use Rattle.rules.specs.declared.Side.{Side}
+use Rattle.rules.specs.declared.Side.the-variants.{Inside, On, Outside}
 use Rattle.rules.specs.declared.Crossing.the-variants.{At}
 use Rattle.rules.specs.declared.ElementCutOutput.{ElementCutOutput}
 use Rattle.rules.specs.declared.CutReply.{CutReply}
@@ -50,6 +52,25 @@ pub record EndsRead (ps : List Float) (es : List ℕ) (e : ℕ) (r : EdgeEnds) :
   pub second : r .b .0 ≡ getD es (e * 36 + 5) 0
   pub firstPoint : r .p ≡ storedPoint ps (getD es (r .a .0 * 36 + 4) 0)
   pub secondPoint : r .q ≡ storedPoint ps (getD es (r .b .0 * 36 + 4) 0)
+
+-- whether an end lies on the side that is asked for
+abbrev pub liesOn : Side → Side → Bool
+liesOn Inside Inside = true
+liesOn Inside On = false
+liesOn Inside Outside = false
+liesOn On Inside = false
+liesOn On On = true
+liesOn On Outside = false
+liesOn Outside Inside = false
+liesOn Outside On = false
+liesOn Outside Outside = true
+
+-- those of two numbers that are taken, in their order
+abbrev pub taken : Bool → ℕ → Bool → ℕ → List ℕ
+taken true a true b = a ∷ b ∷ []
+taken true a false b = a ∷ []
+taken false a true b = b ∷ []
+taken false a false b = []
 
 -- what the ends a and b answer, gathered
 abbrev pub endsOf : ℕ → ℕ → Float → Float → Gathered

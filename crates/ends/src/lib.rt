@@ -1,8 +1,8 @@
 // Rules 3 and 4: the cut of a vertex, and of an edge by its two ends.
 use gathered::answer;
 use gathered::answer::Cutter;
-use gathered::sets;
 use gathered::sets::Answers;
+use gathered::sets::Set;
 use rules::Crossing;
 use rules::CutReply;
 use rules::ElementCutOutput;
@@ -22,7 +22,8 @@ ghost use Rattle.rules.specs.Floats.{sideOf};
 ghost use Rattle.rules.specs.Cut.{cornerAnswer};
 ghost use Rattle.space.specs.Chains.{Indexed};
 ghost use Rattle.space.specs.Shared.{storedPoint};
-ghost use Rattle.ends.specs.Ends.{distanceTo, CornerCut, EndsReady, EndsRead, EndsGathered, Crossed, CrossedReady, CrossedCut};
+ghost use Rattle.gathered.specs.Sets.{members, SizedSet};
+ghost use Rattle.ends.specs.Ends.{distanceTo, CornerCut, liesOn, taken, EndsReady, EndsRead, EndsGathered, Crossed, CrossedReady, CrossedCut};
 ghost use Rattle.ends.specs.Elements.{Ready, ElementCut};
 
 // The ends a and b of an edge, a the lower-numbered, at p and q.
@@ -92,22 +93,117 @@ fn read_ends(points: &[f64], elements: &[u16], e: ElementId) -> EdgeEnds
     EdgeEnds { a, b, p, q }
 }
 
-// Ends on the plane are flush, and other ends go to their side.
+// Whether an end lies on the side that is asked for.
+fn lies_on(side: Side, s: Side) -> bool
+    ensures { λ r. ⌜ r ≡ liesOn side s ⌝ }
+{
+    match side {
+        Side::Inside => match s {
+            Side::Inside => true,
+            Side::On => false,
+            Side::Outside => false,
+        },
+        Side::On => match s {
+            Side::Inside => false,
+            Side::On => true,
+            Side::Outside => false,
+        },
+        Side::Outside => match s {
+            Side::Inside => false,
+            Side::On => false,
+            Side::Outside => true,
+        },
+    }
+}
+
+// The set of those that are taken, a if x and b if y; a is the lower number.
+fn set_of(x: bool, a: ElementId, y: bool, b: ElementId) -> Set
+    requires { ⌜ (a .0 < 512) × (b .0 < 512) ⌝ }
+    ensures { λ r. ⌜ (members r ≡ taken x (a .0) y (b .0)) × SizedSet r 2 ⌝ }
+{
+    let mut list = [0u16; 33];
+    if x {
+        list[0] = a.0 as u16;
+        if y {
+            list[1] = b.0 as u16;
+            return Set { list, n: 2 };
+        }
+        return Set { list, n: 1 };
+    }
+    if y {
+        list[0] = b.0 as u16;
+        return Set { list, n: 1 };
+    }
+    Set { list, n: 0 }
+}
+
+// How many are taken.
+fn count_of(x: bool, y: bool) -> usize
+    ensures { λ r. ⌜ r ≡ length (taken y 0 x 0) ⌝ }
+{
+    if y {
+        if x {
+            return 2;
+        }
+        return 1;
+    }
+    if x {
+        return 1;
+    }
+    0
+}
+
+// The last one that is taken, a if x and b if y.
+fn last_of(x: bool, a: ElementId, y: bool, b: ElementId) -> ElementId
+    ensures { λ r. ⌜ r .0 ≡ getD (taken y (b .0) x (a .0)) 0 0 ⌝ }
+{
+    if y {
+        return b;
+    }
+    if x {
+        return a;
+    }
+    ElementId(0)
+}
+
+// Ends on the plane are flush, and other ends go to their side; the sets are made at once, as each answer gathered in turn copies them all.
 fn both_ends(d: usize, h: Hyperplane, ends: EdgeEnds) -> Answers
-    requires { ⌜ (ends .a .0 < 512) × (ends .b .0 < 512) ⌝ }
+    requires { ⌜ (ends .a .0 < 512) × (ends .b .0 < 512) × (ends .a .0 < ends .b .0) ⌝ }
     ensures { λ r. ⌜ EndsGathered (ends .a .0) (ends .b .0) (distanceTo d h (ends .p)) (distanceTo d h (ends .q)) r ⌝ }
 {
-    let none = sets::nothing_yet();
     let a = ends.a;
     let p = ends.p;
     let sa = hypermath::signed_distance(d, h, p);
-    let x = corner_answer(a, sa);
-    let one = sets::gather_in(none, a, x);
+    let side_a = hypermath::side_of(sa);
     let b = ends.b;
     let q = ends.q;
     let sb = hypermath::signed_distance(d, h, q);
-    let y = corner_answer(b, sb);
-    sets::gather_in(one, b, y)
+    let side_b = hypermath::side_of(sb);
+    let flush_a = lies_on(Side::On, side_a);
+    let flush_b = lies_on(Side::On, side_b);
+    let flushes = count_of(flush_a, flush_b);
+    let flush = last_of(flush_a, a, flush_b, b);
+    let inside = set_of(
+        lies_on(Side::Inside, side_a),
+        a,
+        lies_on(Side::Inside, side_b),
+        b,
+    );
+    let outside = set_of(
+        lies_on(Side::Outside, side_a),
+        a,
+        lies_on(Side::Outside, side_b),
+        b,
+    );
+    let list = [0u16; 33];
+    let intersections = Set { list, n: 0 };
+    Answers {
+        flushes,
+        flush,
+        inside,
+        outside,
+        intersections,
+    }
 }
 
 // A crossing counts as the flush one.

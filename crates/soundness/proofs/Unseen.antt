@@ -4,24 +4,16 @@ use Prim.Native.Nat.{ℕ, zero, suc, _+_, _≤_, _<_}
 use mathlib.Core.Path.{_≡_, refl, sym, ap, _∙_}
 use mathlib.Core.Bool.{Bool, true, false, _&&_}
 use mathlib.Core.List.{List}
-use native.Mathlib.Omega.{arith}
-use lib.Bits.{bitOr, or-add-and, and-le-r}
+use lib.Bits.{bitOr}
 use lib.Dec.{eqb, eqb·zero-suc, eqb·suc-zero}
 use lib.ListN.{length, getD, take, drop}
 use Rattle.rules.specs.Lists.{all}
 use Rattle.rules.proofs.Indexed.{all-front-no, all-front-go, all-front-end}
-use Rattle.rules.proofs.Laws.{not-eq}
+use Rattle.space.proofs.NoBits.{no-bits}
 
 pub zero-first : (x : ℕ) → eqb 0 x ≡ eqb x 0
 zero-first zero = refl
 zero-first (suc x) = eqb·zero-suc x ∙ sym (eqb·suc-zero x)
-
--- bits gathered of two numbers are none exactly when neither has any
-pub no-bits : (a b : ℕ) → eqb (bitOr a b) 0 ≡ (eqb a 0 && eqb b 0)
-no-bits zero b = refl
-no-bits (suc a) b =
-    not-eq (bitOr (suc a) b) 0 (λ q. let s = or-add-and (suc a) b in let l = and-le-r (suc a) b in let z : ⊥ = omega (arith, q, s, l) in z)
-    ∙ ap (λ (c : Bool). c && eqb b 0) (sym (eqb·suc-zero a))
 
 module _ {A : Type 0} (p : A → Bool) (z : A) (n : ℕ) (l : List A) (fit : n ≤ length l) where
   step : {b : Bool} (clear passed : Bool) (i : ℕ) → b ≡ (clear && all p (drop i (take n l))) → i < n → p (getD l i z) ≡ passed

@@ -4,6 +4,7 @@ pub mod Slices
 pub mod SameRows
 pub mod Lent
 pub mod Zeros
+pub mod NoBits
 pub mod RowWords
 pub mod Indexing
 pub mod RowAdds

@@ -1,17 +1,21 @@
 -- Rows word by word, for the loops over them: a run of stores, a comparison of two rows, and the search for a row.
 use Prim.Native.Nat.{ℕ, _+_, _≤_, _<_}
-use mathlib.Core.Bool.{Bool, true, false}
+use mathlib.Core.Bool.{Bool, true, false, _&&_}
 use mathlib.Core.List.{List, _++_, map, [], _∷_}
 use mathlib.Core.Option.{Option}
 use mathlib.Core.Path.{_≡_, _∙_, ap, ap₂, sym, refl}
 use native.Mathlib.Nat.{le-of-lt, le-of-eq, le-trans}
 use native.Mathlib.Numerals.{add-one}
 use native.Mathlib.Omega.{arith}
+use lib.Bits.{bitOr, bitXor}
 use lib.Dec.{eqb}
 use lib.ListN.{set, length, take, drop, getD, length-drop}
 use lib.Seq.{sets, paste, length-take-le, sets-eq, paste-suc, take-all, getD-take, getD-drop}
 use Rattle.rules.specs.Lists.{alike, find, rows}
 use Rattle.rules.proofs.Indexed.{alike-go, alike-no, alike-end, soughtFrom, sought-start}
+use Rattle.rules.proofs.Laws.{refute, unlike-eq}
+use Rattle.rules.proofs.Selves.{alike-eq}
+use Rattle.space.proofs.NoBits.{no-bits, no-difference}
 
 module _ {A : Type 0} where
   -- a run of stores is a copy
@@ -53,15 +57,38 @@ module _ (es words : List ℕ) (at from : ℕ) (r : from + 36 ≤ length words) 
   word : (j : ℕ) → j < 36 → eqb (getD (rowIn words from) j 0) (getD (rowIn es at) j 0) ≡ eqb (getD words (from + j) 0) (getD es (at + j) 0)
   word j k = ap₂ eqb (part-word words from j k) (part-word es at j k)
 
-  pub same-go : {b : Bool} (j : ℕ) → b ≡ alike eqb (drop j (rowIn words from)) (drop j (rowIn es at)) → j < 36 → eqb (getD words (from + j) 0) (getD es (at + j) 0) ≡ true
-      → b ≡ alike eqb (drop (j + 1) (rowIn words from)) (drop (j + 1) (rowIn es at))
-  same-go j e k q = alike-go eqb 0 (rowIn words from) (rowIn es at) j e (in-part words from r j k) (in-part es at h j k) (word j k ∙ q)
+  -- rows that differ in one word are not alike
+  pub unlike-at : (j : ℕ) → j < 36 → eqb (getD words (from + j) 0) (getD es (at + j) 0) ≡ false → false ≡ alike eqb (rowIn words from) (rowIn es at)
+  unlike-at j k q =
+      sym
+      (refute (alike eqb (rowIn words from) (rowIn es at))
+      (λ e. unlike-eq (getD (rowIn words from) j 0) (getD (rowIn es at) j 0) (word j k ∙ q) (ap (λ (l : List ℕ). getD l j 0) (alike-eq (rowIn words from) (rowIn es at) e))))
 
-  pub same-not : {b : Bool} (j : ℕ) → b ≡ alike eqb (drop j (rowIn words from)) (drop j (rowIn es at)) → j < 36 → eqb (getD words (from + j) 0) (getD es (at + j) 0) ≡ false → false ≡ b
-  same-not j e k q = alike-no eqb 0 (rowIn words from) (rowIn es at) j e (in-part words from r j k) (in-part es at h j k) (word j k ∙ q)
+  -- the words from j on are alike
+  abbrev left : ℕ → Bool
+  left j = alike eqb (drop j (rowIn words from)) (drop j (rowIn es at))
 
-  pub same-end : {b : Bool} (j : ℕ) → b ≡ alike eqb (drop j (rowIn words from)) (drop j (rowIn es at)) → 36 ≤ j → true ≡ b
-  same-end j e k = alike-end eqb 0 (rowIn words from) (rowIn es at) j e (le-trans (le-of-eq (part-long words from r)) k) (le-trans (le-of-eq (part-long es at h)) k)
+  step : {b : Bool} (clear same : Bool) (j : ℕ) → b ≡ (clear && left j) → j < 36 → eqb (getD words (from + j) 0) (getD es (at + j) 0) ≡ same
+      → b ≡ ((clear && same) && left (j + 1))
+  step false same j e k q = e
+  step true true j e k q = alike-go eqb 0 (rowIn words from) (rowIn es at) j e (in-part words from r j k) (in-part es at h j k) (word j k ∙ q)
+  step true false j e k q = sym (alike-no eqb 0 (rowIn words from) (rowIn es at) j e (in-part words from r j k) (in-part es at h j k) (word j k ∙ q))
+
+  -- the rows are alike exactly when no bit has differed yet and the words that are left are alike
+  pub same-go : {b : Bool} (differ j : ℕ) → b ≡ (eqb differ 0 && alike eqb (drop j (rowIn words from)) (drop j (rowIn es at))) → j < 36
+      → b ≡ (eqb (bitOr differ (bitXor (getD words (from + j) 0) (getD es (at + j) 0))) 0 && alike eqb (drop (j + 1) (rowIn words from)) (drop (j + 1) (rowIn es at)))
+  same-go differ j e k =
+      let x = getD words (from + j) 0 in
+      let y = getD es (at + j) 0 in
+      step (eqb differ 0) (eqb (bitXor x y) 0) j e k (sym (no-difference x y))
+      ∙ ap (λ (c : Bool). c && left (j + 1)) (sym (no-bits differ (bitXor x y)))
+
+  pub same-end : {b : Bool} (differ j : ℕ) → b ≡ (eqb differ 0 && alike eqb (drop j (rowIn words from)) (drop j (rowIn es at))) → 36 ≤ j → eqb differ 0 ≡ b
+  same-end {b} differ j e k = go (eqb differ 0) e
+    where
+      go : (clear : Bool) → b ≡ (clear && left j) → clear ≡ b
+      go true e = alike-end eqb 0 (rowIn words from) (rowIn es at) j e (le-trans (le-of-eq (part-long words from r)) k) (le-trans (le-of-eq (part-long es at h)) k)
+      go false e = sym e
 
 -- what is left of a search for a row
 abbrev pub rowFrom : (List ℕ → Bool) → ℕ → List ℕ → ℕ → Option ℕ

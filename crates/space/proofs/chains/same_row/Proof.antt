@@ -1,25 +1,23 @@
--- The invariant: the comparison is asked of what is left.
+-- The invariant: the rows are alike exactly when no bit has differed yet and the words that are left are alike.
 use Prim.Native.Nat.{_≤_, _-_}
+use mathlib.Core.Bool.{_&&_}
 use mathlib.Core.Path.{_≡_, refl}
 use native.Mathlib.Omega.{arith}
 use lib.Dec.{eqb}
 use lib.ListN.{take, drop}
 use Rattle.rules.specs.Lists.{alike}
-use Rattle.space.proofs.RowWords.{same-go, same-not, same-end}
+use Rattle.space.proofs.RowWords.{unlike-at, same-go, same-end}
 use borrow.Author.Needs.{needs}
-use borrow.Author.Tests.{eq-eqb, ne-eqb}
+use borrow.Author.Tests.{ne-eqb}
 use Rattle.space.proofs.chains.same_row.Statement.{statement}
 use Rattle.space.proofs.chains.same_row.Tie as tie
 
 abbrev Inv-loop : tie.InvT-loop
-Inv-loop elements at words from j₀ j =
-    (j ≤ 36) × (alike eqb (take 36 (drop from words)) (take 36 (drop at elements)) ≡ alike eqb (drop j (take 36 (drop from words))) (drop j (take 36 (drop at elements))))
+Inv-loop elements at words from differ₀ j₀ differ j =
+    (j ≤ 36) × (alike eqb (take 36 (drop from words)) (take 36 (drop at elements)) ≡ (eqb differ 0 && alike eqb (drop j (take 36 (drop from words))) (drop j (take 36 (drop at elements)))))
 
 abbrev μ-loop : tie.MeasureT-loop
-μ-loop elements at words from j₀ j = 36 - j
-
-loop-holds : tie.Need-loop-holds Inv-loop μ-loop
-loop-holds c = (search needs, refl)
+μ-loop elements at words from differ₀ j₀ differ j = 36 - j
 
 add-if1 : tie.Need-add-if1 Inv-loop μ-loop
 add-if1 c = search needs
@@ -41,10 +39,30 @@ shared-slice-read-if1-2 c = search needs
 
 returns : tie.Need-returns Inv-loop μ-loop
 returns c =
-    let at = c .before .before .before .before .loop in
-    let a = c .before .before .before .before .before .args in
-    let p = c .before .before .before .before .before .pre in
-    same-not (a .elements .now) (a .words .now) (a .at) (a .from) (p .1) (p .0) (at .j) (at .inv .1) (search needs) (ne-eqb _ _ (c .if1 .taken))
+    let a = c .before .before .before .args in
+    let p = c .before .before .before .pre in
+    unlike-at (a .elements .now) (a .words .now) (a .at) (a .from) (p .1) (p .0) 5 (omega arith) (ne-eqb _ _ (c .if1 .taken))
+
+loop-holds : tie.Need-loop-holds Inv-loop μ-loop
+loop-holds c = (search needs, refl)
+
+add-differ : tie.Need-add-differ Inv-loop μ-loop
+add-differ c = search needs
+
+mul-differ : tie.Need-mul-differ Inv-loop μ-loop
+mul-differ c = search needs
+
+shared-slice-read-differ : tie.Need-shared-slice-read-differ Inv-loop μ-loop
+shared-slice-read-differ c = search needs
+
+add-differ-2 : tie.Need-add-differ-2 Inv-loop μ-loop
+add-differ-2 c = search needs
+
+mul-differ-2 : tie.Need-mul-differ-2 Inv-loop μ-loop
+mul-differ-2 c = search needs
+
+shared-slice-read-differ-2 : tie.Need-shared-slice-read-differ-2 Inv-loop μ-loop
+shared-slice-read-differ-2 c = search needs
 
 add-j : tie.Need-add-j Inv-loop μ-loop
 add-j c = search needs
@@ -54,17 +72,17 @@ loop-less c = search needs
 
 loop-again : tie.Need-loop-again Inv-loop μ-loop
 loop-again c =
-    let at = c .before .before .before .before .loop in
-    let a = c .before .before .before .before .before .args in
-    let p = c .before .before .before .before .before .pre in
-    (search needs, same-go (a .elements .now) (a .words .now) (a .at) (a .from) (p .1) (p .0) (at .j) (at .inv .1) (search needs) (eq-eqb _ _ (c .if1 .left)))
+    let at = c .before .before .before .loop in
+    let a = c .before .before .before .before .before .before .before .args in
+    let p = c .before .before .before .before .before .before .before .pre in
+    (search needs, same-go (a .elements .now) (a .words .now) (a .at) (a .from) (p .1) (p .0) (at .differ) (at .j) (at .inv .1) (search needs))
 
 returns-2 : tie.Need-returns-2 Inv-loop μ-loop
 returns-2 c =
     let at = c .before .loop in
-    let a = c .before .before .args in
-    let p = c .before .before .pre in
-    same-end (a .elements .now) (a .words .now) (a .at) (a .from) (p .1) (p .0) (at .j) (at .inv .1) (omega arith)
+    let a = c .before .before .before .before .before .args in
+    let p = c .before .before .before .before .before .pre in
+    same-end (a .elements .now) (a .words .now) (a .at) (a .from) (p .1) (p .0) (at .differ) (at .j) (at .inv .1) (omega arith)
 
 pub same-row-spec : {M : Type 1} → statement M
 same-row-spec =
@@ -72,7 +90,6 @@ same-row-spec =
     (tie.spec
     Inv-loop
     μ-loop
-    loop-holds
     add-if1
     mul-if1
     shared-slice-read-if1
@@ -80,6 +97,13 @@ same-row-spec =
     mul-if1-2
     shared-slice-read-if1-2
     returns
+    loop-holds
+    add-differ
+    mul-differ
+    shared-slice-read-differ
+    add-differ-2
+    mul-differ-2
+    shared-slice-read-differ-2
     add-j
     loop-less
     loop-again
