@@ -305,18 +305,7 @@ pub +cut-boundary+cut-element-spec : {M : Type 1} → statement M
     (cut-boundary-same-length-7 t)
     (cut-boundary-same-length-8 t)
     (cut-boundary-returns-2 t))
-    λ t. cut-element-lts.spec (
-      recall-reads.Asked,
-      recall-reads.Learnt,
-      cut-low-reads.Asked,
-      cut-low-reads.Learnt,
-      keep-reads.Asked,
-      keep-reads.Learnt,
-      cut-boundary-below t,
-      cut-boundary.Post,
-      rule6-reads.Asked,
-      rule6-reads.Learnt,
-    )
+    λ t. cut-element-lts.spec (cut-element-claims t)
     (cut-element-at t)
     cut-element.Post
     (cut-element-recall-requires t)
