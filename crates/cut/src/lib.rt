@@ -71,17 +71,8 @@ pub fn cut(
         DistanceKind::Finite => {
             let i = is_kept(inside);
             let o = is_kept(outside);
-            cut_finite(
-                counts,
-                points,
-                planes,
-                elements,
-                &mut index,
-                divider,
-                i,
-                o,
-                root,
-            )
+            let h = divider;
+            cut_finite(counts, points, planes, elements, &mut index, h, i, o, root)
         }
     }
 }
