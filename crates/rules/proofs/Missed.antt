@@ -225,11 +225,11 @@ module _ (L : Limits) (t : Table) (good : Good L t) (c : Cutting) where
 -- ---- the whole cut
 
 -- the divider's hyperplane is all that may be added before the elements are cut
-abbrev Unmoved : Table → Outcome ℕ → Type 0
+abbrev pub Unmoved : Table → Outcome ℕ → Type 0
 Unmoved t (refused n) = Unit {0}
 Unmoved t (done n s) = (s .elements ≡ t .elements) × (s .points ≡ t .points)
 
-plane-unmoved : (L : Limits) (h : Plane) (t : Table) → Unmoved t (addPlane L h t)
+pub plane-unmoved : (L : Limits) (h : Plane) (t : Table) → Unmoved t (addPlane L h t)
 unfolding addPlane
 plane-unmoved L h t = go (findFrom (primordials (t .dimension)) (λ g. planeMatches g h) (drop (primordials (t .dimension)) (t .planes)))
   where

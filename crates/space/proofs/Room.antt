@@ -111,12 +111,7 @@ module _ (L : Limits) (t : Table) (F : Fits L t) where
         go (corner v) q = List·getD-append (v ∷ []) (replicate (elementWidth L - length (elementRow (corner v))) 0) 0 i q
         go (polytope r b h m) q = List·getD-append b (replicate (elementWidth L - length (elementRow (polytope r b h m))) 0) 0 i q
 
-  -- a coordinate of a point
-  pub point-word : (v j : ℕ) → v < length (t .points) → j < L .dimensions → getD (pointsOf L t) (v * L .dimensions + j) plusZero ≡ getD (pad plusZero (L .dimensions) (getD (t .points) v [])) j plusZero
-  unfolding pointsOf
-  point-word v j u k = laid-read (L .dimensions) (pad plusZero (L .dimensions)) plusZero (L .vertices * L .dimensions) (t .points) v j [] plusZero (F .points) u k
-
-  -- the same, whatever stands past the end
+  -- a coordinate of a point, whatever stands past the end
   pub point-word-or : (v j : ℕ) (d : Float) → v < length (t .points) → j < L .dimensions → getD (pointsOf L t) (v * L .dimensions + j) d ≡ getD (pad plusZero (L .dimensions) (getD (t .points) v [])) j d
   unfolding pointsOf
   point-word-or v j d u k = laid-read (L .dimensions) (pad plusZero (L .dimensions)) plusZero (L .vertices * L .dimensions) (t .points) v j [] d (F .points) u k
@@ -125,10 +120,6 @@ module _ (L : Limits) (t : Table) (F : Fits L t) where
 
   row-fits : (w : ℕ) {n room : ℕ} → n < room → n * w + w ≤ room * w
   row-fits w {n} {room} h = let e = suc-mul n w in let m = mul-le-mul-right w h in omega (arith, e, m)
-
-  pub element-stored : (e : Element) → elementCount t < L .elements → length (elementRow e) ≤ elementWidth L → elementsOf L (withElement e t) ≡ sets (elementsOf L t) (elementCount t * elementWidth L) (elementRow e)
-  unfolding elementsOf
-  element-stored e u k = laid-append (elementWidth L) (elementWords L) 0 (L .elements * elementWidth L) (t .elements) e (elementRow e) (F .elements) refl k (row-fits (elementWidth L) u)
 
   pub element-fitted : (e : Element) → elementCount t < L .elements → length (elementRow e) ≤ elementWidth L → fitting L e ≡ true → Fits L (withElement e t)
   element-fitted e u k f = record {
@@ -144,10 +135,6 @@ module _ (L : Limits) (t : Table) (F : Fits L t) where
   pub element-counted : (e : Element) → countsOf (withElement e t) ≡ set (countsOf t) 1 (elementCount t + 1)
   unfolding countsOf
   element-counted e = ap (λ (n : ℕ). t .dimension ∷ n ∷ length (t .points) ∷ length (t .planes) ∷ []) (length-append (t .elements) (e ∷ []))
-
-  pub point-stored : (p : List Float) → length (t .points) < L .vertices → length p ≤ L .dimensions → pointsOf L (withPoint p t) ≡ sets (pointsOf L t) (length (t .points) * L .dimensions) p
-  unfolding pointsOf
-  point-stored p u k = laid-append (L .dimensions) (pad plusZero (L .dimensions)) plusZero (L .vertices * L .dimensions) (t .points) p p (F .points) refl k (row-fits (L .dimensions) u)
 
   pub point-fitted : (p : List Float) → length (t .points) < L .vertices → length p ≤ L .dimensions → Fits L (withPoint p t)
   point-fitted p u k = record {

@@ -3,10 +3,10 @@
 use crate::words::WIDTH;
 use crate::words::wide;
 use rules::ElementId;
-ghost use Prim.Native.Nat.{_+_, _*_, _<_, _≤_};
+ghost use Prim.Native.Nat.{_+_, _<_, _≤_};
 ghost use mathlib.Core.Path.{_≡_};
 ghost use lib.Dec.{eqb};
-ghost use lib.ListN.{length, getD, take, drop, set};
+ghost use lib.ListN.{length, take, drop};
 ghost use Rattle.rules.specs.Lists.{alike, find, rows};
 ghost use Rattle.space.specs.Chains.{keyOf, Indexed, numberOf, joined};
 ghost use Rattle.space.specs.Found.{elementNumber};
