@@ -102,7 +102,7 @@ row-polytope d e f h b p q g n =
     xs = map ofDigits (faces (digits d e))
 
     list : take (f .n) (f .list) ≡ xs
-    list = ap₂ take (g .size) (g .list) ∙ take-append-seam xs (replicate (33 - length xs) 0)
+    list = ap₂ take (g .size) (g .list) ∙ take-append-seam xs (replicate (34 - length xs) 0)
 
 pub facet-named : (h n : ℕ) → h ≡ n → n < 9 → planeNamed h ≡ some n
 facet-named h n q l = ap planeNamed q ∙ ap (λ (b : Bool). if b then none else some n) (not-eq n noPlane (λ e. let z : ⊥ = omega (arith, l, e) in z))

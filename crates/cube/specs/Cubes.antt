@@ -16,7 +16,7 @@ use Rattle.cube.specs.declared.Faces.{Faces}
 -- some numbers stand in the front, and zeros after them
 pub record FacesSoFar (f : Faces) (xs : List ℕ) : Type 0 where
   pub size : f .n ≡ length xs
-  pub list : f .list ≡ pad 0 33 xs
+  pub list : f .list ≡ pad 0 34 xs
 
 -- across an axis with digit 2, the face at 0 and the face at 1
 abbrev pub across : ℕ → ℕ → ℕ → List ℕ

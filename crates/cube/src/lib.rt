@@ -21,7 +21,7 @@ ghost use Rattle.rules.specs.Replies.{cubeReply};
 
 // Some numbers of a boundary, in the front of their room.
 pub struct Faces {
-    pub list: [u16; 33],
+    pub list: [u16; 34],
     pub n: usize,
 }
 
@@ -75,7 +75,7 @@ fn faces_of(d: usize, e: u16) -> Faces
 {
     let ks = digits_of(d, e);
     let mut f = Faces {
-        list: [0u16; 33],
+        list: [0u16; 34],
         n: 0,
     };
     let mut step = cube_size(d);

@@ -27,16 +27,15 @@ use Rattle.rules.proofs.Stays.{Stays, Kept}
 use Rattle.rules.proofs.StaysCut.{Facts, facts, ranked-get, element-stays, boundary-stays}
 use Rattle.space.proofs.Room.{sizeOf, listOf, size-word, list-word}
 use Rattle.space.proofs.Slices.{slices}
-use Rattle.gathered.specs.Sets.{Gathers, Sized, GatheredIn, OutputInRoom}
+use Rattle.gathered.specs.Sets.{Answers, Gathers, Sized, NothingYet, GatheredIn, OutputInRoom}
 use Rattle.gathered.specs.Cutting.{cutOf, Fit, Rule6Fit, Rule6Ready, Rule6Done}
 use Rattle.gathered.specs.declared.answer.Cutter.{Cutter}
-use Rattle.gathered.specs.declared.sets.Answers.{Answers}
 use Rattle.ends.proofs.Edges.{list-bound}
-use Rattle.cut.specs.Known.{Knows, HoldsKnown, ReplyInRoom, withReply}
+use Rattle.cut.specs.Known.{Knows, HoldsKnown, ReplyInRoom, withReply, outputAt, askedBy, replyOf}
 use Rattle.cut.specs.Rounds.{AskReady, ElementAsked, Round, went, stopped, BoundaryCut}
-use Rattle.cut.specs.declared.elements.BoundaryReply.{BoundaryReply}
-use Rattle.cut.specs.declared.elements.Stop.the-variants as stop
-use Rattle.cut.proofs.StaysKnown.{knows-later, rule6-extends, reply-in-room, kept-went, kept-stopped}
+use Rattle.cut.specs.declared.known.Asked.{Asked}
+use Rattle.cut.specs.declared.known.Asked.the-variants as asked
+use Rattle.cut.proofs.StaysKnown.{knows-later, rule6-extends, reply-in-room, kept-went, kept-stopped, replied-answer, replied-refusal}
 
 good-of : {cs : List ℕ} {ps hs : List Float} {es : List ℕ} {r e : ℕ} {k : Cutter} {t : Table} → Fit cs ps hs es r e k t → Good desk t
 good-of {t = t} F = sound-good desk t (F .sound)
@@ -101,7 +100,7 @@ round-most R more n h = size-most more (R .fit) n h
 -- ---- the round
 
 module _ {r : ℕ} (more : 1 < r) {e : ℕ} {k : Cutter} {cs₀ : List ℕ} {ps₀ : List Float} {es₀ ms₀ : List ℕ} where
-  pub going-start : (s : Answers) → Gathers s nothingYet → Going r more e k cs₀ ps₀ es₀ ms₀ 0 s cs₀ ps₀ es₀ ms₀
+  pub going-start : (s : Answers) → NothingYet s → Going r more e k cs₀ ps₀ es₀ ms₀ 0 s cs₀ ps₀ es₀ ms₀
   going-start s G = record {
     of = λ hs t F K. record {
       table = t;
@@ -110,7 +109,7 @@ module _ {r : ℕ} (more : 1 < r) {e : ℕ} {k : Cutter} {cs₀ : List ℕ} {ps�
       knows = K;
       good = good-of F;
       extends = extends-refl t;
-      gathers = G;
+      gathers = G .of;
       sets = sets-none (r - 1) t;
       rest = refl;
     };
@@ -173,53 +172,63 @@ module _ {r : ℕ} (more : 1 < r) {e : ℕ} {k : Cutter} {cs₀ : List ℕ} {ps�
     pub next-ready : AskReady cs₀ ps₀ es₀ ms₀ r e k → i < n → (b : ℕ) → b ≡ getD es (e * 36 + (4 + i)) 0 → AskReady cs ps es ms (r - 1) b k
     next-ready R l b read = record { planes = R .planes; table = A (R .fit) (R .knows) .table; fit = fit-next (R .fit) (R .knows) l b read; knows = A (R .fit) (R .knows) .knows }
 
-    module _ (l : i < n) (b : ℕ) (read : b ≡ getD es (e * 36 + (4 + i)) 0) {x : CutReply} {cs′ : List ℕ} {ps′ : List Float} {es′ ms′ : List ℕ} (C : ElementAsked cs ps es ms (r - 1) b k x cs′ ps′ es′ ms′) where
-      came : {hs : List Float} {t : Table} (F : Fit cs₀ ps₀ hs es₀ r e k t) (K : Knows k ms₀ t) → Came reply.Answered reply.Refused (HoldsKnown cs′ ps′ hs es′ ms′ k) (A F K .table) (ask r more e k (t .dimension) b (A F K .table)) x
-      came {hs} {t} F K = subst (λ (d : ℕ). Came reply.Answered reply.Refused (HoldsKnown cs′ ps′ hs es′ ms′ k) (A F K .table) (cutElement desk (cutOf d k) (r - 1) b (A F K .table)) x) (same-dimension F K l b read) (C .of hs (A F K .table) (fit-next F K l b read) (A F K .knows))
+    module _ (l : i < n) (b : ℕ) (read : b ≡ getD es (e * 36 + (4 + i)) 0) {x : Asked} {cs′ : List ℕ} {ps′ : List Float} {es′ ms′ : List ℕ} (C : ElementAsked cs ps es ms (r - 1) b k x cs′ ps′ es′ ms′) where
+      came : {hs : List Float} {t : Table} (F : Fit cs₀ ps₀ hs es₀ r e k t) (K : Knows k ms₀ t) → Came reply.Answered reply.Refused (HoldsKnown cs′ ps′ hs es′ ms′ k) (A F K .table) (ask r more e k (t .dimension) b (A F K .table)) (replyOf x ms′ b)
+      came {hs} {t} F K = subst (λ (d : ℕ). Came reply.Answered reply.Refused (HoldsKnown cs′ ps′ hs es′ ms′ k) (A F K .table) (cutElement desk (cutOf d k) (r - 1) b (A F K .table)) (replyOf x ms′ b)) (same-dimension F K l b read) (C .of hs (A F K .table) (fit-next F K l b read) (A F K .knows))
 
-      pub round-refused : (m : ℕ) → x ≡ reply.Refused m → BoundaryCut cs₀ ps₀ es₀ ms₀ r e k (record { stop = stop.Refused m; answers = s }) cs′ ps′ es′ ms′
-      round-refused m q = record { of = λ hs t F K. go hs t F K (came F K) }
+      pub round-refused : (m : ℕ) (s′ : Answers) → x ≡ asked.Refused m → BoundaryCut cs₀ ps₀ es₀ ms₀ r e k (asked.Refused m) s′ cs′ ps′ es′ ms′
+      round-refused m s′ q = record { of = λ hs t F K. go hs t F K (came F K) }
         where
-          go : (hs : List Float) (t : Table) (F : Fit cs₀ ps₀ hs es₀ r e k t) (K : Knows k ms₀ t) → Came reply.Answered reply.Refused (HoldsKnown cs′ ps′ hs es′ ms′ k) (A F K .table) (ask r more e k (t .dimension) b (A F K .table)) x
-              → Round (HoldsKnown cs′ ps′ hs es′ ms′ k) t (cutBoundary (cutElement desk (cutOf (t .dimension) k) (r - 1)) (boundary t e) nothingYet t) (record { stop = stop.Refused m; answers = s })
-          go hs t F K (held.went a u o w H) = let z : _≡_ {A = ℕ} 0 1 = cc in absurd (omega arith)
+          no : replyOf x ms′ b ≡ reply.Refused m
+          no = ap (λ (y : Asked). replyOf y ms′ b) q
+
+          go : (hs : List Float) (t : Table) (F : Fit cs₀ ps₀ hs es₀ r e k t) (K : Knows k ms₀ t) → Came reply.Answered reply.Refused (HoldsKnown cs′ ps′ hs es′ ms′ k) (A F K .table) (ask r more e k (t .dimension) b (A F K .table)) (replyOf x ms′ b)
+              → Round (HoldsKnown cs′ ps′ hs es′ ms′ k) t (cutBoundary (cutElement desk (cutOf (t .dimension) k) (r - 1)) (boundary t e) nothingYet t) (asked.Refused m) s′
+          go hs t F K (held.went a u o w H) = let f = no in let z : _≡_ {A = ℕ} 0 1 = cc in absurd (omega arith)
           go hs t F K (held.stopped j u o w y H) =
+              let f = no in
               let z : m ≡ j = cc in
-              stopped j u (opened F K l b read ∙ ap (λ (c : Outcome ElementCutOutput). next c (λ a. cutBoundary (ask r more e k (t .dimension)) (drop (i + 1) (boundary t e)) (gathering b a (A F K .gathered)))) o) (ap stop.Refused z) (extends-trans (A F K .extends) y) H
+              stopped j u (opened F K l b read ∙ ap (λ (c : Outcome ElementCutOutput). next c (λ a. cutBoundary (ask r more e k (t .dimension)) (drop (i + 1) (boundary t e)) (gathering b a (A F K .gathered)))) o) (ap asked.Refused z) (extends-trans (A F K .extends) y) H
 
       kept : (hs : List Float) (t : Table) (F : Fit cs₀ ps₀ hs es₀ r e k t) (K : Knows k ms₀ t) (v : ElementCutOutput) (u : Table) → ask r more e k (t .dimension) b (A F K .table) ≡ done v u → Kept desk (OutputOf (r - 1)) (A F K .table) v u
       kept hs t F K v u o =
           let f = fit-next F K l b read in
           subst (Stays desk (OutputOf (r - 1)) (A F K .table)) o (ask-stays r more e k (t .dimension) b (A F K .table) (A F K .good) (f .plane) (f .used) (f .ranked))
 
-      -- an answer is within the room
-      pub answer-room : AskReady cs₀ ps₀ es₀ ms₀ r e k → (a : ElementCutOutput) → x ≡ reply.Answered a → OutputInRoom a
-      answer-room R a q =
-          let N = A (R .fit) (R .knows) in
-          let f = fit-next (R .fit) (R .knows) l b read in
-          subst ReplyInRoom q (reply-in-room f (λ u H. H .holds .fits .elementRoom) (C .of (R .planes) (N .table) f (N .knows)))
+      -- an answer, which the words say
+      module _ (q : x ≡ asked.Done) (a : ElementCutOutput) (told : a ≡ outputAt ms′ b) where
+        yes : replyOf x ms′ b ≡ reply.Answered a
+        yes = ap (λ (y : Asked). replyOf y ms′ b) q ∙ ap reply.Answered (sym told)
 
-      pub going-on : (a : ElementCutOutput) → x ≡ reply.Answered a → (s′ : Answers) → GatheredIn s b a s′ → Going r more e k cs₀ ps₀ es₀ ms₀ (i + 1) s′ cs′ ps′ es′ ms′
-      going-on a q s′ D = record { of = λ hs t F K. go hs t F K (came F K) }
-        where
-          go : (hs : List Float) (t : Table) (F : Fit cs₀ ps₀ hs es₀ r e k t) (K : Knows k ms₀ t) → Came reply.Answered reply.Refused (HoldsKnown cs′ ps′ hs es′ ms′ k) (A F K .table) (ask r more e k (t .dimension) b (A F K .table)) x → At r more e k hs t (i + 1) s′ cs′ ps′ es′ ms′
-          go hs t F K (held.stopped j u o w y H) = let z : _≡_ {A = ℕ} 0 1 = cc in absurd (omega arith)
-          go hs t F K (held.went v u o w H) =
-              let z : v ≡ a = cc in
-              let S = kept hs t F K a u (o ∙ ap (λ (c : ElementCutOutput). done c u) z) in
-              record {
-                table = u;
-                gathered = gathering b a (A F K .gathered);
-                holds = H .holds;
-                knows = H .knows;
-                good = S .good;
-                extends = extends-trans (A F K .extends) (S .extends);
-                gathers = D .of (A F K .gathered) (A F K .gathers);
-                sets = sets-gathering (r - 1) b a (A F K .gathered) u (ranked-later b (S .extends) (ranked-now F K l b read)) (S .value) (sets-later (r - 1) (A F K .gathered) (S .extends) (A F K .sets));
-                rest = opened F K l b read ∙ ap (λ (c : Outcome ElementCutOutput). next c (λ a. cutBoundary (ask r more e k (t .dimension)) (drop (i + 1) (boundary t e)) (gathering b a (A F K .gathered)))) (o ∙ ap (λ (c : ElementCutOutput). done c u) z);
-              }
+        -- is within the room
+        pub answer-room : AskReady cs₀ ps₀ es₀ ms₀ r e k → OutputInRoom a
+        answer-room R =
+            let N = A (R .fit) (R .knows) in
+            let f = fit-next (R .fit) (R .knows) l b read in
+            subst ReplyInRoom yes (reply-in-room f (λ u H. H .holds .fits .elementRoom) (C .of (R .planes) (N .table) f (N .knows)))
 
-    pub round-done : n ≤ i → i ≤ n → Sized s 32 → BoundaryCut cs₀ ps₀ es₀ ms₀ r e k (record { stop = stop.Done; answers = s }) cs ps es ms
+        pub going-on : (s′ : Answers) → GatheredIn s b a s′ → Going r more e k cs₀ ps₀ es₀ ms₀ (i + 1) s′ cs′ ps′ es′ ms′
+        going-on s′ D = record { of = λ hs t F K. go hs t F K (came F K) }
+          where
+            go : (hs : List Float) (t : Table) (F : Fit cs₀ ps₀ hs es₀ r e k t) (K : Knows k ms₀ t) → Came reply.Answered reply.Refused (HoldsKnown cs′ ps′ hs es′ ms′ k) (A F K .table) (ask r more e k (t .dimension) b (A F K .table)) (replyOf x ms′ b) → At r more e k hs t (i + 1) s′ cs′ ps′ es′ ms′
+            go hs t F K (held.stopped j u o w y H) = let f = yes in let z : _≡_ {A = ℕ} 0 1 = cc in absurd (omega arith)
+            go hs t F K (held.went v u o w H) =
+                let f = yes in
+                let z : v ≡ a = cc in
+                let S = kept hs t F K a u (o ∙ ap (λ (c : ElementCutOutput). done c u) z) in
+                record {
+                  table = u;
+                  gathered = gathering b a (A F K .gathered);
+                  holds = H .holds;
+                  knows = H .knows;
+                  good = S .good;
+                  extends = extends-trans (A F K .extends) (S .extends);
+                  gathers = D .of (A F K .gathered) (A F K .gathers);
+                  sets = sets-gathering (r - 1) b a (A F K .gathered) u (ranked-later b (S .extends) (ranked-now F K l b read)) (S .value) (sets-later (r - 1) (A F K .gathered) (S .extends) (A F K .sets));
+                  rest = opened F K l b read ∙ ap (λ (c : Outcome ElementCutOutput). next c (λ a. cutBoundary (ask r more e k (t .dimension)) (drop (i + 1) (boundary t e)) (gathering b a (A F K .gathered)))) (o ∙ ap (λ (c : ElementCutOutput). done c u) z);
+                }
+
+    pub round-done : n ≤ i → i ≤ n → Sized s 32 → BoundaryCut cs₀ ps₀ es₀ ms₀ r e k asked.Done s cs ps es ms
     round-done h j z = record {
       of = λ hs t F K.
           (let q : i ≡ length (boundary t e) = (let m = size-is more F n size in omega (arith, m, h, j)) in
@@ -234,32 +243,32 @@ cut-higher L c zero e t h = absurd (let z : ⊥ = omega arith in z)
 cut-higher L c (suc zero) e t h = absurd (let z : ⊥ = omega arith in z)
 cut-higher L c (suc (suc q)) e t h = ap (λ (m : ℕ). next (cutBoundary (cutElement L c m) (boundary t e) nothingYet t) (λ g. rule6 L c (element t e) g (g .flush))) (let z : suc q ≡ suc (suc q) - 1 = omega arith in z)
 
-module _ {cs : List ℕ} {ps : List Float} {es ms : List ℕ} {r e : ℕ} {k : Cutter} {g : BoundaryReply} {cs′ : List ℕ} {ps′ : List Float} {es′ ms′ : List ℕ} (more : 1 < r) (B : BoundaryCut cs ps es ms r e k g cs′ ps′ es′ ms′) where
-  pub element-refused : (n : ℕ) → g .stop ≡ stop.Refused n → ElementAsked cs ps es ms r e k (reply.Refused n) cs′ ps′ es′ ms′
+module _ {cs : List ℕ} {ps : List Float} {es ms : List ℕ} {r e : ℕ} {k : Cutter} {y : Asked} {s : Answers} {cs′ : List ℕ} {ps′ : List Float} {es′ ms′ : List ℕ} (more : 1 < r) (B : BoundaryCut cs ps es ms r e k y s cs′ ps′ es′ ms′) where
+  pub element-refused : (n : ℕ) → y ≡ asked.Refused n → ElementAsked cs ps es ms r e k (asked.Refused n) cs′ ps′ es′ ms′
   element-refused n q = record { of = λ hs t F K. go hs t (B .of hs t F K) }
     where
-      go : (hs : List Float) (t : Table) → Round (HoldsKnown cs′ ps′ hs es′ ms′ k) t (cutBoundary (cutElement desk (cutOf (t .dimension) k) (r - 1)) (boundary t e) nothingYet t) g
+      go : (hs : List Float) (t : Table) → Round (HoldsKnown cs′ ps′ hs es′ ms′ k) t (cutBoundary (cutElement desk (cutOf (t .dimension) k) (r - 1)) (boundary t e) nothingYet t) y s
           → Came reply.Answered reply.Refused (HoldsKnown cs′ ps′ hs es′ ms′ k) t (cutElement desk (cutOf (t .dimension) k) r e t) (reply.Refused n)
       go hs t (went x u o w G Z H) = let z : _≡_ {A = ℕ} 0 1 = cc in absurd (omega arith)
-      go hs t (stopped j u o w y H) =
+      go hs t (stopped j u o w x H) =
           let z : n ≡ j = cc in
-          held.stopped j u (cut-higher desk (cutOf (t .dimension) k) r e t more ∙ ap (λ (c : Outcome Gathered). next c (λ x. rule6 desk (cutOf (t .dimension) k) (element t e) x (x .flush))) o) (ap reply.Refused z) y H
+          held.stopped j u (cut-higher desk (cutOf (t .dimension) k) r e t more ∙ ap (λ (c : Outcome Gathered). next c (λ g. rule6 desk (cutOf (t .dimension) k) (element t e) g (g .flush))) o) (ap reply.Refused z) x H
 
-  module _ (q : g .stop ≡ stop.Done) where
+  module _ (q : y ≡ asked.Done) where
     -- where the round ended
     record End (hs : List Float) (t : Table) : Type 0 where
       pub table : Table
       pub gathered : Gathered
       pub ended : cutBoundary (cutElement desk (cutOf (t .dimension) k) (r - 1)) (boundary t e) nothingYet t ≡ done gathered table
       pub extends : Extends t table
-      pub ready : Rule6Fit cs′ ps′ hs es′ r e k (g .answers) table gathered
+      pub ready : Rule6Fit cs′ ps′ hs es′ r e k s table gathered
       pub knows : Knows k ms′ table
 
     end : (hs : List Float) (t : Table) → Fit cs ps hs es r e k t → Knows k ms t → End hs t
     end hs t F K = go (B .of hs t F K)
       where
-        go : Round (HoldsKnown cs′ ps′ hs es′ ms′ k) t (cutBoundary (cutElement desk (cutOf (t .dimension) k) (r - 1)) (boundary t e) nothingYet t) g → End hs t
-        go (stopped j u o w y H) = let z : _≡_ {A = ℕ} 0 1 = cc in absurd (omega arith)
+        go : Round (HoldsKnown cs′ ps′ hs es′ ms′ k) t (cutBoundary (cutElement desk (cutOf (t .dimension) k) (r - 1)) (boundary t e) nothingYet t) y s → End hs t
+        go (stopped j u o w x H) = let z : _≡_ {A = ℕ} 0 1 = cc in absurd (omega arith)
         go (went x u o w G Z H) =
             let S : Kept desk (Sets (r - 1)) t x u =
             subst (Stays desk (Sets (r - 1)) t) o
@@ -294,7 +303,7 @@ module _ {cs : List ℕ} {ps : List Float} {es ms : List ℕ} {r e : ℕ} {k : C
           cut-higher desk (cutOf (t .dimension) k) r e t more ∙ ap (λ (o : Outcome Gathered). next o (λ y. rule6 desk (cutOf (t .dimension) k) (element t e) y (y .flush))) (E .ended)
           ∙ ap₂ (λ (d : ℕ) (y : Element). rule6 desk (cutOf d k) y (E .gathered) (E .gathered .flush) (E .table)) (sym (E .extends .dimension)) (sym (element-same t (E .table) e (E .extends) (F .used)))
 
-      answered : {x : CutReply} {cs″ es″ : List ℕ} → Rule6Done cs′ es′ r e k (g .answers) x cs″ es″ → Came reply.Answered reply.Refused (Holds desk cs″ ps′ hs es″) t (cutElement desk (cutOf (t .dimension) k) r e t) x
+      answered : {x : CutReply} {cs″ es″ : List ℕ} → Rule6Done cs′ es′ r e k s x cs″ es″ → Came reply.Answered reply.Refused (Holds desk cs″ ps′ hs es″) t (cutElement desk (cutOf (t .dimension) k) r e t) x
       answered {x} {cs″} {es″} D = came (D .of ps′ hs (E .table) (E .gathered) (E .ready))
         where
           came : Came reply.Answered reply.Refused (Holds desk cs″ ps′ hs es″) (E .table) (rule6 desk (cutOf (E .table .dimension) k) (element (E .table) e) (E .gathered) (E .gathered .flush) (E .table)) x
@@ -302,7 +311,7 @@ module _ {cs : List ℕ} {ps : List Float} {es ms : List ℕ} {r e : ℕ} {k : C
           came (held.went a u o w H) = held.went a u (whole ∙ o) w H
           came (held.stopped j u o w y H) = held.stopped j u (whole ∙ o) w (extends-trans (E .extends) y) H
 
-    pub rule6-ready : AskReady cs ps es ms r e k → Rule6Ready cs′ es′ r e k (g .answers)
+    pub rule6-ready : AskReady cs ps es ms r e k → Rule6Ready cs′ es′ r e k s
     rule6-ready R =
         let E = end (R .planes) (R .table) (R .fit) (R .knows) in
         record { points = ps′; planes = R .planes; table = E .table; gathered = E .gathered; fit = E .ready }
@@ -310,21 +319,21 @@ module _ {cs : List ℕ} {ps : List Float} {es ms : List ℕ} {r e : ℕ} {k : C
     pub rule6-words : AskReady cs ps es ms r e k → length ms′ ≡ 1536
     rule6-words R = end (R .planes) (R .table) (R .fit) (R .knows) .knows .long
 
-    module _ {x : CutReply} {cs″ es″ : List ℕ} (D : Rule6Done cs′ es′ r e k (g .answers) x cs″ es″) where
+    module _ {x : CutReply} {cs″ es″ : List ℕ} (D : Rule6Done cs′ es′ r e k s x cs″ es″) where
       pub element-room : AskReady cs ps es ms r e k → ReplyInRoom x
       element-room R = reply-in-room (R .fit) (λ u H. H .fits .elementRoom) (answered (R .planes) (R .table) (R .fit) (R .knows) D)
 
-      pub element-answered : {y : CutReply} {ms″ : List ℕ} → y ≡ x → ms″ ≡ withReply ms′ e x → ElementAsked cs ps es ms r e k y cs″ ps′ es″ ms″
-      element-answered {y} {ms″} p h = record { of = λ hs t F K. go hs t F K (D .of ps′ hs (E hs t F K .table) (E hs t F K .gathered) (E hs t F K .ready)) }
+      pub element-answered : {z : Asked} {ms″ : List ℕ} → z ≡ askedBy x → ms″ ≡ withReply ms′ e x → ElementAsked cs ps es ms r e k z cs″ ps′ es″ ms″
+      element-answered {z} {ms″} p h = record { of = λ hs t F K. go hs t F K (D .of ps′ hs (E hs t F K .table) (E hs t F K .gathered) (E hs t F K .ready)) }
         where
           go : (hs : List Float) (t : Table) (F : Fit cs ps hs es r e k t) (K : Knows k ms t)
               → Came reply.Answered reply.Refused (Holds desk cs″ ps′ hs es″) (E hs t F K .table) (rule6 desk (cutOf (E hs t F K .table .dimension) k) (element (E hs t F K .table) e) (E hs t F K .gathered) (E hs t F K .gathered .flush) (E hs t F K .table)) x
-              → Came reply.Answered reply.Refused (HoldsKnown cs″ ps′ hs es″ ms″ k) t (cutElement desk (cutOf (t .dimension) k) r e t) y
+              → Came reply.Answered reply.Refused (HoldsKnown cs″ ps′ hs es″ ms″ k) t (cutElement desk (cutOf (t .dimension) k) r e t) (replyOf z ms″ e)
           go hs t F K (held.went a u o w H) =
               let N = E hs t F K in
               let g = good-of (N .ready .fit) in
               let X = rule6-extends k (N .table .dimension) (r - 1) (element (N .table) e) (N .gathered) a g (N .ready .sets) o in
-              held.went a u (whole hs t F K ∙ o) (p ∙ w) (record { holds = H; knows = kept-went F (whole hs t F K ∙ o) (knows-later g X (N .knows)) w h })
-          go hs t F K (held.stopped j u o w z H) =
+              held.went a u (whole hs t F K ∙ o) (replied-answer F ms′ ms″ (N .knows .long) p w h) (record { holds = H; knows = kept-went F (whole hs t F K ∙ o) (knows-later g X (N .knows)) w h })
+          go hs t F K (held.stopped j u o w v H) =
               let N = E hs t F K in
-              held.stopped j u (whole hs t F K ∙ o) (p ∙ w) (extends-trans (N .extends) z) (record { holds = H; knows = kept-stopped e (knows-later (good-of (N .ready .fit)) z (N .knows)) w h })
+              held.stopped j u (whole hs t F K ∙ o) (replied-refusal e ms″ p w) (extends-trans (N .extends) v) (record { holds = H; knows = kept-stopped e (knows-later (good-of (N .ready .fit)) v (N .knows)) w h })

@@ -31,23 +31,21 @@ use Rattle.gathered.specs.Sets.{InRoom, OutputInRoom}
 use Rattle.gathered.specs.Cutting.{cutOf, Fit}
 use Rattle.gathered.specs.declared.answer.Cutter.{Cutter}
 use Rattle.ends.specs.Elements.{Ready, ElementCut}
-use Rattle.cut.specs.Known.{answerAt, withAnswer, withReply, ReplyInRoom, Knows, HoldsKnown}
+use Rattle.cut.specs.Known.{knownAt, outputAt, withAnswer, withReply, ReplyInRoom, askedBy, replyOf, Knows, HoldsKnown}
 use Rattle.cut.specs.Rounds.{AskReady, ElementAsked}
-use Rattle.cut.specs.declared.known.Recalled.{Recalled}
-use Rattle.cut.specs.declared.known.Recalled.the-variants as recalled
-use Rattle.cut.proofs.Words.{zeros-none, kept-long, kept-same, kept-other}
+use Rattle.cut.specs.declared.known.Asked.{Asked}
+use Rattle.cut.specs.declared.known.Asked.the-variants as asked
+use Rattle.cut.proofs.Words.{zeros-unknown, kept-long, kept-same, kept-other-known, kept-other}
 
 -- nothing is known at first
 pub knows-nothing : (k : Cutter) (t : Table) → Knows k (replicate 1536 0) t
-knows-nothing k t = record {
-  long = length-replicate {A = ℕ} 1536 0;
-  of = λ e a h p.
-      let n : recalled.None ≡ answerAt (replicate 1536 0) e = zeros-none 1536 e in
-      let z : _≡_ {A = ℕ} 0 1 = cc in
-      absurd (omega arith);
-}
+knows-nothing k t = record { long = length-replicate {A = ℕ} 1536 0; of = λ e h p. absurd (true≢false (sym p ∙ zeros-unknown 1536 e)) }
 
 -- ---- an element that was asked
+
+-- asking element j in table u gives that answer, and adds nothing
+abbrev Told : Cutter → Table → ElementCutOutput → ℕ → Type 0
+Told k u a j = (j < elementCount u) × (cutElement desk (cutOf (u .dimension) k) (rank u j) j u ≡ done a u)
 
 module _ (k : Cutter) (e : ℕ) (a : ElementCutOutput) {t u : Table} (g : Good desk t) (l : e < elementCount t) (o : cutElement desk (cutOf (t .dimension) k) (rank t e) e t ≡ done a u) where
   replays : Replays same OutputIn t (cutElement desk (cutOf (t .dimension) k) (rank t e) e) a u
@@ -57,7 +55,7 @@ module _ (k : Cutter) (e : ℕ) (a : ElementCutOutput) {t u : Table} (g : Good d
   asked-extends = replays .extends
 
   -- asked again, in any later table
-  pub asked-again : {v : Table} → Extends u v → (e < elementCount v) × (cutElement desk (cutOf (v .dimension) k) (rank v e) e v ≡ done a v)
+  pub asked-again : {v : Table} → Extends u v → Told k v a e
   asked-again {v} x =
       let y : Extends t v = extends-trans (replays .extends) x in
       (le-trans l (count-more y), ap₂ (λ (d n : ℕ). cutElement desk (cutOf d k) n e v) (y .dimension) (rank-same t v e y l) ∙ replays .replay v x)
@@ -76,28 +74,21 @@ module _ (k : Cutter) (e : ℕ) (a : ElementCutOutput) {t u : Table} (g : Good d
 
   -- its answer is kept
   pub knows-more : {ms : List ℕ} → e < 512 → Knows k ms u → Knows k (withAnswer ms e a) u
-  knows-more {ms} low K = record { long = kept-long ms e a ∙ K .long; of = λ j b h q. go j b h q (eqb j e) refl }
+  knows-more {ms} low K = record { long = kept-long ms e a ∙ K .long; of = λ j h q. go j h q (eqb j e) refl }
     where
-      long : length ms ≡ 1536
-      long = K .long
+      there : outputAt (withAnswer ms e a) e ≡ a
+      there = kept-same ms e a (let long = K .long in omega (arith, low, long))
 
-      there : answerAt (withAnswer ms e a) e ≡ recalled.Answer a
-      there = kept-same ms e a (omega (arith, low, long))
-
-      go : (j : ℕ) (b : ElementCutOutput) → j < 512 → answerAt (withAnswer ms e a) j ≡ recalled.Answer b → (c : Bool) → eqb j e ≡ c
-          → (j < elementCount u) × (cutElement desk (cutOf (u .dimension) k) (rank u j) j u ≡ done b u)
-      go j b h q true p =
-          let i : j ≡ e = eq-test j e p in
-          let n : answerAt (withAnswer ms e a) e ≡ recalled.Answer b = subst (λ (x : ℕ). answerAt (withAnswer ms e a) x ≡ recalled.Answer b) i q in
-          let z : a ≡ b = cc there in
-          subst (λ (x : ℕ). (x < elementCount u) × (cutElement desk (cutOf (u .dimension) k) (rank u x) x u ≡ done b u)) (sym i)
-          (subst (λ (y : ElementCutOutput). (e < elementCount u) × (cutElement desk (cutOf (u .dimension) k) (rank u e) e u ≡ done y u)) z (asked-again (extends-refl u)))
-      go j b h q false p =
-          K .of j b h (sym (kept-other ms e a j (λ i. true≢false (sym (test-eq j e i) ∙ p))) ∙ q)
+      go : (j : ℕ) → j < 512 → knownAt (withAnswer ms e a) j ≡ true → (c : Bool) → eqb j e ≡ c → Told k u (outputAt (withAnswer ms e a) j) j
+      go j h q true p =
+          subst (λ (i : ℕ). Told k u (outputAt (withAnswer ms e a) i) i) (sym (eq-test j e p)) (subst (λ (y : ElementCutOutput). Told k u y e) (sym there) (asked-again (extends-refl u)))
+      go j h q false p =
+          let other : j ≡ e → ⊥ = λ i. true≢false (sym (test-eq j e i) ∙ p) in
+          subst (λ (y : ElementCutOutput). Told k u y j) (sym (kept-other ms e a j other)) (K .of j h (sym (kept-other-known ms e a j other) ∙ q))
 
 -- what is known stays known
 pub knows-later : {k : Cutter} {ms : List ℕ} {t u : Table} → Good desk t → Extends t u → Knows k ms t → Knows k ms u
-knows-later {k} {ms} {t} {u} g x K = record { long = K .long; of = λ e a h q. asked-again k e a g (K .of e a h q .0) (K .of e a h q .1) x }
+knows-later {k} {ms} {t} {u} g x K = record { long = K .long; of = λ e h q. asked-again k e (outputAt ms e) g (K .of e h q .0) (K .of e h q .1) x }
 
 -- ---- rule 6 only adds
 
@@ -139,6 +130,15 @@ module _ {cs : List ℕ} {ps hs : List Float} {es : List ℕ} {r e : ℕ} {k : C
       subst (λ (m : List ℕ). Knows k m u) (sym (q ∙ ap (withReply ms e) w))
       (knows-more k e a (sound-good desk t (F .sound)) (F .used) (ranked-cut o) (le-trans (F .used) (F .holds .fits .elementRoom)) K)
 
+  -- the words say the answer
+  pub replied-answer : {a : ElementCutOutput} {x : CutReply} {y : Asked} (ms ms′ : List ℕ) → length ms ≡ 1536 → y ≡ askedBy x → x ≡ reply.Answered a → ms′ ≡ withReply ms e x → replyOf y ms′ e ≡ reply.Answered a
+  replied-answer {a} ms ms′ long p w q =
+      let low = le-trans (F .used) (F .holds .fits .elementRoom) in
+      ap₂ (λ (z : Asked) (m : List ℕ). replyOf z m e) (p ∙ ap askedBy w) (q ∙ ap (withReply ms e) w) ∙ ap reply.Answered (kept-same ms e a (omega (arith, low, long)))
+
+pub replied-refusal : (e : ℕ) (ms′ : List ℕ) {n : ℕ} {x : CutReply} {y : Asked} → y ≡ askedBy x → x ≡ reply.Refused n → replyOf y ms′ e ≡ reply.Refused n
+replied-refusal e ms′ p w = ap (λ (z : Asked). replyOf z ms′ e) (p ∙ ap askedBy w)
+
 -- and after a refusal
 pub kept-stopped : {k : Cutter} (e : ℕ) {u : Table} {n : ℕ} {ms ms′ : List ℕ} {x : CutReply} → Knows k ms u → x ≡ reply.Refused n → ms′ ≡ withReply ms e x → Knows k ms′ u
 kept-stopped {k} e {u} {n} {ms} K w q = subst (λ (m : List ℕ). Knows k m u) (sym (q ∙ ap (withReply ms e) w)) K
@@ -156,26 +156,33 @@ module _ {cs : List ℕ} {ps : List Float} {es ms : List ℕ} {r e : ℕ} {k : C
   ask-low R = le-trans (R .fit .used) (R .fit .holds .fits .elementRoom)
 
   -- a known answer is the answer
-  pub recalled-asked : (a : ElementCutOutput) (y : Recalled) → e < 512 → y ≡ answerAt ms e → y ≡ recalled.Answer a → ElementAsked cs ps es ms r e k (reply.Answered a) cs ps es ms
-  recalled-asked a y low p q = record {
+  pub known-asked : (y : Bool) → e < 512 → y ≡ knownAt ms e → y ≡ true → ElementAsked cs ps es ms r e k asked.Done cs ps es ms
+  known-asked y low p q = record {
     of = λ hs t F K.
-        let A = K .of e a low (sym p ∙ q) in
-        held.went a t (ap (λ (n : ℕ). cutElement desk (cutOf (t .dimension) k) n e t) (sym (F .ranked)) ∙ A .1) refl (record { holds = F .holds; knows = K });
+        held.went (outputAt ms e) t (ap (λ (n : ℕ). cutElement desk (cutOf (t .dimension) k) n e t) (sym (F .ranked)) ∙ K .of e low (sym p ∙ q) .1) refl (record { holds = F .holds; knows = K });
   }
+
+  -- the words are as many after it
+  pub asked-words : {x : Asked} {cs′ : List ℕ} {ps′ : List Float} {es′ ms′ : List ℕ} → AskReady cs ps es ms r e k → ElementAsked cs ps es ms r e k x cs′ ps′ es′ ms′ → length ms′ ≡ 1536
+  asked-words {x} {cs′} {ps′} {es′} {ms′} R C = go (C .of (R .planes) (R .table) (R .fit) (R .knows))
+    where
+      go : Came reply.Answered reply.Refused (HoldsKnown cs′ ps′ (R .planes) es′ ms′ k) (R .table) (cutElement desk (cutOf (R .table .dimension) k) r e (R .table)) (replyOf x ms′ e) → length ms′ ≡ 1536
+      go (held.went a u o w H) = H .knows .long
+      go (held.stopped n u o w y H) = H .knows .long
 
   -- a vertex element or an edge
   module _ {x : CutReply} {cs′ : List ℕ} {ps′ : List Float} {es′ : List ℕ} (C : ElementCut cs ps es r e k x cs′ ps′ es′) where
     pub low-room : AskReady cs ps es ms r e k → ReplyInRoom x
     low-room R = reply-in-room (R .fit) (λ u H. H .fits .elementRoom) (C .of (R .planes) (R .table) (R .fit))
 
-    pub low-asked : {y : CutReply} {ms′ : List ℕ} → y ≡ x → ms′ ≡ withReply ms e x → ElementAsked cs ps es ms r e k y cs′ ps′ es′ ms′
+    pub low-asked : {y : Asked} {ms′ : List ℕ} → y ≡ askedBy x → ms′ ≡ withReply ms e x → ElementAsked cs ps es ms r e k y cs′ ps′ es′ ms′
     low-asked {y} {ms′} p q = record { of = λ hs t F K. go hs t F K (C .of hs t F) }
       where
         go : (hs : List Float) (t : Table) → Fit cs ps hs es r e k t → Knows k ms t
             → Came reply.Answered reply.Refused (Holds desk cs′ ps′ hs es′) t (cutElement desk (cutOf (t .dimension) k) r e t) x
-            → Came reply.Answered reply.Refused (HoldsKnown cs′ ps′ hs es′ ms′ k) t (cutElement desk (cutOf (t .dimension) k) r e t) y
+            → Came reply.Answered reply.Refused (HoldsKnown cs′ ps′ hs es′ ms′ k) t (cutElement desk (cutOf (t .dimension) k) r e t) (replyOf y ms′ e)
         go hs t F K (held.went a u o w H) =
             let g = sound-good desk t (F .sound) in
-            held.went a u o (p ∙ w) (record { holds = H; knows = kept-went F o (knows-later g (asked-extends k e a g (F .used) (ranked-cut F o)) K) w q })
+            held.went a u o (replied-answer F ms ms′ (K .long) p w q) (record { holds = H; knows = kept-went F o (knows-later g (asked-extends k e a g (F .used) (ranked-cut F o)) K) w q })
         go hs t F K (held.stopped n u o w z H) =
-            held.stopped n u o (p ∙ w) z (record { holds = H; knows = kept-stopped e (knows-later (sound-good desk t (F .sound)) z K) w q })
+            held.stopped n u o (replied-refusal e ms′ p w) z (record { holds = H; knows = kept-stopped e (knows-later (sound-good desk t (F .sound)) z K) w q })

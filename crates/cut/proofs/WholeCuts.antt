@@ -1,21 +1,18 @@
 -- The whole cut: the hyperplane's step, then the root's; a refusal of either gives back the memory, since all that was done is to append.
 use Prim.Native.Nat.{ℕ, _*_, _≤_, _<_}
 use mathlib.Core.Path.{_≡_, sym, ap, ap₂, _∙_, subst}
-use mathlib.Core.Bool.{Bool, true, false}
-use mathlib.Core.Option.{Option, none, some}
+use mathlib.Core.Bool.{Bool}
 use mathlib.Core.List.{List}
 use native.Mathlib.Nat.{le-trans, le-of-eq}
 use native.Mathlib.Omega.{arith}
-use lib.Dec.{ltb}
-use lib.ListN.{length, getD, drop, replicate}
+use lib.ListN.{length, getD, replicate}
 use lib.Ieee.{Float}
 use Rattle.rules.specs.Limits.{desk}
 use Rattle.rules.specs.Memory.{Memory}
-use Rattle.rules.specs.Lists.{if_then_else_, findFrom}
-use Rattle.rules.specs.Table.{Plane, Table, elementCount, rank, primordials}
+use Rattle.rules.specs.Table.{Element, Plane, Table, elementCount, rank}
 use Rattle.rules.specs.Held as held
 use Rattle.rules.specs.Held.{Extends, Holds, Came, memoryOf}
-use Rattle.rules.specs.Cut.{Outcome, refused, done, next, withPlane, sharePlane, planeMatches, addPlane, cutElement, cutFinite}
+use Rattle.rules.specs.Cut.{Outcome, done, next, addPlane, cutElement, cutFinite}
 use Rattle.rules.specs.Replies.{dividerOf, written}
 use Rattle.rules.specs.declared.Hyperplane.{Hyperplane}
 use Rattle.rules.specs.declared.HyperplaneId.{HyperplaneId}
@@ -25,6 +22,7 @@ use Rattle.rules.specs.declared.CutReply.the-variants as reply
 use Rattle.rules.proofs.Extends.{extends-trans, count-more, begins-length}
 use Rattle.rules.proofs.Good.{Good, sound-good, good-sound}
 use Rattle.rules.proofs.Laws.{le-test}
+use Rattle.rules.proofs.Missed.{Unmoved, plane-unmoved}
 use Rattle.rules.proofs.Stays.{Stays, Kept, plane-stays}
 use Rattle.space.specs.Shared.{HyperplaneAdded, hyperplaneAt}
 use Rattle.space.specs.Restored.{Restored}
@@ -36,7 +34,9 @@ use Rattle.space.proofs.RowAdds.{readable-desk}
 use Rattle.space.proofs.Slices.{slices}
 use Rattle.gathered.specs.Cutting.{Fit, cutOf}
 use Rattle.gathered.specs.declared.answer.Cutter.{Cutter}
-use Rattle.cut.specs.Known.{HoldsKnown}
+use Rattle.cut.specs.Known.{HoldsKnown, outputAt, replyOf}
+use Rattle.cut.specs.declared.known.Asked.{Asked}
+use Rattle.cut.specs.declared.known.Asked.the-variants as asked
 use Rattle.cut.specs.Rounds.{AskReady, ElementAsked}
 use Rattle.cut.specs.Whole.{CutFit, CutReady, CutTried, WholeCut}
 use Rattle.cut.proofs.StaysKnown.{knows-nothing}
@@ -52,17 +52,8 @@ isRefused (hyperplane.Refused n) = 1
 isRefused (hyperplane.At n) = 0
 
 -- a hyperplane adds no element
-no-element : (o : Option ℕ) (g : Plane) (t u : Table) (v : ℕ) → sharePlane desk g o t ≡ done v u → elementCount u ≡ elementCount t
-no-element (some n) g t u v e = ap elementCount (let z : u ≡ t = cc in z)
-no-element none g t u v e = go (ltb (length (t .planes)) 64) e
-  where
-    go : (b : Bool) → (if b then done (length (t .planes)) (withPlane g t) else refused 10) ≡ done v u → elementCount u ≡ elementCount t
-    go true q = ap elementCount (let z : u ≡ withPlane g t = cc in z)
-    go false q = let z : _≡_ {A = ℕ} 0 1 = cc in absurd (omega arith)
-
 plane-count : (g : Plane) (t u : Table) (v : ℕ) → addPlane desk g t ≡ done v u → elementCount u ≡ elementCount t
-unfolding addPlane
-plane-count g t u v e = let p = primordials (t .dimension) in no-element (findFrom p (λ f. planeMatches f g) (drop p (t .planes))) g t u v e
+plane-count g t u v e = ap (λ (es : List Element). length es) (subst (Unmoved t) e (plane-unmoved desk g t) .0)
 
 -- the table once the hyperplane is there
 record Named (ps : List Float) (es : List ℕ) (h : Hyperplane) (cs₁ : List ℕ) (hs₁ : List Float) (v : ℕ) (t : Table) : Type 0 where
@@ -144,9 +135,9 @@ module _ {cs : List ℕ} {ps hs : List Float} {es : List ℕ} {h : Hyperplane} {
         pub root-ready : CutReady cs ps hs es h root → AskReady cs₁ ps es (replicate 1536 0) r root (cutter h v i o)
         root-ready R = record { planes = hs₁; table = named (R .fit) .table; fit = root-fit (R .fit); knows = knows-nothing (cutter h v i o) (named (R .fit) .table) }
 
-        pub root-cut : {y : CutReply} {cs₂ : List ℕ} {ps₂ : List Float} {es₂ ms₂ : List ℕ} → ElementAsked cs₁ ps es (replicate 1536 0) r root (cutter h v i o) y cs₂ ps₂ es₂ ms₂
-            → CutTried cs ps hs es h i o root y cs₂ ps₂ hs₁ es₂
-        root-cut {y} {cs₂} {ps₂} {es₂} {ms₂} C = record { of = λ t F. go t F (C .of hs₁ (named F .table) (root-fit F) (knows-nothing (cutter h v i o) (named F .table))) }
+        pub root-cut : {x : Asked} {cs₂ : List ℕ} {ps₂ : List Float} {es₂ ms₂ : List ℕ} → ElementAsked cs₁ ps es (replicate 1536 0) r root (cutter h v i o) x cs₂ ps₂ es₂ ms₂
+            → (y : CutReply) → replyOf x ms₂ root ≡ y → CutTried cs ps hs es h i o root y cs₂ ps₂ hs₁ es₂
+        root-cut {x} {cs₂} {ps₂} {es₂} {ms₂} C y told = record { of = λ t F. go t F (C .of hs₁ (named F .table) (root-fit F) (knows-nothing (cutter h v i o) (named F .table))) }
           where
             steps : (t : Table) (F : CutFit cs ps hs es h root t)
                 → cutFinite desk (dividerOf (t .dimension) h) i o root t ≡ cutElement desk (cutOf (named F .table .dimension) (cutter h v i o)) r root (named F .table)
@@ -155,10 +146,17 @@ module _ {cs : List ℕ} {ps hs : List Float} {es : List ℕ} {h : Hyperplane} {
                 ∙ ap₂ (λ (d n : ℕ). cutElement desk (cutOf d (cutter h v i o)) n root (named F .table)) (sym (named F .extends .dimension)) (root-fit F .ranked)
 
             go : (t : Table) (F : CutFit cs ps hs es h root t)
-                → Came reply.Answered reply.Refused (HoldsKnown cs₂ ps₂ hs₁ es₂ ms₂ (cutter h v i o)) (named F .table) (cutElement desk (cutOf (named F .table .dimension) (cutter h v i o)) r root (named F .table)) y
+                → Came reply.Answered reply.Refused (HoldsKnown cs₂ ps₂ hs₁ es₂ ms₂ (cutter h v i o)) (named F .table) (cutElement desk (cutOf (named F .table .dimension) (cutter h v i o)) r root (named F .table)) (replyOf x ms₂ root)
                 → Came reply.Answered reply.Refused (Holds desk cs₂ ps₂ hs₁ es₂) t (cutFinite desk (dividerOf (t .dimension) h) i o root t) y
-            go t F (held.went a u m w H) = held.went a u (steps t F ∙ m) w (H .holds)
-            go t F (held.stopped j u m w z H) = held.stopped j u (steps t F ∙ m) w (extends-trans (named F .extends) z) (H .holds)
+            go t F (held.went a u m w H) = held.went a u (steps t F ∙ m) (sym told ∙ w) (H .holds)
+            go t F (held.stopped j u m w z H) = held.stopped j u (steps t F ∙ m) (sym told ∙ w) (extends-trans (named F .extends) z) (H .holds)
+
+-- the reply, by how asking ended
+pub root-refused : {x : Asked} {n : ℕ} (ms : List ℕ) (root : ℕ) → x ≡ asked.Refused n → replyOf x ms root ≡ reply.Refused n
+root-refused ms root q = ap (λ (y : Asked). replyOf y ms root) q
+
+pub root-answered : {x : Asked} {a : ElementCutOutput} (ms : List ℕ) (root : ℕ) → x ≡ asked.Done → a ≡ outputAt ms root → replyOf x ms root ≡ reply.Answered a
+root-answered ms root q told = ap (λ (y : Asked). replyOf y ms root) q ∙ ap reply.Answered (sym told)
 
 -- ---- the memory given back
 

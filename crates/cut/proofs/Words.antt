@@ -1,8 +1,10 @@
 -- The words of what a cut knows: what is kept of an element is read back, and the words of the others stay.
 use Prim.Native.Nat.{ℕ, zero, suc, _+_, _-_, _*_, _<_}
 use mathlib.Core.Path.{_≡_, refl, sym, ap, _∙_, subst}
+use mathlib.Core.Bool.{false}
 use mathlib.Core.List.{List}
 use native.Mathlib.Omega.{arith}
+use lib.Dec.{ltb}
 use lib.ListN.{length, getD, set, length-set, replicate}
 use lib.Seq.{getD-set-same, getD-set-other}
 use Rattle.rules.specs.declared.ElementOrNone.{ElementOrNone}
@@ -13,8 +15,8 @@ use Rattle.rules.specs.declared.ElementId.{ElementId}
 use Rattle.rules.specs.declared.CutReply.{CutReply}
 use Rattle.rules.specs.declared.CutReply.the-variants as reply
 use Rattle.gathered.specs.Sets.{InRoom}
-use Rattle.cut.specs.Known.{wordOf, someOf, answerOf, answerAt, threeAt, withAnswer, withReply, ReplyInRoom}
-use Rattle.cut.specs.declared.known.Recalled.the-variants as recalled
+use Rattle.cut.specs.Known.{wordOf, someOf, outputOf, knownAt, outputAt, threeAt, withAnswer, withReply, ReplyInRoom, askedBy}
+use Rattle.cut.specs.declared.known.Asked.the-variants as asked
 
 -- ---- a word and its element
 
@@ -40,29 +42,23 @@ some-is (suc (suc e)) n h q = let z : n ≡ e = omega (arith, q) in ap (λ (i : 
 
 -- ---- what three words say
 
-pub answer-none : (ms : List ℕ) (e : ℕ) → getD ms (e * 3) 0 ≡ 0 → recalled.None ≡ answerAt ms e
-unfolding answerAt
-answer-none ms e q = ap (λ (a : ℕ). answerOf a (getD ms (e * 3 + 1) 0) (getD ms (e * 3 + 2) 0)) (sym q)
+flush-of : (a b c : ℕ) → b ≡ 0 → Flush ≡ outputOf a b c
+flush-of a zero c q = refl
+flush-of a (suc b) c q = absurd (omega arith)
 
-flush-of : (a b c : ℕ) → 0 < a → b ≡ 0 → recalled.Answer Flush ≡ answerOf a b c
-flush-of zero b c h q = absurd (omega arith)
-flush-of (suc a) zero c h q = refl
-flush-of (suc a) (suc b) c h q = absurd (omega arith)
+sides-of : (a b c : ℕ) → 0 < b → NonFlush (someOf a) (someOf b) (someOf c) ≡ outputOf a b c
+sides-of a zero c q = absurd (omega arith)
+sides-of a (suc b) c q = refl
 
-pub answer-flush : (ms : List ℕ) (e : ℕ) → 0 < getD ms (e * 3) 0 → getD ms (e * 3 + 1) 0 ≡ 0 → recalled.Answer Flush ≡ answerAt ms e
-unfolding answerAt
-answer-flush ms e h q = flush-of (getD ms (e * 3) 0) (getD ms (e * 3 + 1) 0) (getD ms (e * 3 + 2) 0) h q
+pub output-flush : (ms : List ℕ) (e : ℕ) → getD ms (e * 3 + 1) 0 ≡ 0 → Flush ≡ outputAt ms e
+unfolding outputAt
+output-flush ms e q = flush-of (getD ms (e * 3) 0) (getD ms (e * 3 + 1) 0) (getD ms (e * 3 + 2) 0) q
 
-sides-of : (a b c : ℕ) → 0 < a → 0 < b → recalled.Answer (NonFlush (someOf a) (someOf b) (someOf c)) ≡ answerOf a b c
-sides-of zero b c h q = absurd (omega arith)
-sides-of (suc a) zero c h q = absurd (omega arith)
-sides-of (suc a) (suc b) c h q = refl
-
-pub answer-sides : (ms : List ℕ) (e : ℕ) (i o x : ElementOrNone) → 0 < getD ms (e * 3) 0 → 0 < getD ms (e * 3 + 1) 0
-    → i ≡ someOf (getD ms (e * 3) 0) → o ≡ someOf (getD ms (e * 3 + 1) 0) → x ≡ someOf (getD ms (e * 3 + 2) 0) → recalled.Answer (NonFlush i o x) ≡ answerAt ms e
-unfolding answerAt
-answer-sides ms e i o x h q hi ho hx =
-    (λ l. recalled.Answer (NonFlush (hi l) (ho l) (hx l))) ∙ sides-of (getD ms (e * 3) 0) (getD ms (e * 3 + 1) 0) (getD ms (e * 3 + 2) 0) h q
+pub output-sides : (ms : List ℕ) (e : ℕ) (i o x : ElementOrNone) → 0 < getD ms (e * 3 + 1) 0
+    → i ≡ someOf (getD ms (e * 3) 0) → o ≡ someOf (getD ms (e * 3 + 1) 0) → x ≡ someOf (getD ms (e * 3 + 2) 0) → NonFlush i o x ≡ outputAt ms e
+unfolding outputAt
+output-sides ms e i o x q hi ho hx =
+    (λ l. NonFlush (hi l) (ho l) (hx l)) ∙ sides-of (getD ms (e * 3) 0) (getD ms (e * 3 + 1) 0) (getD ms (e * 3 + 2) 0) q
 
 -- ---- nothing is kept yet
 
@@ -71,8 +67,9 @@ zero-get zero i = refl
 zero-get (suc n) zero = refl
 zero-get (suc n) (suc i) = zero-get n i
 
-pub zeros-none : (n e : ℕ) → recalled.None ≡ answerAt (replicate n 0) e
-zeros-none n e = answer-none (replicate n 0) e (zero-get n (e * 3))
+pub zeros-unknown : (n e : ℕ) → knownAt (replicate n 0) e ≡ false
+unfolding knownAt
+zeros-unknown n e = ap (ltb 0) (zero-get n (e * 3))
 
 -- ---- three words are written
 
@@ -89,16 +86,20 @@ module _ (ms : List ℕ) (e a b c : ℕ) where
       ∙ getD-set-other (set ms (e * 3) a) (e * 3 + 1) i b 0 q
       ∙ getD-set-other ms (e * 3) i a 0 p
 
-  pub three-other : (j : ℕ) → (j ≡ e → ⊥) → answerAt (threeAt ms e a b c) j ≡ answerAt ms j
-  unfolding answerAt
-  three-other j n = λ l. answerOf
+  pub three-other-known : (j : ℕ) → (j ≡ e → ⊥) → knownAt (threeAt ms e a b c) j ≡ knownAt ms j
+  unfolding knownAt
+  three-other-known j n = ap (ltb 0) (other-word (j * 3) (λ q. n (omega arith)) (λ q. absurd (omega arith)) (λ q. absurd (omega arith)))
+
+  pub three-other : (j : ℕ) → (j ≡ e → ⊥) → outputAt (threeAt ms e a b c) j ≡ outputAt ms j
+  unfolding outputAt
+  three-other j n = λ l. outputOf
       (other-word (j * 3) (λ q. n (omega arith)) (λ q. absurd (omega arith)) (λ q. absurd (omega arith)) l)
       (other-word (j * 3 + 1) (λ q. absurd (omega arith)) (λ q. n (omega arith)) (λ q. absurd (omega arith)) l)
       (other-word (j * 3 + 2) (λ q. absurd (omega arith)) (λ q. absurd (omega arith)) (λ q. n (omega arith)) l)
 
-  pub three-same : e * 3 + 2 < length ms → answerAt (threeAt ms e a b c) e ≡ answerOf a b c
-  unfolding answerAt threeAt
-  three-same h = λ l. answerOf (first l) (second l) (third l)
+  pub three-same : e * 3 + 2 < length ms → outputAt (threeAt ms e a b c) e ≡ outputOf a b c
+  unfolding outputAt threeAt
+  three-same h = λ l. outputOf (first l) (second l) (third l)
     where
       m₁ : List ℕ
       m₁ = set ms (e * 3) a
@@ -129,8 +130,8 @@ some-word : (x : ElementOrNone) → someOf (wordOf x) ≡ x
 some-word None = refl
 some-word (Some e) = refl
 
-word-answer : (i o x : ElementOrNone) → answerOf (wordOf i) (wordOf o) (wordOf x) ≡ recalled.Answer (NonFlush i o x)
-word-answer i o x = sym (sides-of (wordOf i) (wordOf o) (wordOf x) (above i) (above o)) ∙ (λ l. recalled.Answer (NonFlush (some-word i l) (some-word o l) (some-word x l)))
+word-output : (i o x : ElementOrNone) → outputOf (wordOf i) (wordOf o) (wordOf x) ≡ NonFlush i o x
+word-output i o x = sym (sides-of (wordOf i) (wordOf o) (wordOf x) (above o)) ∙ (λ l. NonFlush (some-word i l) (some-word o l) (some-word x l))
   where
     above : (y : ElementOrNone) → 0 < wordOf y
     above None = omega arith
@@ -141,11 +142,15 @@ module _ (ms : List ℕ) (e : ℕ) where
   kept-long Flush = three-long ms e 1 0 0
   kept-long (NonFlush i o x) = three-long ms e (wordOf i) (wordOf o) (wordOf x)
 
-  pub kept-same : (a : ElementCutOutput) → e * 3 + 2 < length ms → answerAt (withAnswer ms e a) e ≡ recalled.Answer a
+  pub kept-same : (a : ElementCutOutput) → e * 3 + 2 < length ms → outputAt (withAnswer ms e a) e ≡ a
   kept-same Flush h = three-same ms e 1 0 0 h
-  kept-same (NonFlush i o x) h = three-same ms e (wordOf i) (wordOf o) (wordOf x) h ∙ word-answer i o x
+  kept-same (NonFlush i o x) h = three-same ms e (wordOf i) (wordOf o) (wordOf x) h ∙ word-output i o x
 
-  pub kept-other : (a : ElementCutOutput) (j : ℕ) → (j ≡ e → ⊥) → answerAt (withAnswer ms e a) j ≡ answerAt ms j
+  pub kept-other-known : (a : ElementCutOutput) (j : ℕ) → (j ≡ e → ⊥) → knownAt (withAnswer ms e a) j ≡ knownAt ms j
+  kept-other-known Flush j n = three-other-known ms e 1 0 0 j n
+  kept-other-known (NonFlush i o x) j n = three-other-known ms e (wordOf i) (wordOf o) (wordOf x) j n
+
+  pub kept-other : (a : ElementCutOutput) (j : ℕ) → (j ≡ e → ⊥) → outputAt (withAnswer ms e a) j ≡ outputAt ms j
   kept-other Flush j n = three-other ms e 1 0 0 j n
   kept-other (NonFlush i o x) j n = three-other ms e (wordOf i) (wordOf o) (wordOf x) j n
 
@@ -160,6 +165,13 @@ module _ (ms : List ℕ) (e : ℕ) where
       → u ≡ wordOf i → v ≡ wordOf o → w ≡ wordOf y → ms′ ≡ threeAt ms e u v w → ms′ ≡ withReply ms e x
   reply-sides x a i o y u v w ms′ q p hu hv hw h =
       h ∙ (λ l. threeAt ms e (hu l) (hv l) (hw l)) ∙ ap (withReply ms e) (sym (q ∙ ap reply.Answered p))
+
+-- whether it was answered, by what it is
+pub asked-refused : (x : CutReply) (n : ℕ) → x ≡ reply.Refused n → asked.Refused n ≡ askedBy x
+asked-refused x n q = ap askedBy (sym q)
+
+pub asked-done : (x : CutReply) (a : ElementCutOutput) → x ≡ reply.Answered a → asked.Done ≡ askedBy x
+asked-done x a q = ap askedBy (sym q)
 
 pub reply-room : (x : CutReply) (a : ElementCutOutput) (i o y : ElementOrNone) → x ≡ reply.Answered a → a ≡ NonFlush i o y → ReplyInRoom x → InRoom i × InRoom o × InRoom y
 reply-room x a i o y q p h = subst ReplyInRoom (q ∙ ap reply.Answered p) h

@@ -1,7 +1,9 @@
 -- What a cut remembers: the words of the answers given so far, and when they are true of a table. Definitions only.
 use Prim.Native.Nat.{ℕ, zero, suc, _+_, _*_, _<_}
 use mathlib.Core.Path.{_≡_}
+use mathlib.Core.Bool.{Bool, true}
 use mathlib.Core.List.{List}
+use lib.Dec.{ltb}
 use lib.ListN.{length, getD, set}
 use lib.Ieee.{Float}
 use Rattle.rules.specs.Limits.{desk}
@@ -17,8 +19,8 @@ use Rattle.rules.specs.declared.CutReply.the-variants as reply
 use Rattle.gathered.specs.Sets.{OutputInRoom}
 use Rattle.gathered.specs.Cutting.{cutOf}
 use Rattle.gathered.specs.declared.answer.Cutter.{Cutter}
-use Rattle.cut.specs.declared.known.Recalled.{Recalled}
-use Rattle.cut.specs.declared.known.Recalled.the-variants as recalled
+use Rattle.cut.specs.declared.known.Asked.{Asked}
+use Rattle.cut.specs.declared.known.Asked.the-variants as asked
 
 -- ---- three words an element
 
@@ -33,15 +35,18 @@ someOf zero = None
 someOf (suc zero) = None
 someOf (suc (suc e)) = given e
 
--- what three words say: a first word of 0 is no answer, and a second word of 0 is flush
-abbrev pub answerOf : ℕ → ℕ → ℕ → Recalled
-answerOf zero b c = recalled.None
-answerOf (suc a) zero c = recalled.Answer Flush
-answerOf (suc a) (suc b) c = recalled.Answer (NonFlush (someOf (suc a)) (someOf (suc b)) (someOf c))
+-- what three words say: a second word of 0 is flush
+abbrev pub outputOf : ℕ → ℕ → ℕ → ElementCutOutput
+outputOf a zero c = Flush
+outputOf a (suc b) c = NonFlush (someOf a) (someOf (suc b)) (someOf c)
 
--- what is known of element e
-unfoldable pub answerAt : List ℕ → ℕ → Recalled
-answerAt ms e = answerOf (getD ms (e * 3) 0) (getD ms (e * 3 + 1) 0) (getD ms (e * 3 + 2) 0)
+-- element e was asked: its first word is not 0
+unfoldable pub knownAt : List ℕ → ℕ → Bool
+knownAt ms e = ltb 0 (getD ms (e * 3) 0)
+
+-- what it answered
+unfoldable pub outputAt : List ℕ → ℕ → ElementCutOutput
+outputAt ms e = outputOf (getD ms (e * 3) 0) (getD ms (e * 3 + 1) 0) (getD ms (e * 3 + 2) 0)
 
 -- the three words of element e are a, b and c
 unfoldable pub threeAt : List ℕ → ℕ → ℕ → ℕ → ℕ → List ℕ
@@ -62,13 +67,22 @@ abbrev pub ReplyInRoom : CutReply → Type 0
 ReplyInRoom (reply.Refused n) = Unit {0}
 ReplyInRoom (reply.Answered a) = OutputInRoom a
 
+-- ---- a reply whose answer is in the words
+
+abbrev pub askedBy : CutReply → Asked
+askedBy (reply.Refused n) = asked.Refused n
+askedBy (reply.Answered a) = asked.Done
+
+abbrev pub replyOf : Asked → List ℕ → ℕ → CutReply
+replyOf (asked.Refused n) ms e = reply.Refused n
+replyOf asked.Done ms e = reply.Answered (outputAt ms e)
+
 -- ---- what is known is true
 
 -- asking in the table as it is now gives the answer that is known, and adds nothing
 pub record Knows (k : Cutter) (ms : List ℕ) (t : Table) : Type 0 where
   pub long : length ms ≡ 1536
-  pub of : (e : ℕ) (a : ElementCutOutput) → e < 512 → answerAt ms e ≡ recalled.Answer a
-      → (e < elementCount t) × (cutElement desk (cutOf (t .dimension) k) (rank t e) e t ≡ done a t)
+  pub of : (e : ℕ) → e < 512 → knownAt ms e ≡ true → (e < elementCount t) × (cutElement desk (cutOf (t .dimension) k) (rank t e) e t ≡ done (outputAt ms e) t)
 
 -- the memory holds the table, and what is known is true of it
 pub record HoldsKnown (cs : List ℕ) (ps hs : List Float) (es ms : List ℕ) (k : Cutter) (t : Table) : Type 0 where

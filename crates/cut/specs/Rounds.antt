@@ -7,14 +7,13 @@ use Rattle.rules.specs.Limits.{desk}
 use Rattle.rules.specs.Table.{Table, boundary}
 use Rattle.rules.specs.Held.{Extends, Came}
 use Rattle.rules.specs.Cut.{Outcome, refused, done, Gathered, nothingYet, cutElement, cutBoundary}
-use Rattle.rules.specs.declared.CutReply.{CutReply}
 use Rattle.rules.specs.declared.CutReply.the-variants as reply
-use Rattle.gathered.specs.Sets.{Gathers, Sized}
+use Rattle.gathered.specs.Sets.{Answers, Gathers, Sized}
 use Rattle.gathered.specs.Cutting.{Fit, cutOf}
 use Rattle.gathered.specs.declared.answer.Cutter.{Cutter}
-use Rattle.cut.specs.Known.{Knows, HoldsKnown}
-use Rattle.cut.specs.declared.elements.BoundaryReply.{BoundaryReply}
-use Rattle.cut.specs.declared.elements.Stop.the-variants as stop
+use Rattle.cut.specs.Known.{Knows, HoldsKnown, replyOf}
+use Rattle.cut.specs.declared.known.Asked.{Asked}
+use Rattle.cut.specs.declared.known.Asked.the-variants as asked
 
 -- there is a table that may be cut, and of which all that is known is true
 pub record AskReady (cs : List ℕ) (ps : List Float) (es ms : List ℕ) (r e : ℕ) (k : Cutter) : Type 0 where
@@ -23,17 +22,17 @@ pub record AskReady (cs : List ℕ) (ps : List Float) (es ms : List ℕ) (r e : 
   pub fit : Fit cs ps planes es r e k table
   pub knows : Knows k ms table
 
--- whatever such table the memory holds: the cut of element e, and what is known after it is true
-pub record ElementAsked (cs : List ℕ) (ps : List Float) (es ms : List ℕ) (r e : ℕ) (k : Cutter) (x : CutReply) (cs′ : List ℕ) (ps′ : List Float) (es′ ms′ : List ℕ) : Type 0 where
+-- whatever such table the memory holds: the cut of element e, with its answer in the words, and what is known after it is true
+pub record ElementAsked (cs : List ℕ) (ps : List Float) (es ms : List ℕ) (r e : ℕ) (k : Cutter) (x : Asked) (cs′ : List ℕ) (ps′ : List Float) (es′ ms′ : List ℕ) : Type 0 where
   pub of : (hs : List Float) (t : Table) → Fit cs ps hs es r e k t → Knows k ms t
-      → Came reply.Answered reply.Refused (HoldsKnown cs′ ps′ hs es′ ms′ k) t (cutElement desk (cutOf (t .dimension) k) r e t) x
+      → Came reply.Answered reply.Refused (HoldsKnown cs′ ps′ hs es′ ms′ k) t (cutElement desk (cutOf (t .dimension) k) r e t) (replyOf x ms′ e)
 
 -- what asking the boundary did: all is gathered, or an element of it was refused, and the memory is of some table that goes on from the one before
-pub data Round (H : Table → Type 0) (t : Table) (o : Outcome Gathered) (x : BoundaryReply) : Type 0 where
-  went : (g : Gathered) (u : Table) → o ≡ done g u → x .stop ≡ stop.Done → Gathers (x .answers) g → Sized (x .answers) 32 → H u → Round H t o x
-  stopped : (n : ℕ) (u : Table) → o ≡ refused n → x .stop ≡ stop.Refused n → Extends t u → H u → Round H t o x
+pub data Round (H : Table → Type 0) (t : Table) (o : Outcome Gathered) (x : Asked) (s : Answers) : Type 0 where
+  went : (g : Gathered) (u : Table) → o ≡ done g u → x ≡ asked.Done → Gathers s g → Sized s 32 → H u → Round H t o x s
+  stopped : (n : ℕ) (u : Table) → o ≡ refused n → x ≡ asked.Refused n → Extends t u → H u → Round H t o x s
 
 -- whatever such table the memory holds: the boundary of element e is asked, and what is known after it is true
-pub record BoundaryCut (cs : List ℕ) (ps : List Float) (es ms : List ℕ) (r e : ℕ) (k : Cutter) (x : BoundaryReply) (cs′ : List ℕ) (ps′ : List Float) (es′ ms′ : List ℕ) : Type 0 where
+pub record BoundaryCut (cs : List ℕ) (ps : List Float) (es ms : List ℕ) (r e : ℕ) (k : Cutter) (x : Asked) (s : Answers) (cs′ : List ℕ) (ps′ : List Float) (es′ ms′ : List ℕ) : Type 0 where
   pub of : (hs : List Float) (t : Table) → Fit cs ps hs es r e k t → Knows k ms t
-      → Round (HoldsKnown cs′ ps′ hs es′ ms′ k) t (cutBoundary (cutElement desk (cutOf (t .dimension) k) (r - 1)) (boundary t e) nothingYet t) x
+      → Round (HoldsKnown cs′ ps′ hs es′ ms′ k) t (cutBoundary (cutElement desk (cutOf (t .dimension) k) (r - 1)) (boundary t e) nothingYet t) x s

@@ -1,31 +1,21 @@
 // Rule 5: an element asks for its boundary, and the boundary asks for each element. An element asked twice in a cut is answered from what is known.
-use crate::known::Recalled;
+use crate::known::Asked;
+use crate::known::is_known;
 use crate::known::keep;
-use crate::known::recall;
+use crate::known::output_at;
 use gathered::answer;
 use gathered::answer::Cutter;
 use gathered::sets;
-use gathered::sets::Answers;
-use rules::CutReply;
+use gathered::sets::FLUSH;
+use gathered::sets::SET;
 use rules::ElementId;
 use space::rows;
 use space::words::wide;
 ghost use Prim.Native.Nat.{_<_};
 ghost use lib.ListN.{getD};
 ghost use Rattle.space.specs.Chains.{Indexed};
+ghost use Rattle.gathered.specs.Sets.{answersIn, NothingYet};
 ghost use Rattle.cut.specs.Rounds.{AskReady, ElementAsked, BoundaryCut};
-
-// Whether the boundary was asked to its end.
-pub enum Stop {
-    Refused(u8),
-    Done,
-}
-
-// What the boundary answered, up to where it was asked.
-pub struct BoundaryReply {
-    pub stop: Stop,
-    pub answers: Answers,
-}
 
 pub fn cut_element(
     counts: &mut [u16],
@@ -36,31 +26,45 @@ pub fn cut_element(
     e: ElementId,
     rank: usize,
     k: Cutter,
-) -> CutReply
+) -> Asked
     requires { ⌜ AskReady (now counts) (now points) (now elements) (now known) rank (e .0) k × Indexed (now elements) (getD (now counts) 1 0) (now index) ⌝ }
     ensures { λ r. ⌜ ElementAsked (now (counts .entry)) (now (points .entry)) (now (elements .entry)) (now (known .entry)) rank (e .0) k r (now (counts .exit)) (now (points .exit)) (now (elements .exit)) (now (known .exit)) × Indexed (now (elements .exit)) (getD (now (counts .exit)) 1 0) (now (index .exit)) ⌝ }
 {
-    let recalled = recall(known, e);
-    if let Recalled::Answer(a) = recalled {
-        return CutReply::Answered(a);
+    if is_known(known, e) {
+        return Asked::Done;
     }
     if rank < 2 {
         let low = ends::cut_low(counts, points, elements, index, e, rank, k);
         return keep(known, e, low);
     }
-    let reply = cut_boundary(counts, points, elements, index, known, e, rank, k);
-    let stop = reply.stop;
-    match stop {
-        Stop::Refused(no) => CutReply::Refused(no),
-        Stop::Done => {
-            let s = reply.answers;
-            let whole = answer::rule6(counts, elements, index, e, rank, k, s);
+    let mut f = [0u16; FLUSH];
+    let mut i = [0u16; SET];
+    let mut o = [0u16; SET];
+    let mut x = [0u16; SET];
+    let asked = cut_boundary(
+        counts,
+        points,
+        elements,
+        index,
+        known,
+        e,
+        rank,
+        k,
+        &mut f,
+        &mut i,
+        &mut o,
+        &mut x,
+    );
+    match asked {
+        Asked::Refused(no) => Asked::Refused(no),
+        Asked::Done => {
+            let whole = answer::rule6(counts, elements, index, e, rank, k, &f, &mut i, &mut o, &x);
             keep(known, e, whole)
         }
     }
 }
 
-// In rising number; a refusal ends the round.
+// In rising number; a refusal ends the round. What the boundary answers is gathered in the lent words, which are blank before.
 fn cut_boundary(
     counts: &mut [u16],
     points: &mut [f64],
@@ -70,29 +74,27 @@ fn cut_boundary(
     e: ElementId,
     rank: usize,
     k: Cutter,
-) -> BoundaryReply
-    requires { ⌜ AskReady (now counts) (now points) (now elements) (now known) rank (e .0) k × (1 < rank) × Indexed (now elements) (getD (now counts) 1 0) (now index) ⌝ }
-    ensures { λ r. ⌜ BoundaryCut (now (counts .entry)) (now (points .entry)) (now (elements .entry)) (now (known .entry)) rank (e .0) k r (now (counts .exit)) (now (points .exit)) (now (elements .exit)) (now (known .exit)) × Indexed (now (elements .exit)) (getD (now (counts .exit)) 1 0) (now (index .exit)) ⌝ }
+    flush: &mut [u16; 2],
+    inside: &mut [u16; 34],
+    outside: &mut [u16; 34],
+    intersections: &mut [u16; 34],
+) -> Asked
+    requires { ⌜ AskReady (now counts) (now points) (now elements) (now known) rank (e .0) k × (1 < rank) × NothingYet (answersIn (now flush) (now inside) (now outside) (now intersections)) × Indexed (now elements) (getD (now counts) 1 0) (now index) ⌝ }
+    ensures { λ r. ⌜ BoundaryCut (now (counts .entry)) (now (points .entry)) (now (elements .entry)) (now (known .entry)) rank (e .0) k r (answersIn (now (flush .exit)) (now (inside .exit)) (now (outside .exit)) (now (intersections .exit))) (now (counts .exit)) (now (points .exit)) (now (elements .exit)) (now (known .exit)) × Indexed (now (elements .exit)) (getD (now (counts .exit)) 1 0) (now (index .exit)) ⌝ }
 {
     let n = rows::size_of(elements, e);
-    let mut s = sets::nothing_yet();
     for i in 0..n {
         let b = ElementId(wide(rows::boundary_at(elements, e, i)));
         let step = cut_element(counts, points, elements, index, known, b, rank - 1, k);
         match step {
-            CutReply::Refused(no) => {
-                return BoundaryReply {
-                    stop: Stop::Refused(no),
-                    answers: s,
-                };
+            Asked::Refused(no) => {
+                return Asked::Refused(no);
             }
-            CutReply::Answered(a) => {
-                s = sets::gather_in(s, b, a);
+            Asked::Done => {
+                let a = output_at(known, b);
+                sets::gather_in(flush, inside, outside, intersections, b, a);
             }
         }
     }
-    BoundaryReply {
-        stop: Stop::Done,
-        answers: s,
-    }
+    Asked::Done
 }

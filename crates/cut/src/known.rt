@@ -8,12 +8,12 @@ ghost use Prim.Native.Nat.{_<_};
 ghost use mathlib.Core.Path.{_≡_};
 ghost use lib.ListN.{length};
 ghost use Rattle.gathered.specs.Sets.{InRoom};
-ghost use Rattle.cut.specs.Known.{wordOf, someOf, answerAt, threeAt, ReplyInRoom, withReply};
+ghost use Rattle.cut.specs.Known.{wordOf, someOf, knownAt, outputAt, askedBy, threeAt, ReplyInRoom, withReply};
 
-// What the words of an element say.
-pub enum Recalled {
-    None,
-    Answer(ElementCutOutput),
+// Whether asking ended: refused, or the answer is known.
+pub enum Asked {
+    Refused(u8),
+    Done,
 }
 
 // None is 1, and an element is two above its number, so that no place of an answer is 0.
@@ -36,28 +36,34 @@ fn some_of(word: u16) -> ElementOrNone
     ElementOrNone::Some(ElementId(wide(word - 2)))
 }
 
-pub fn recall(known: &[u16; 1536], e: ElementId) -> Recalled
+// Whether an element was asked before.
+pub fn is_known(known: &[u16; 1536], e: ElementId) -> bool
     requires { ⌜ (length (now known) ≡ 1536) × (e .0 < 512) ⌝ }
-    ensures { λ r. ⌜ r ≡ answerAt (now (known .entry)) (e .0) ⌝ }
+    ensures { λ r. ⌜ r ≡ knownAt (now (known .entry)) (e .0) ⌝ }
+{
+    0 < known[e.0 * 3]
+}
+
+// What the words of an element that was asked say.
+pub fn output_at(known: &[u16; 1536], e: ElementId) -> ElementCutOutput
+    requires { ⌜ (length (now known) ≡ 1536) × (e .0 < 512) ⌝ }
+    ensures { λ r. ⌜ r ≡ outputAt (now (known .entry)) (e .0) ⌝ }
 {
     let at = e.0 * 3;
     let a = known[at];
     let b = known[at + 1];
     let c = known[at + 2];
-    if a == 0 {
-        return Recalled::None;
-    }
     if b == 0 {
-        return Recalled::Answer(ElementCutOutput::Flush);
+        return ElementCutOutput::Flush;
     }
     let inside = some_of(a);
     let outside = some_of(b);
     let intersection = some_of(c);
-    Recalled::Answer(ElementCutOutput::NonFlush {
+    ElementCutOutput::NonFlush {
         inside,
         outside,
         intersection,
-    })
+    }
 }
 
 fn put_words(known: &mut [u16; 1536], e: ElementId, a: u16, b: u16, c: u16)
@@ -70,17 +76,17 @@ fn put_words(known: &mut [u16; 1536], e: ElementId, a: u16, b: u16, c: u16)
     known[first + 2] = c;
 }
 
-// The reply as it is; an answer is kept.
-pub fn keep(known: &mut [u16; 1536], e: ElementId, reply: CutReply) -> CutReply
+// An answer is kept.
+pub fn keep(known: &mut [u16; 1536], e: ElementId, reply: CutReply) -> Asked
     requires { ⌜ (length (now known) ≡ 1536) × (e .0 < 512) × ReplyInRoom reply ⌝ }
-    ensures { λ r. ⌜ (r ≡ reply) × (now (known .exit) ≡ withReply (now (known .entry)) (e .0) reply) ⌝ }
+    ensures { λ r. ⌜ (r ≡ askedBy reply) × (now (known .exit) ≡ withReply (now (known .entry)) (e .0) reply) ⌝ }
 {
     match reply {
-        CutReply::Refused(_) => reply,
+        CutReply::Refused(no) => Asked::Refused(no),
         CutReply::Answered(answer) => match answer {
             ElementCutOutput::Flush => {
                 put_words(known, e, 1, 0, 0);
-                reply
+                Asked::Done
             }
             ElementCutOutput::NonFlush {
                 inside,
@@ -91,7 +97,7 @@ pub fn keep(known: &mut [u16; 1536], e: ElementId, reply: CutReply) -> CutReply
                 let b = word_of(outside);
                 let c = word_of(intersection);
                 put_words(known, e, a, b, c);
-                reply
+                Asked::Done
             }
         },
     }

@@ -1,5 +1,7 @@
 // Rules 2 to 8, and all memory given back where they refuse.
 use crate::elements::cut_element;
+use crate::known::Asked;
+use crate::known::output_at;
 use gathered::answer::Cutter;
 use rules::CutReply;
 use rules::ElementId;
@@ -39,7 +41,11 @@ fn cut_named(
                 keep_outside,
             };
             let mut known = [0u16; 1536];
-            cut_element(counts, points, elements, index, &mut known, root, rank, k)
+            let asked = cut_element(counts, points, elements, index, &mut known, root, rank, k);
+            match asked {
+                Asked::Refused(no) => CutReply::Refused(no),
+                Asked::Done => CutReply::Answered(output_at(&known, root)),
+            }
         }
     }
 }

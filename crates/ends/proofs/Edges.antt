@@ -2,10 +2,11 @@
 use Prim.Native.Nat.{ℕ, suc, _+_, _*_, _≤_, _<_}
 use mathlib.Core.Path.{_≡_, refl, sym, ap, ap₂, _∙_, subst}
 use mathlib.Core.List.{List, [], _∷_}
-use native.Mathlib.Nat.{le-trans}
+use native.Mathlib.Nat.{le-trans, le-of-eq}
 use native.Mathlib.Omega.{arith}
 use lib.Dec.{lit≤}
-use lib.ListN.{length, getD, take}
+use lib.ListN.{length, getD, take, set, length-set}
+use lib.Seq.{getD-set-same, getD-set-other}
 use lib.Ieee.{Float}
 use Rattle.rules.specs.Limits.{desk}
 use Rattle.rules.specs.Lists.{pad}
@@ -13,13 +14,14 @@ use Rattle.rules.specs.Floats.{plusZero, sideOf, edgeTest, crossingPoint}
 use Rattle.rules.specs.Table.{Element, corner, polytope, Table, rankOf, boundaryOf, rank, boundary, element, pointAt}
 use Rattle.rules.specs.Held.{Extends, Holds, Came, went, stopped, Sets, Ranked}
 use Rattle.rules.specs.Cut.{Outcome, done, next, give, Cutting, Gathered, cornerAnswer, nothingYet, addVertex, crossEdge, cutEnds, cutEdge, cutElement, rule6}
+use Rattle.rules.specs.declared.Side.{Side}
+use Rattle.rules.specs.declared.Side.the-variants.{Inside, On, Outside}
 use Rattle.rules.specs.declared.Crossing.{Crossing}
 use Rattle.rules.specs.declared.Crossing.the-variants.{None as NoCrossing, At}
 use Rattle.rules.specs.declared.ElementId.{ElementId}
 use Rattle.rules.specs.declared.ElementCutOutput.{ElementCutOutput}
 use Rattle.rules.specs.declared.CutReply.{CutReply}
 use Rattle.rules.specs.declared.CutReply.the-variants as reply
-use Rattle.rules.proofs.Borders.{sound-bordered}
 use Rattle.rules.proofs.Extends.{extends-trans, begins-length, count-more, element-same}
 use Rattle.rules.proofs.Good.{Good, sound-good, good-sound}
 use Rattle.rules.proofs.Ranked.{corner-answer, sets-gathering, sets-none}
@@ -32,31 +34,65 @@ use Rattle.space.specs.declared.rows.Placed.the-variants as placed
 use Rattle.space.proofs.Room.{listOf, list-word}
 use Rattle.space.proofs.VertexMemo.{dimension-is}
 use Rattle.space.proofs.Slices.{slices}
-use Rattle.gathered.specs.Sets.{Sized}
+use Rattle.gathered.specs.Sets.{Answers, answersIn, Gathers, Sized, NothingYet, OutputInRoom, GatheredIn}
 use Rattle.gathered.specs.Cutting.{Fit, cutOf, Rule6Fit, Rule6Ready, Rule6Done}
 use Rattle.gathered.specs.declared.answer.Cutter.{Cutter}
-use Rattle.gathered.specs.declared.sets.Answers.{Answers}
 use Rattle.gathered.proofs.Gathering.{at-most}
-use Rattle.ends.specs.Ends.{distanceTo, EndsReady, EndsRead, endsOf, EndsGathered, crossedOf, Crossed, afterEnds, CrossedFit, CrossedReady, CrossedCut}
+use Rattle.ends.specs.Ends.{EndsReady, EndsRead, endsOf, EndsGathered, crossedOf, afterEnds, CrossedFit, CrossedReady, CrossedCut}
 use Rattle.ends.specs.declared.EdgeEnds.{EdgeEnds}
 use Rattle.ends.specs.Elements.{Ready, ElementCut}
 use Rattle.ends.proofs.Vertices as vertex
 
 -- ---- what is gathered
 
+-- no more than i answers are no more than m
 pub sized-more : {s : Answers} (i m : ℕ) → i ≤ m → Sized s i → Sized s m
 sized-more i m h z = record {
   flushes = le-trans (z .flushes) h;
+  flush = z .flush;
   inside = at-most i m h (z .inside);
   outside = at-most i m h (z .outside);
   intersections = at-most i m h (z .intersections);
 }
 
-pub crossed : (s : Answers) (v : ElementId) → Crossed s (v .0) (record { flushes = 1; flush = v; inside = s .inside; outside = s .outside; intersections = s .intersections })
-crossed s v = record {
-  of = λ g G. record { flushes = refl; flush = refl; inside = G .inside; outside = G .outside; intersections = G .intersections };
-  sized = λ m h Z. record { flushes = h; inside = Z .inside; outside = Z .outside; intersections = Z .intersections };
+-- an end answers with itself or with nothing
+corner-room : (a : ℕ) (side : Side) → a < 512 → OutputInRoom (cornerAnswer a side)
+corner-room a Inside h = (h, tt, tt)
+corner-room a On h = tt
+corner-room a Outside h = (tt, h, tt)
+
+-- so does the code
+pub answer-room : {y : ElementCutOutput} (a : ℕ) (s : Float) → a < 512 → y ≡ cornerAnswer a (sideOf s) → OutputInRoom y
+answer-room a s h q = subst OutputInRoom (sym q) (corner-room a (sideOf s) h)
+
+-- the two ends in turn, from words that hold no answer
+pub ends-gathered : {s s₁ s₂ : Answers} {x y : ElementCutOutput} (a b : ℕ) (sa sb : Float) → NothingYet s → x ≡ cornerAnswer a (sideOf sa) → GatheredIn s a x s₁
+    → y ≡ cornerAnswer b (sideOf sb) → GatheredIn s₁ b y s₂ → EndsGathered a b sa sb s₂
+ends-gathered {s} {s₁} {s₂} a b sa sb N qx X qy Y =
+    let first : GatheredIn s a (cornerAnswer a (sideOf sa)) s₁ = subst (λ (z : ElementCutOutput). GatheredIn s a z s₁) qx X in
+    let second : GatheredIn s₁ b (cornerAnswer b (sideOf sb)) s₂ = subst (λ (z : ElementCutOutput). GatheredIn s₁ b z s₂) qy Y in
+    record { of = second .of _ (first .of _ (N .of)); sized = second .sized 1 (first .sized 0 (N .sized)) }
+
+-- whatever is gathered: that, with vertex element v as the flush one
+pub record Crossed (s : Answers) (v : ℕ) (s′ : Answers) : Type 0 where
+  pub of : (g : Gathered) → Gathers s g → Gathers s′ (crossedOf v g)
+  pub sized : (m : ℕ) → 1 ≤ m → Sized s m → Sized s′ m
+
+-- the flush words say so once the count is 1 and the last one is v
+pub crossed : (f i o x : List ℕ) (v : ℕ) → length f ≡ 2 → Crossed (answersIn f i o x) v (answersIn (set (set f 0 1) 1 v) i o x)
+crossed f i o x v long = record {
+  of = λ g G. record { flushes = one; flush = last; inside = G .inside; outside = G .outside; intersections = G .intersections };
+  sized = λ m h Z. record { flushes = le-trans (le-of-eq one) h; flush = still; inside = Z .inside; outside = Z .outside; intersections = Z .intersections };
 }
+  where
+    one : getD (set (set f 0 1) 1 v) 0 0 ≡ 1
+    one = getD-set-other (set f 0 1) 1 0 v 0 (λ e. (let z : ⊥ = omega (arith, e) in z)) ∙ getD-set-same f 0 1 0 (let q : 0 < length f = omega (arith, long) in q)
+
+    last : getD (set (set f 0 1) 1 v) 1 0 ≡ v
+    last = let a = length-set f 0 1 in getD-set-same (set f 0 1) 1 v 0 (let q : 1 < length (set f 0 1) = omega (arith, a, long) in q)
+
+    still : length (set (set f 0 1) 1 v) ≡ 2
+    still = length-set (set f 0 1) 1 v ∙ length-set f 0 1 ∙ long
 
 -- ---- the crossing is matched or appended
 
@@ -96,38 +132,40 @@ module _ {cs : List ℕ} {ps : List Float} {es : List ℕ} {e : ℕ} {k : Cutter
     crossing-kept = cross-stays desk (cutOf (t .dimension) k) p q (At f) g t (sound-good desk t (X .fit .sound)) (X .first) (X .second) (X .sets)
 
     -- the edge, once its crossing is vertex element i
-    record Left (i : ℕ) (s′ : Answers) : Type 0 where
+    record Left (i : ℕ) : Type 0 where
       pub table : Table
       pub ended : crossEdge desk p q (At f) g t ≡ done (crossedOf i g) table
       pub kept : Kept desk (Sets 0) t (crossedOf i g) table
-      pub ready : Rule6Fit cs′ ps′ hs es′ 1 e k s′ table (crossedOf i g)
+      pub holds : Holds desk cs′ ps′ hs es′ table
 
-    left : (i : ℕ) {s′ : Answers} → w ≡ placedAt i → Crossed s i s′ → Left i s′
-    left i {s′} h C = go added
+    left : (i : ℕ) → w ≡ placedAt i → Left i
+    left i h = go added
       where
-        go : Came placedAt placed.Refused (Holds desk cs′ ps′ hs es′) t (addVertex desk (crossingPoint f p q) t) w → Left i s′
+        go : Came placedAt placed.Refused (Holds desk cs′ ps′ hs es′) t (addVertex desk (crossingPoint f p q) t) w → Left i
         go (stopped j u o l n H) = let r : _≡_ {A = ℕ} 0 1 = cc in absurd (omega arith)
         go (went j u o l H) =
             let r : j ≡ i = sym (ap numberOf l) ∙ ap numberOf h in
             let z : crossEdge desk p q (At f) g t ≡ done (crossedOf i g) u = ap (λ (y : Outcome ℕ). next y (λ v. give (crossedOf v g))) (o ∙ ap (λ (n : ℕ). done n u) r) in
-            let S : Kept desk (Sets 0) t (crossedOf i g) u = subst (Stays desk (Sets 0) t) z crossing-kept in
-            record {
-              table = u;
-              ended = z;
-              kept = S;
-              ready = record {
-                fit = fit-later (X .fit) (S .extends) (S .good) H;
-                some = lit≤ tt;
-                gathers = C .of g (X .gathers);
-                sized = sized-more 2 32 (lit≤ tt) (C .sized 2 (lit≤ tt) (X .sized));
-                sets = S .value;
-              };
-            }
+            record { table = u; ended = z; kept = subst (Stays desk (Sets 0) t) z crossing-kept; holds = H }
 
     abbrev whole : Outcome ElementCutOutput
     whole = afterEnds (cutOf (t .dimension) k) (element t e) (crossEdge desk p q (At f) g t)
 
-    module _ (i : ℕ) {s′ : Answers} (Q : Left i s′) where
+    module _ (i : ℕ) (Q : Left i) where
+      -- it is in use, so its number is within the room
+      left-low : i < 512
+      left-low = le-trans (Q .kept .value .flush .0 .0) (Q .holds .fits .elementRoom)
+
+      -- rule 6 may go on from its table
+      left-ready : {s′ : Answers} → Crossed s i s′ → Rule6Fit cs′ ps′ hs es′ 1 e k s′ (Q .table) (crossedOf i g)
+      left-ready C = record {
+        fit = fit-later (X .fit) (Q .kept .extends) (Q .kept .good) (Q .holds);
+        some = lit≤ tt;
+        gathers = C .of g (X .gathers);
+        sized = sized-more 2 32 (lit≤ tt) (C .sized 2 (lit≤ tt) (X .sized));
+        sets = Q .kept .value;
+      }
+
       abbrev rest : Outcome ElementCutOutput
       rest = rule6 desk (cutOf (Q .table .dimension) k) (element (Q .table) e) (crossedOf i g) (i ∷ []) (Q .table)
 
@@ -152,14 +190,21 @@ module _ {cs : List ℕ} {ps : List Float} {es : List ℕ} {e : ℕ} {k : Cutter
   pub crossed-refused : (n : ℕ) → w ≡ placed.Refused n → CrossedCut cs ps es e k s x (reply.Refused n) cs′ ps′ es′
   crossed-refused n h = record { of = λ hs t p q f g X. not-added X n h (added X) }
 
-  module _ (v : ElementId) (h : w ≡ placed.At v) {s′ : Answers} (C : Crossed s (v .0) s′) where
-    pub crossed-ready : CrossedReady cs ps es e k s x → Rule6Ready cs′ es′ 1 e k s′
-    crossed-ready R =
-        let Q = left (R .fit) (v .0) h C in
-        record { points = ps′; planes = R .planes; table = Q .table; gathered = crossedOf (v .0) (R .gathered); fit = Q .ready }
+  module _ (v : ElementId) (h : w ≡ placed.At v) where
+    -- the number fits a word
+    pub crossed-low : CrossedReady cs ps es e k s x → v .0 < 512
+    crossed-low R = left-low (R .fit) (v .0) (left (R .fit) (v .0) h)
 
-    pub crossed-done : {y : CutReply} {cs″ es″ : List ℕ} → Rule6Done cs′ es′ 1 e k s′ y cs″ es″ → CrossedCut cs ps es e k s x y cs″ ps′ es″
-    crossed-done D = record { of = λ hs t p q f g X. (let Q = left X (v .0) h C in after-left X (v .0) Q (D .of ps′ hs (Q .table) (crossedOf (v .0) g) (Q .ready))) }
+    module _ {s′ : Answers} (C : Crossed s (v .0) s′) where
+      pub crossed-ready : CrossedReady cs ps es e k s x → Rule6Ready cs′ es′ 1 e k s′
+      crossed-ready R =
+          let Q = left (R .fit) (v .0) h in
+          record { points = ps′; planes = R .planes; table = Q .table; gathered = crossedOf (v .0) (R .gathered); fit = left-ready (R .fit) (v .0) Q C }
+
+      pub crossed-done : {y : CutReply} {cs″ es″ : List ℕ} → Rule6Done cs′ es′ 1 e k s′ y cs″ es″ → CrossedCut cs ps es e k s x y cs″ ps′ es″
+      crossed-done D = record {
+        of = λ hs t p q f g X. (let Q = left X (v .0) h in after-left X (v .0) Q (D .of ps′ hs (Q .table) (crossedOf (v .0) g) (left-ready X (v .0) Q C)));
+      }
 
 -- ---- what is read of an edge
 
@@ -194,15 +239,6 @@ module _ {cs : List ℕ} {ps hs : List Float} {es : List ℕ} {e : ℕ} {k : Cut
       ranked = (let q = end-ranked .1 in let z : rank t x ≡ 0 = omega (arith, q) in z);
     }
 
-  -- a sound boundary rises
-  ends-rise : (x y : ℕ) → x ≡ getD es (e * 36 + 4) 0 → y ≡ getD es (e * 36 + 5) 0 → x < y
-  ends-rise x y hx hy =
-      let q = F .ranked in
-      let above = sound-bordered desk t (F .sound) e (F .used) (let z : 0 < rank t e = omega (arith, q) in z) .rising 0 1 (lit≤ tt) (own .two) in
-      let first = end-is 0 x (lit≤ tt) hx in
-      let second = end-is 1 y (lit≤ tt) hy in
-      omega (arith, above, first, second)
-
 pub ends-ready : {cs : List ℕ} {ps : List Float} {es : List ℕ} {e : ℕ} {k : Cutter} → Ready cs ps es 1 e k → EndsReady ps es e
 ends-ready {cs} {k = k} R = record { counts = cs; planes = R .planes; cutter = k; table = R .table; fit = R .fit }
 
@@ -213,28 +249,24 @@ module _ {ps : List Float} {es : List ℕ} {e : ℕ} (R : EndsReady ps es e) whe
   pub end-asked : (i x : ℕ) → i < 2 → x ≡ getD es (e * 36 + (4 + i)) 0 → (length ps ≡ 1024) × (length es ≡ 18432) × (x < 512) × (getD es (x * 36 + 4) 0 < 256)
   end-asked i x l h = vertex.point-asked (end-fit (R .fit) i x l h)
 
-  pub ends-low : {r : EdgeEnds} → EndsRead ps es e r → (r .a .0 < 512) × (r .b .0 < 512) × (r .a .0 < r .b .0)
-  ends-low E = (end-asked 0 _ (lit≤ tt) (E .first) .2, end-asked 1 _ (lit≤ tt) (E .second) .2, ends-rise (R .fit) _ _ (E .first) (E .second))
+  -- both numbers are within the room
+  pub ends-low : {r : EdgeEnds} → EndsRead ps es e r → (r .a .0 < 512) × (r .b .0 < 512)
+  ends-low E = (end-asked 0 _ (lit≤ tt) (E .first) .2, end-asked 1 _ (lit≤ tt) (E .second) .2)
 
 -- ---- the edge
 
-module _ (k : Cutter) (d : ℕ) (r : EdgeEnds) where
+module _ (k : Cutter) (d : ℕ) (r : EdgeEnds) (sa sb : Float) where
   abbrev a : ℕ
   a = r .a .0
 
   abbrev b : ℕ
   b = r .b .0
 
-  abbrev sa : Float
-  sa = distanceTo d (k .divider) (r .p)
-
-  abbrev sb : Float
-  sb = distanceTo d (k .divider) (r .q)
-
   abbrev answered : Gathered
   answered = endsOf a b sa sb
 
-  module _ {cs : List ℕ} {ps : List Float} {es : List ℕ} {e : ℕ} (hd : d ≡ getD cs 0 0) (E : EndsRead ps es e r) where
+  module _ {cs : List ℕ} {ps : List Float} {es : List ℕ} {e : ℕ} (hd : d ≡ getD cs 0 0) (E : EndsRead ps es e r) (ha : sa ≡ vertex.distanceTo d (k .divider) (r .p))
+      (hb : sb ≡ vertex.distanceTo d (k .divider) (r .q)) where
     module _ {hs : List Float} {t : Table} (F : Fit cs ps hs es 1 e k t) where
       abbrev c : Cutting
       c = cutOf (t .dimension) k
@@ -251,7 +283,7 @@ module _ (k : Cutter) (d : ℕ) (r : EdgeEnds) where
       opened z h =
           ap₂ (λ (x y : ℕ). afterEnds c (element t e) (cutEnds desk c x y (pointAt t x) (pointAt t y) t)) (sym (end-is F 0 a (lit≤ tt) (E .first))) (sym (end-is F 1 b (lit≤ tt) (E .second)))
           ∙ ap₂ (λ (x y : Float). afterEnds c (element t e) (crossEdge desk (pointAt t a) (pointAt t b) (edgeTest x y) (endsOf a b x y) t))
-          (sym (vertex.distance-is fa d (r .p) hd (E .firstPoint))) (sym (vertex.distance-is fb d (r .q) hd (E .secondPoint)))
+          (sym (ha ∙ vertex.distance-is fa d (r .p) hd (E .firstPoint))) (sym (hb ∙ vertex.distance-is fb d (r .q) hd (E .secondPoint)))
           ∙ ap (λ (x : Crossing). afterEnds c (element t e) (crossEdge desk (pointAt t a) (pointAt t b) x answered t)) (sym h)
 
       ends-sets : Sets 0 answered t

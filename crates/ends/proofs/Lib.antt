@@ -1,3 +1,2 @@
 pub mod Vertices
-pub mod BothEnds
 pub mod Edges

@@ -14,6 +14,7 @@ use Rattle.rules.specs.Table.{Element, corner, polytope, Table, element, pointA
 use Rattle.rules.specs.Sound.{soundPoint}
 use Rattle.rules.specs.Held.{pointsOf, went}
 use Rattle.rules.specs.Cut.{cornerAnswer, distanceOf, done, cutElement, cutCorner}
+use Rattle.rules.specs.declared.Hyperplane.{Hyperplane}
 use Rattle.rules.specs.declared.ElementCutOutput.{ElementCutOutput}
 use Rattle.rules.specs.declared.CutReply.the-variants as reply
 use Rattle.rules.proofs.Corners.{corner-named}
@@ -28,8 +29,12 @@ use Rattle.space.proofs.VertexMemo.{four-is, dimension-is}
 use Rattle.space.proofs.Slices.{slices}
 use Rattle.gathered.specs.Cutting.{Fit, cutOf}
 use Rattle.gathered.specs.declared.answer.Cutter.{Cutter}
-use Rattle.ends.specs.Ends.{distanceTo, CornerCut}
+use Rattle.ends.specs.Ends.{CornerCut}
 use Rattle.ends.specs.Elements.{Ready, ElementCut}
+
+-- the signed distance of a lent point from a lent hyperplane, in a space of d dimensions
+abbrev pub distanceTo : ℕ → Hyperplane → List Float → Float
+distanceTo d h p = signedDistance (take d (h .normal)) (h .distance) (take d p)
 
 module _ {cs : List ℕ} {ps hs : List Float} {es : List ℕ} {e : ℕ} {k : Cutter} {t : Table} (F : Fit cs ps hs es 0 e k t) where
   good : Good desk t

@@ -1,36 +1,28 @@
 -- What rules 3 and 4 do: the cut of a vertex, and of an edge by its two ends. Definitions only.
-use Prim.Native.Nat.{ℕ, _+_, _*_, _≤_}
+use Prim.Native.Nat.{ℕ, _+_, _*_}
 use mathlib.Core.Path.{_≡_}
-use mathlib.Core.Bool.{Bool, true, false}
+use mathlib.Core.Bool.{true}
 use mathlib.Core.List.{List, [], _∷_}
-use lib.ListN.{getD, take}
+use lib.ListN.{getD}
 use lib.Ieee.{Float}
 use Rattle.rules.specs.Limits.{desk}
 use Rattle.rules.specs.Lists.{pad}
-use Rattle.rules.specs.Floats.{plusZero, signedDistance, sideOf, crossingPoint}
+use Rattle.rules.specs.Floats.{plusZero, sideOf, crossingPoint}
 use Rattle.rules.specs.Table.{Table, Element, element, pointAt}
 use Rattle.rules.specs.Sound.{soundPoint}
 use Rattle.rules.specs.Held.{Holds, Came, Sets}
 use Rattle.rules.specs.Cut.{Outcome, next, Cutting, Gathered, cornerAnswer, distanceOf, gathering, nothingYet, crossEdge, rule6}
-use Rattle.rules.specs.declared.Hyperplane.{Hyperplane}
-use Rattle.rules.specs.declared.Side.{Side}
-use Rattle.rules.specs.declared.Side.the-variants.{Inside, On, Outside}
 use Rattle.rules.specs.declared.Crossing.the-variants.{At}
 use Rattle.rules.specs.declared.ElementCutOutput.{ElementCutOutput}
 use Rattle.rules.specs.declared.CutReply.{CutReply}
 use Rattle.rules.specs.declared.CutReply.the-variants as reply
 use Rattle.space.specs.Shared.{storedPoint}
-use Rattle.gathered.specs.Sets.{Gathers, Sized}
+use Rattle.gathered.specs.Sets.{Answers, Gathers, Sized}
 use Rattle.gathered.specs.Cutting.{Fit, cutOf}
 use Rattle.gathered.specs.declared.answer.Cutter.{Cutter}
-use Rattle.gathered.specs.declared.sets.Answers.{Answers}
 use Rattle.ends.specs.declared.EdgeEnds.{EdgeEnds}
 
 -- ---- a vertex
-
--- the signed distance of a lent point from a lent hyperplane, in a space of d dimensions
-abbrev pub distanceTo : ℕ → Hyperplane → List Float → Float
-distanceTo d h p = signedDistance (take d (h .normal)) (h .distance) (take d p)
 
 -- whatever table that may be cut the memory holds, in which element e is a vertex: its answer
 pub record CornerCut (cs : List ℕ) (ps : List Float) (es : List ℕ) (e : ℕ) (k : Cutter) (r : ElementCutOutput) : Type 0 where
@@ -53,25 +45,6 @@ pub record EndsRead (ps : List Float) (es : List ℕ) (e : ℕ) (r : EdgeEnds) :
   pub firstPoint : r .p ≡ storedPoint ps (getD es (r .a .0 * 36 + 4) 0)
   pub secondPoint : r .q ≡ storedPoint ps (getD es (r .b .0 * 36 + 4) 0)
 
--- whether an end lies on the side that is asked for
-abbrev pub liesOn : Side → Side → Bool
-liesOn Inside Inside = true
-liesOn Inside On = false
-liesOn Inside Outside = false
-liesOn On Inside = false
-liesOn On On = true
-liesOn On Outside = false
-liesOn Outside Inside = false
-liesOn Outside On = false
-liesOn Outside Outside = true
-
--- those of two numbers that are taken, in their order
-abbrev pub taken : Bool → ℕ → Bool → ℕ → List ℕ
-taken true a true b = a ∷ b ∷ []
-taken true a false b = a ∷ []
-taken false a true b = b ∷ []
-taken false a false b = []
-
 -- what the ends a and b answer, gathered
 abbrev pub endsOf : ℕ → ℕ → Float → Float → Gathered
 endsOf a b sa sb = gathering b (cornerAnswer b (sideOf sb)) (gathering a (cornerAnswer a (sideOf sa)) nothingYet)
@@ -86,11 +59,6 @@ pub record EndsGathered (a b : ℕ) (sa sb : Float) (r : Answers) : Type 0 where
 -- what is gathered, with vertex element v as the flush one
 abbrev pub crossedOf : ℕ → Gathered → Gathered
 crossedOf v g = record { flush = v ∷ []; inside = g .inside; outside = g .outside; intersections = g .intersections }
-
--- whatever is gathered: that, with vertex element v as the flush one
-pub record Crossed (s : Answers) (v : ℕ) (r : Answers) : Type 0 where
-  pub of : (g : Gathered) → Gathers s g → Gathers r (crossedOf v g)
-  pub sized : (m : ℕ) → 1 ≤ m → Sized s m → Sized r m
 
 -- once the ends of element y are gathered: rule 6
 abbrev pub afterEnds : Cutting → Element → Outcome Gathered → Outcome ElementCutOutput

@@ -1,14 +1,14 @@
 // Rules 3 and 4: the cut of a vertex, and of an edge by its two ends.
 use gathered::answer;
 use gathered::answer::Cutter;
-use gathered::sets::Answers;
-use gathered::sets::Set;
+use gathered::sets;
+use gathered::sets::FLUSH;
+use gathered::sets::SET;
 use rules::Crossing;
 use rules::CutReply;
 use rules::ElementCutOutput;
 use rules::ElementId;
 use rules::ElementOrNone;
-use rules::Hyperplane;
 use rules::Side;
 use rules::VertexId;
 use space::memo;
@@ -22,8 +22,8 @@ ghost use Rattle.rules.specs.Floats.{sideOf};
 ghost use Rattle.rules.specs.Cut.{cornerAnswer};
 ghost use Rattle.space.specs.Chains.{Indexed};
 ghost use Rattle.space.specs.Shared.{storedPoint};
-ghost use Rattle.gathered.specs.Sets.{members, SizedSet};
-ghost use Rattle.ends.specs.Ends.{distanceTo, CornerCut, liesOn, taken, EndsReady, EndsRead, EndsGathered, Crossed, CrossedReady, CrossedCut};
+ghost use Rattle.gathered.specs.Sets.{answersIn, NothingYet};
+ghost use Rattle.ends.specs.Ends.{CornerCut, EndsReady, EndsRead, EndsGathered, CrossedReady, CrossedCut};
 ghost use Rattle.ends.specs.Elements.{Ready, ElementCut};
 
 // The ends a and b of an edge, a the lower-numbered, at p and q.
@@ -93,136 +93,27 @@ fn read_ends(points: &[f64], elements: &[u16], e: ElementId) -> EdgeEnds
     EdgeEnds { a, b, p, q }
 }
 
-// Whether an end lies on the side that is asked for.
-fn lies_on(side: Side, s: Side) -> bool
-    ensures { λ r. ⌜ r ≡ liesOn side s ⌝ }
+// Ends on the plane are flush, and other ends go to their side; the lower-numbered end comes first.
+fn gather_ends(
+    flush: &mut [u16; 2],
+    inside: &mut [u16; 34],
+    outside: &mut [u16; 34],
+    intersections: &mut [u16; 34],
+    a: ElementId,
+    sa: f64,
+    b: ElementId,
+    sb: f64,
+)
+    requires { ⌜ (a .0 < 512) × (b .0 < 512) × NothingYet (answersIn (now flush) (now inside) (now outside) (now intersections)) ⌝ }
+    ensures { λ r. ⌜ EndsGathered (a .0) (b .0) sa sb (answersIn (now (flush .exit)) (now (inside .exit)) (now (outside .exit)) (now (intersections .exit))) ⌝ }
 {
-    match side {
-        Side::Inside => match s {
-            Side::Inside => true,
-            Side::On => false,
-            Side::Outside => false,
-        },
-        Side::On => match s {
-            Side::Inside => false,
-            Side::On => true,
-            Side::Outside => false,
-        },
-        Side::Outside => match s {
-            Side::Inside => false,
-            Side::On => false,
-            Side::Outside => true,
-        },
-    }
+    let first = corner_answer(a, sa);
+    sets::gather_in(flush, inside, outside, intersections, a, first);
+    let second = corner_answer(b, sb);
+    sets::gather_in(flush, inside, outside, intersections, b, second);
 }
 
-// The set of those that are taken, a if x and b if y; a is the lower number.
-fn set_of(x: bool, a: ElementId, y: bool, b: ElementId) -> Set
-    requires { ⌜ (a .0 < 512) × (b .0 < 512) ⌝ }
-    ensures { λ r. ⌜ (members r ≡ taken x (a .0) y (b .0)) × SizedSet r 2 ⌝ }
-{
-    let mut list = [0u16; 33];
-    if x {
-        list[0] = a.0 as u16;
-        if y {
-            list[1] = b.0 as u16;
-            return Set { list, n: 2 };
-        }
-        return Set { list, n: 1 };
-    }
-    if y {
-        list[0] = b.0 as u16;
-        return Set { list, n: 1 };
-    }
-    Set { list, n: 0 }
-}
-
-// How many are taken.
-fn count_of(x: bool, y: bool) -> usize
-    ensures { λ r. ⌜ r ≡ length (taken y 0 x 0) ⌝ }
-{
-    if y {
-        if x {
-            return 2;
-        }
-        return 1;
-    }
-    if x {
-        return 1;
-    }
-    0
-}
-
-// The last one that is taken, a if x and b if y.
-fn last_of(x: bool, a: ElementId, y: bool, b: ElementId) -> ElementId
-    ensures { λ r. ⌜ r .0 ≡ getD (taken y (b .0) x (a .0)) 0 0 ⌝ }
-{
-    if y {
-        return b;
-    }
-    if x {
-        return a;
-    }
-    ElementId(0)
-}
-
-// Ends on the plane are flush, and other ends go to their side; the sets are made at once, as each answer gathered in turn copies them all.
-fn both_ends(d: usize, h: Hyperplane, ends: EdgeEnds) -> Answers
-    requires { ⌜ (ends .a .0 < 512) × (ends .b .0 < 512) × (ends .a .0 < ends .b .0) ⌝ }
-    ensures { λ r. ⌜ EndsGathered (ends .a .0) (ends .b .0) (distanceTo d h (ends .p)) (distanceTo d h (ends .q)) r ⌝ }
-{
-    let a = ends.a;
-    let p = ends.p;
-    let sa = hypermath::signed_distance(d, h, p);
-    let side_a = hypermath::side_of(sa);
-    let b = ends.b;
-    let q = ends.q;
-    let sb = hypermath::signed_distance(d, h, q);
-    let side_b = hypermath::side_of(sb);
-    let flush_a = lies_on(Side::On, side_a);
-    let flush_b = lies_on(Side::On, side_b);
-    let flushes = count_of(flush_a, flush_b);
-    let flush = last_of(flush_a, a, flush_b, b);
-    let inside = set_of(
-        lies_on(Side::Inside, side_a),
-        a,
-        lies_on(Side::Inside, side_b),
-        b,
-    );
-    let outside = set_of(
-        lies_on(Side::Outside, side_a),
-        a,
-        lies_on(Side::Outside, side_b),
-        b,
-    );
-    let list = [0u16; 33];
-    let intersections = Set { list, n: 0 };
-    Answers {
-        flushes,
-        flush,
-        inside,
-        outside,
-        intersections,
-    }
-}
-
-// A crossing counts as the flush one.
-fn crossed_at(s: Answers, v: ElementId) -> Answers
-    ensures { λ r. ⌜ Crossed s (v .0) r ⌝ }
-{
-    let inside = s.inside;
-    let outside = s.outside;
-    let intersections = s.intersections;
-    Answers {
-        flushes: 1,
-        flush: v,
-        inside,
-        outside,
-        intersections,
-    }
-}
-
-// The crossing is matched or appended: vertex, then its element.
+// The crossing is matched or appended: vertex, then its element. It counts as the flush one.
 fn cut_crossed(
     counts: &mut [u16],
     points: &mut [f64],
@@ -230,18 +121,33 @@ fn cut_crossed(
     index: &mut [u16],
     e: ElementId,
     k: Cutter,
-    s: Answers,
+    flush: &mut [u16; 2],
+    inside: &mut [u16; 34],
+    outside: &mut [u16; 34],
+    intersections: &[u16; 34],
     x: [f64; 4],
 ) -> CutReply
-    requires { ⌜ CrossedReady (now counts) (now points) (now elements) (e .0) k s x × Indexed (now elements) (getD (now counts) 1 0) (now index) ⌝ }
-    ensures { λ r. ⌜ CrossedCut (now (counts .entry)) (now (points .entry)) (now (elements .entry)) (e .0) k s x r (now (counts .exit)) (now (points .exit)) (now (elements .exit)) × Indexed (now (elements .exit)) (getD (now (counts .exit)) 1 0) (now (index .exit)) ⌝ }
+    requires { ⌜ CrossedReady (now counts) (now points) (now elements) (e .0) k (answersIn (now flush) (now inside) (now outside) (now intersections)) x × Indexed (now elements) (getD (now counts) 1 0) (now index) ⌝ }
+    ensures { λ r. ⌜ CrossedCut (now (counts .entry)) (now (points .entry)) (now (elements .entry)) (e .0) k (answersIn (now (flush .entry)) (now (inside .entry)) (now (outside .entry)) (now (intersections .entry))) x r (now (counts .exit)) (now (points .exit)) (now (elements .exit)) × Indexed (now (elements .exit)) (getD (now (counts .exit)) 1 0) (now (index .exit)) ⌝ }
 {
     let placed = memo::add_vertex(counts, points, elements, index, x);
     match placed {
         Placed::Refused(no) => CutReply::Refused(no),
         Placed::At(v) => {
-            let crossed = crossed_at(s, v);
-            answer::rule6(counts, elements, index, e, 1, k, crossed)
+            flush[0] = 1;
+            flush[1] = v.0 as u16;
+            answer::rule6(
+                counts,
+                elements,
+                index,
+                e,
+                1,
+                k,
+                flush,
+                inside,
+                outside,
+                intersections,
+            )
         }
     }
 }
@@ -261,16 +167,33 @@ fn cut_edge(
     let d = wide(counts[0]);
     let ends = read_ends(points, elements, e);
     let h = k.divider;
-    let s = both_ends(d, h, ends);
     let p = ends.p;
+    let sa = hypermath::signed_distance(d, h, p);
     let q = ends.q;
-    let both = [p, q];
-    let crossing = hypermath::edge_test(d, h, both);
+    let sb = hypermath::signed_distance(d, h, q);
+    let mut f = [0u16; FLUSH];
+    let mut i = [0u16; SET];
+    let mut o = [0u16; SET];
+    let mut x = [0u16; SET];
+    gather_ends(&mut f, &mut i, &mut o, &mut x, ends.a, sa, ends.b, sb);
+    let crossing = hypermath::crossing_between(sa, sb);
     match crossing {
-        Crossing::None => answer::rule6(counts, elements, index, e, 1, k, s),
+        Crossing::None => answer::rule6(counts, elements, index, e, 1, k, &f, &mut i, &mut o, &x),
         Crossing::At(t) => {
-            let x = hypermath::crossing_point(d, both, t);
-            cut_crossed(counts, points, elements, index, e, k, s, x)
+            let at = hypermath::crossing_point(d, [p, q], t);
+            cut_crossed(
+                counts,
+                points,
+                elements,
+                index,
+                e,
+                k,
+                &mut f,
+                &mut i,
+                &mut o,
+                &x,
+                at,
+            )
         }
     }
 }

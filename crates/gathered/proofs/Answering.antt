@@ -10,9 +10,8 @@ use lib.Ieee.{Float}
 use Rattle.rules.specs.Limits.{desk}
 use Rattle.rules.specs.Table.{Element, Table, rankOf, element}
 use Rattle.rules.specs.Held.{Extends, Holds, Came, went, Ranked, AllOf, SetOf, SomeOf}
-use Rattle.rules.specs.Cut.{Outcome, done, next, give, Gathered, Cutting, newIntersection, sideOfCut, rule7, rule6}
+use Rattle.rules.specs.Cut.{Outcome, done, next, give, Gathered, Cutting, given, newIntersection, sideOfCut, rule7, rule6}
 use Rattle.rules.specs.declared.ElementOrNone.{ElementOrNone}
-use Rattle.rules.specs.declared.ElementOrNone.the-variants.{Some}
 use Rattle.rules.specs.declared.ElementCutOutput.{ElementCutOutput}
 use Rattle.rules.specs.declared.ElementCutOutput.the-variants.{Flush, NonFlush}
 use Rattle.rules.specs.declared.CutReply.{CutReply}
@@ -20,15 +19,13 @@ use Rattle.rules.specs.declared.CutReply.the-variants as reply
 use Rattle.rules.proofs.Extends.{extends-refl, begins-length, count-more, element-same}
 use Rattle.rules.proofs.Good.{Good, sound-good, good-sound}
 use Rattle.rules.proofs.Laws.{test-le}
-use Rattle.rules.proofs.Ranked.{set-later, some-later, sets-later}
+use Rattle.rules.proofs.Ranked.{set-later, some-later}
 use Rattle.rules.proofs.Stays.{Kept, Stays}
 use Rattle.rules.proofs.StaysCut.{new-intersection-stays, side-stays}
 use Rattle.space.specs.declared.memo.Added.{Added}
 use Rattle.space.specs.declared.memo.Added.the-variants as added
-use Rattle.gathered.specs.Sets.{members, SizedSet}
-use Rattle.gathered.specs.Cutting.{cutOf, IntersectionFit, IntersectionReady, IntersectionMade, SideFit, SideReady, SideMade, Rule6Fit, Rule6Ready, Rule6Done, Rule7Fit, Rule7Ready, Rule7Done}
-use Rattle.gathered.specs.declared.sets.Set.{Set}
-use Rattle.gathered.specs.declared.sets.Answers.{Answers}
+use Rattle.gathered.specs.Sets.{members, SizedSet, Answers}
+use Rattle.gathered.specs.Cutting.{cutOf, Fit, IntersectionFit, IntersectionReady, IntersectionMade, SideFit, SideReady, SideMade, Rule6Fit, Rule6Ready, Rule6Done, SideSet, Rule7Fit, Rule7Ready, Rule7Done}
 use Rattle.gathered.specs.declared.answer.Cutter.{Cutter}
 use Rattle.gathered.proofs.Fitting.{rank-before, owner-of, rank-low}
 use Rattle.gathered.proofs.Steps.{made-is, came-refused, came-answered, came-next}
@@ -41,56 +38,45 @@ record Later (cs : List ℕ) (ps hs : List Float) (es : List ℕ) (t u : Table) 
   pub good : Good desk u
   pub holds : Holds desk cs ps hs es u
 
--- a side's set, as the code has it, and as it is gathered
-record SideSet (r : ℕ) (t : Table) (set : Set) (xs : List ℕ) : Type 0 where
-  pub held : members set ≡ xs
-  pub sized : SizedSet set 32
-  pub sets : SetOf t (suc (r - 1)) xs
+side-later : {r : ℕ} {t u : Table} {set xs : List ℕ} → Extends t u → SideSet r t set xs → SideSet r u set xs
+side-later {xs = xs} x S = record { held = S .held; sized = S .sized; sets = set-later xs x (S .sets) }
 
-module _ {cs es : List ℕ} {r e : ℕ} {k : Cutter} {s : Answers} {ps hs : List Float} {t : Table} {g : Gathered} (F : Rule6Fit cs ps hs es r e k s t g) where
+module _ {cs es : List ℕ} {r e : ℕ} {k : Cutter} {ps hs : List Float} {t : Table} (F : Fit cs ps hs es r e k t) (some : 1 ≤ r) where
   good : Good desk t
-  good = sound-good desk t (F .fit .sound)
+  good = sound-good desk t (F .sound)
 
   here : Later cs ps hs es t t
-  here = record { extends = extends-refl t; good = good; holds = F .fit .holds }
+  here = record { extends = extends-refl t; good = good; holds = F .holds }
 
   module _ {cs₁ es₁ : List ℕ} {u : Table} (U : Later cs₁ ps hs es₁ t u) where
-    fit-later : Rule6Fit cs₁ ps hs es₁ r e k s u g
+    fit-later : Fit cs₁ ps hs es₁ r e k u
     fit-later = record {
-      fit = record {
-        holds = U .holds;
-        sound = good-sound desk u (U .good);
-        plane = le-trans (F .fit .plane) (begins-length (t .planes) (u .planes) (U .extends .planes));
-        used = le-trans (F .fit .used) (count-more (U .extends));
-        ranked = ap rankOf (element-same t u e (U .extends) (F .fit .used)) ∙ F .fit .ranked;
-      };
-      some = F .some;
-      gathers = F .gathers;
-      sized = F .sized;
-      sets = sets-later (r - 1) g (U .extends) (F .sets);
+      holds = U .holds;
+      sound = good-sound desk u (U .good);
+      plane = le-trans (F .plane) (begins-length (t .planes) (u .planes) (U .extends .planes));
+      used = le-trans (F .used) (count-more (U .extends));
+      ranked = ap rankOf (element-same t u e (U .extends) (F .used)) ∙ F .ranked;
     }
 
     -- a side of the element may be added
-    module _ (x : ElementOrNone) (h : SomeOf r x t) {set : Set} {xs : List ℕ} (S : SideSet r t set xs) where
+    module _ (x : ElementOrNone) (h : SomeOf r x t) {set xs : List ℕ} (S : SideSet r t set xs) where
       set-now : SetOf u r (members set)
-      set-now =
-          subst (λ (l : List ℕ). SetOf u r l) (sym (S .held))
-          (subst (λ (n : ℕ). SetOf u n xs) (sym (rank-before r (F .some))) (set-later xs (U .extends) (S .sets)))
+      set-now = subst (λ (l : List ℕ). SetOf u r l) (sym (S .held)) (set-later xs (U .extends) (S .sets))
 
       side-fit : SideFit cs₁ ps hs es₁ r e set x u
       side-fit = record {
         holds = U .holds;
         sound = good-sound desk u (U .good);
-        used = fit-later .fit .used;
-        ranked = fit-later .fit .ranked;
-        some = F .some;
+        used = fit-later .used;
+        ranked = fit-later .ranked;
+        some = some;
         sized = S .sized;
         sets = set-now;
         intersection = some-later r x (U .extends) h;
       }
 
       same-step : (keep : Bool) → sideOfCut desk keep (element u e) x (members set) u ≡ sideOfCut desk keep (element t e) x xs u
-      same-step keep = ap₂ (λ (y : Element) (l : List ℕ). sideOfCut desk keep y x l u) (element-same t u e (U .extends) (F .fit .used)) (S .held)
+      same-step keep = ap₂ (λ (y : Element) (l : List ℕ). sideOfCut desk keep y x l u) (element-same t u e (U .extends) (F .used)) (S .held)
 
       side-came : {cs₂ es₂ : List ℕ} {keep : Bool} {y : Added} → SideMade cs₁ es₁ r e keep set x y cs₂ es₂
           → Came added.Made added.Refused (Holds desk cs₂ ps hs es₂) u (sideOfCut desk keep (element t e) x xs u) y
@@ -99,10 +85,10 @@ module _ {cs es : List ℕ} {r e : ℕ} {k : Cutter} {s : Answers} {ps hs : List
 
       side-keeps : (keep : Bool) → Stays desk (SomeOf (suc (suc (r - 1)))) u (sideOfCut desk keep (element t e) x xs u)
       side-keeps keep =
-          let n = rank-before r (F .some) in
-          let f = fit-later .fit in
+          let n = rank-before r some in
+          let f = fit-later in
           subst (Stays desk (SomeOf (suc (suc (r - 1)))) u) (same-step keep)
-          (side-stays desk (cutOf (u .dimension) k) u (r - 1) keep (element u e) x (members set) (U .good) (owner-of u e r (U .good) (f .used) (f .ranked) (F .some))
+          (side-stays desk (cutOf (u .dimension) k) u (r - 1) keep (element u e) x (members set) (U .good) (owner-of u e r (U .good) (f .used) (f .ranked) some)
           (subst (λ (q : ℕ). SomeOf q x u) n (some-later r x (U .extends) h)) (subst (λ (q : ℕ). SetOf u q (members set)) n set-now))
 
       -- the table after a side that was not refused
@@ -113,72 +99,47 @@ module _ {cs es : List ℕ} {r e : ℕ} {k : Cutter} {s : Answers} {ps hs : List
           let K : Kept desk (SomeOf (suc (suc (r - 1)))) u i (m .table) = subst (Stays desk (SomeOf (suc (suc (r - 1)))) u) (m .made) (side-keeps keep) in
           (m .table, m .made, record { extends = K .extends; good = K .good; holds = m .holds })
 
-  intersection-fit : IntersectionFit cs ps hs es r k (s .intersections) t
-  intersection-fit = record {
-    holds = F .fit .holds;
-    sound = F .fit .sound;
-    plane = F .fit .plane;
-    some = F .some;
-    low = rank-low t e r good (F .fit .used) (F .fit .ranked) (F .some);
-    sized = F .sized .intersections;
-    sets = subst (SetOf t (r - 1)) (sym (F .gathers .intersections)) (F .sets .intersections);
-  }
-
-  intersection-keeps : Stays desk (SomeOf r) t (newIntersection desk (cutOf (t .dimension) k) r (members (s .intersections)) t)
-  intersection-keeps =
-      let n = rank-before r (F .some) in
-      let f = intersection-fit in
-      subst (λ (q : ℕ). Stays desk (SomeOf q) t (newIntersection desk (cutOf (t .dimension) k) q (members (s .intersections)) t)) (sym n)
-      (new-intersection-stays desk (cutOf (t .dimension) k) t (r - 1) (members (s .intersections)) good (f .plane)
-      (test-le (suc (r - 1)) (t .dimension) (subst (λ (q : ℕ). q ≤ t .dimension) n (f .low))) (f .sets))
-
-  inside-set : SideSet r t (s .inside) (g .inside)
-  inside-set = record { held = F .gathers .inside; sized = F .sized .inside; sets = F .sets .inside }
-
-  outside-set : SideSet r t (s .outside) (g .outside)
-  outside-set = record { held = F .gathers .outside; sized = F .sized .outside; sets = F .sets .outside }
-
 -- ---- rule 7
 
-module _ {cs es : List ℕ} {r e : ℕ} {k : Cutter} {s : Answers} {x : ElementOrNone} where
-  pub inside-ready : Rule7Ready cs es r e k s x → SideReady cs es r e (s .inside) x
+module _ {cs es : List ℕ} {r e : ℕ} {k : Cutter} {i o : List ℕ} {x : ElementOrNone} where
+  pub inside-ready : Rule7Ready cs es r e k i o x → SideReady cs es r e i x
   inside-ready R =
-      let F = R .fit .answered in
-      record { points = R .points; planes = R .planes; table = R .table; fit = side-fit F (here F) x (R .fit .intersection) (inside-set F) }
+      let F = R .fit in
+      record { points = R .points; planes = R .planes; table = R .table; fit = side-fit (F .fit) (F .some) (here (F .fit) (F .some)) x (F .intersection) (F .inside) }
 
-  module _ {y : Added} {cs₁ es₁ : List ℕ} (M : SideMade cs es r e (k .«keep_inside») (s .inside) x y cs₁ es₁) where
-    pub inside-refused : (n : ℕ) → y ≡ added.Refused n → Rule7Done cs es r e k s x (reply.Refused n) cs₁ es₁
+  module _ {y : Added} {cs₁ es₁ : List ℕ} (M : SideMade cs es r e (k .«keep_inside») i x y cs₁ es₁) where
+    pub inside-refused : (n : ℕ) → y ≡ added.Refused n → Rule7Done cs es r e k i o x (reply.Refused n) cs₁ es₁
     unfolding rule7
     inside-refused n q = record {
-      of = λ ps hs t g F. came-refused n _ q (side-came (F .answered) (here (F .answered)) x (F .intersection) (inside-set (F .answered)) M);
+      of = λ ps hs t g F. came-refused n _ q (side-came (F .fit) (F .some) (here (F .fit) (F .some)) x (F .intersection) (F .inside) M);
     }
 
-    module _ (i : ElementOrNone) (q : y ≡ added.Made i) where
-      inner : {ps hs : List Float} {t : Table} {g : Gathered} → Rule7Fit cs ps hs es r e k s x t g
-          → (v : Table) × (sideOfCut desk (k .«keep_inside») (element t e) x (g .inside) t ≡ done i v) × Later cs₁ ps hs es₁ t v
-      inner F = side-after (F .answered) (here (F .answered)) x (F .intersection) (inside-set (F .answered)) M i q
+    module _ (a : ElementOrNone) (q : y ≡ added.Made a) where
+      inner : {ps hs : List Float} {t : Table} {g : Gathered} → Rule7Fit cs ps hs es r e k i o x t g
+          → (v : Table) × (sideOfCut desk (k .«keep_inside») (element t e) x (g .inside) t ≡ done a v) × Later cs₁ ps hs es₁ t v
+      inner F = side-after (F .fit) (F .some) (here (F .fit) (F .some)) x (F .intersection) (F .inside) M a q
 
-      pub outside-ready : Rule7Ready cs es r e k s x → SideReady cs₁ es₁ r e (s .outside) x
+      pub outside-ready : Rule7Ready cs es r e k i o x → SideReady cs₁ es₁ r e o x
       outside-ready R =
-          let F = R .fit .answered in
-          let m = inner (R .fit) in
-          record { points = R .points; planes = R .planes; table = m .0; fit = side-fit F (m .2) x (R .fit .intersection) (outside-set F) }
+          let F = R .fit in
+          let m = inner F in
+          record { points = R .points; planes = R .planes; table = m .0; fit = side-fit (F .fit) (F .some) (m .2) x (F .intersection) (F .outside) }
 
-      module _ {z : Added} {cs₂ es₂ : List ℕ} (N : SideMade cs₁ es₁ r e (k .«keep_outside») (s .outside) x z cs₂ es₂) where
-        outer : {ps hs : List Float} {t : Table} {g : Gathered} (F : Rule7Fit cs ps hs es r e k s x t g)
+      module _ {z : Added} {cs₂ es₂ : List ℕ} (N : SideMade cs₁ es₁ r e (k .«keep_outside») o x z cs₂ es₂) where
+        outer : {ps hs : List Float} {t : Table} {g : Gathered} (F : Rule7Fit cs ps hs es r e k i o x t g)
             → Came added.Made added.Refused (Holds desk cs₂ ps hs es₂) (inner F .0) (sideOfCut desk (k .«keep_outside») (element t e) x (g .outside) (inner F .0)) z
-        outer F = side-came (F .answered) (inner F .2) x (F .intersection) (outside-set (F .answered)) N
+        outer F = side-came (F .fit) (F .some) (inner F .2) x (F .intersection) (F .outside) N
 
-        pub outside-refused : (n : ℕ) → z ≡ added.Refused n → Rule7Done cs es r e k s x (reply.Refused n) cs₂ es₂
+        pub outside-refused : (n : ℕ) → z ≡ added.Refused n → Rule7Done cs es r e k i o x (reply.Refused n) cs₂ es₂
         unfolding rule7
         outside-refused n w = record {
-          of = λ ps hs t g F. came-next i _ (inner F .1) (inner F .2 .extends) (came-refused n (λ o. give (NonFlush i o x)) w (outer F));
+          of = λ ps hs t g F. came-next a _ (inner F .1) (inner F .2 .extends) (came-refused n (λ b. give (NonFlush a b x)) w (outer F));
         }
 
-        pub rule7-answered : (o : ElementOrNone) → z ≡ added.Made o → Rule7Done cs es r e k s x (reply.Answered (NonFlush i o x)) cs₂ es₂
+        pub rule7-answered : (b : ElementOrNone) → z ≡ added.Made b → Rule7Done cs es r e k i o x (reply.Answered (NonFlush a b x)) cs₂ es₂
         unfolding rule7
-        rule7-answered o w = record {
-          of = λ ps hs t g F. came-next i _ (inner F .1) (inner F .2 .extends) (came-answered o (λ v. NonFlush i v x) w (outer F));
+        rule7-answered b w = record {
+          of = λ ps hs t g F. came-next a _ (inner F .1) (inner F .2 .extends) (came-answered b (λ v. NonFlush a v x) w (outer F));
         }
 
 -- ---- rule 6, by the flush answers
@@ -203,27 +164,59 @@ no-flush (a ∷ b ∷ fs) h n = absurd (let z : ⊥ = omega (arith, h) in z)
 abbrev intersected : Cutter → ℕ → Table → Gathered → Outcome ElementOrNone
 intersected k e t g = newIntersection desk (cutOf (t .dimension) k) (rankOf (element t e)) (g .intersections) t
 
+-- from what rule 6 has: its sets for rule 7, and its intersection
+module _ {cs es : List ℕ} {r e : ℕ} {k : Cutter} {s : Answers} {ps hs : List Float} {t : Table} {g : Gathered} (F : Rule6Fit cs ps hs es r e k s t g) where
+  side-set : {set xs : List ℕ} → members set ≡ xs → SizedSet set 32 → SetOf t (suc (r - 1)) xs → SideSet r t set xs
+  side-set {xs = xs} h z q = record { held = h; sized = z; sets = subst (λ (n : ℕ). SetOf t n xs) (sym (rank-before r (F .some))) q }
+
+  rule7-fit : {cs₁ es₁ : List ℕ} {u : Table} (U : Later cs₁ ps hs es₁ t u) (x : ElementOrNone) → SomeOf r x u → Rule7Fit cs₁ ps hs es₁ r e k (s .inside) (s .outside) x u g
+  rule7-fit U x h = record {
+    fit = fit-later (F .fit) (F .some) U;
+    some = F .some;
+    inside = side-later (U .extends) (side-set (F .gathers .inside) (F .sized .inside) (F .sets .inside));
+    outside = side-later (U .extends) (side-set (F .gathers .outside) (F .sized .outside) (F .sets .outside));
+    intersection = h;
+  }
+
+  intersection-fit : IntersectionFit cs ps hs es r k (s .intersections) t
+  intersection-fit = record {
+    holds = F .fit .holds;
+    sound = F .fit .sound;
+    plane = F .fit .plane;
+    some = F .some;
+    low = rank-low t e r (good (F .fit) (F .some)) (F .fit .used) (F .fit .ranked) (F .some);
+    sized = F .sized .intersections;
+    sets = subst (SetOf t (r - 1)) (sym (F .gathers .intersections)) (F .sets .intersections);
+  }
+
+  intersection-keeps : Stays desk (SomeOf r) t (newIntersection desk (cutOf (t .dimension) k) r (members (s .intersections)) t)
+  intersection-keeps =
+      let n = rank-before r (F .some) in
+      let f = intersection-fit in
+      subst (λ (q : ℕ). Stays desk (SomeOf q) t (newIntersection desk (cutOf (t .dimension) k) q (members (s .intersections)) t)) (sym n)
+      (new-intersection-stays desk (cutOf (t .dimension) k) t (r - 1) (members (s .intersections)) (good (F .fit) (F .some)) (f .plane)
+      (test-le (suc (r - 1)) (t .dimension) (subst (λ (q : ℕ). q ≤ t .dimension) n (f .low))) (f .sets))
+
 module _ {cs es : List ℕ} {r e : ℕ} {k : Cutter} {s : Answers} where
-  pub rule6-flush : 1 < s .flushes → Rule6Done cs es r e k s (reply.Answered Flush) cs es
+  pub rule6-flush : 1 < getD (s .flush) 0 0 → Rule6Done cs es r e k s (reply.Answered Flush) cs es
   rule6-flush h = record {
     of = λ ps hs t g F. went Flush t (many-flush (cutOf (t .dimension) k) (element t e) g (g .flush) t (le-trans h (le-of-eq (F .gathers .flushes)))) refl (F .fit .holds);
   }
 
   -- exactly one
-  module _ (h : s .flushes ≡ 1) where
-    sole : {ps hs : List Float} {t : Table} {g : Gathered} → Rule6Fit cs ps hs es r e k s t g → g .flush ≡ s .flush .0 ∷ []
-    sole {g = g} F = one-flush (g .flush) (s .flush .0) (sym (F .gathers .flushes) ∙ h) (F .gathers .flush)
+  module _ (h : getD (s .flush) 0 0 ≡ 1) (f : ℕ) (w : f ≡ getD (s .flush) 1 0) where
+    sole : {ps hs : List Float} {t : Table} {g : Gathered} → Rule6Fit cs ps hs es r e k s t g → g .flush ≡ f ∷ []
+    sole {g = g} F = one-flush (g .flush) f (sym (F .gathers .flushes) ∙ h) (w ∙ F .gathers .flush)
 
-    flush-fit : {ps hs : List Float} {t : Table} {g : Gathered} → Rule6Fit cs ps hs es r e k s t g → Rule7Fit cs ps hs es r e k s (Some (s .flush)) t g
-    flush-fit {t = t} F = record {
-      answered = F;
-      intersection = subst (λ (n : ℕ). Ranked t n (s .flush .0)) (sym (rank-before r (F .some))) (subst (AllOf (Ranked t (suc (r - 1)))) (sole F) (F .sets .flush) .0);
-    }
+    flush-fit : {ps hs : List Float} {t : Table} {g : Gathered} → Rule6Fit cs ps hs es r e k s t g → Rule7Fit cs ps hs es r e k (s .inside) (s .outside) (given f) t g
+    flush-fit {t = t} F =
+        rule7-fit F (here (F .fit) (F .some)) (given f)
+        (subst (λ (n : ℕ). Ranked t n f) (sym (rank-before r (F .some))) (subst (AllOf (Ranked t (suc (r - 1)))) (sole F) (F .sets .flush) .0))
 
-    pub flush-ready : Rule6Ready cs es r e k s → Rule7Ready cs es r e k s (Some (s .flush))
+    pub flush-ready : Rule6Ready cs es r e k s → Rule7Ready cs es r e k (s .inside) (s .outside) (given f)
     flush-ready R = record { points = R .points; planes = R .planes; table = R .table; gathered = R .gathered; fit = flush-fit (R .fit) }
 
-    pub rule6-one : {y : CutReply} {cs′ es′ : List ℕ} → Rule7Done cs es r e k s (Some (s .flush)) y cs′ es′ → Rule6Done cs es r e k s y cs′ es′
+    pub rule6-one : {y : CutReply} {cs′ es′ : List ℕ} → Rule7Done cs es r e k (s .inside) (s .outside) (given f) y cs′ es′ → Rule6Done cs es r e k s y cs′ es′
     unfolding rule6
     rule6-one {y} {cs′} {es′} D = record {
       of = λ ps hs t g F.
@@ -235,7 +228,7 @@ module _ {cs es : List ℕ} {r e : ℕ} {k : Cutter} {s : Answers} where
   pub intersection-ready : Rule6Ready cs es r e k s → IntersectionReady cs es r k (s .intersections)
   intersection-ready R = record { points = R .points; planes = R .planes; table = R .table; fit = intersection-fit (R .fit) }
 
-  module _ (h : s .flushes ≤ 1) (n : s .flushes ≡ 1 → ⊥) {y : Added} {cs₁ es₁ : List ℕ} (M : IntersectionMade cs es r k (s .intersections) y cs₁ es₁) where
+  module _ (h : getD (s .flush) 0 0 ≤ 1) (n : getD (s .flush) 0 0 ≡ 1 → ⊥) {y : Added} {cs₁ es₁ : List ℕ} (M : IntersectionMade cs es r k (s .intersections) y cs₁ es₁) where
     none-flush : {ps hs : List Float} {t : Table} {g : Gathered} → Rule6Fit cs ps hs es r e k s t g → [] ≡ g .flush
     none-flush {g = g} F =
         let q = F .gathers .flushes in sym (no-flush (g .flush) (subst (λ (m : ℕ). m ≤ 1) q h) (subst (λ (m : ℕ). m ≡ 1 → ⊥) q n))
@@ -263,17 +256,17 @@ module _ {cs es : List ℕ} {r e : ℕ} {k : Cutter} {s : Answers} where
     module _ (x : ElementOrNone) (q : y ≡ added.Made x) where
       -- the table after the intersection
       crossed : {ps hs : List Float} {t : Table} {g : Gathered} → Rule6Fit cs ps hs es r e k s t g
-          → (u : Table) × (intersected k e t g ≡ done x u) × Later cs₁ ps hs es₁ t u × Rule7Fit cs₁ ps hs es₁ r e k s x u g
+          → (u : Table) × (intersected k e t g ≡ done x u) × Later cs₁ ps hs es₁ t u × Rule7Fit cs₁ ps hs es₁ r e k (s .inside) (s .outside) x u g
       crossed {ps} {hs} {t} {g} F =
           let m = made-is x q (middle F) in
           let K : Kept desk (SomeOf r) t x (m .table) = subst (Stays desk (SomeOf r) t) (same-intersection F ∙ m .made) (intersection-keeps F) in
           let U : Later cs₁ ps hs es₁ t (m .table) = record { extends = K .extends; good = K .good; holds = m .holds } in
-          (m .table, m .made, U, record { answered = fit-later F U; intersection = K .value })
+          (m .table, m .made, U, rule7-fit F U x (K .value))
 
-      pub intersection-known : Rule6Ready cs es r e k s → Rule7Ready cs₁ es₁ r e k s x
+      pub intersection-known : Rule6Ready cs es r e k s → Rule7Ready cs₁ es₁ r e k (s .inside) (s .outside) x
       intersection-known R = let m = crossed (R .fit) in record { points = R .points; planes = R .planes; table = m .0; gathered = R .gathered; fit = m .3 }
 
-      pub rule6-none : {z : CutReply} {cs₂ es₂ : List ℕ} → Rule7Done cs₁ es₁ r e k s x z cs₂ es₂ → Rule6Done cs es r e k s z cs₂ es₂
+      pub rule6-none : {z : CutReply} {cs₂ es₂ : List ℕ} → Rule7Done cs₁ es₁ r e k (s .inside) (s .outside) x z cs₂ es₂ → Rule6Done cs es r e k s z cs₂ es₂
       rule6-none {z} {cs₂} {es₂} D = record {
         of = λ ps hs t g F. (
             let m = crossed F in

@@ -21,18 +21,17 @@ use Rattle.rules.proofs.Ranked.{set-under}
 use Rattle.rules.proofs.StaysCut.{Owner, facts}
 use Rattle.space.specs.Closed.{Low, LowEnds, Edges}
 use Rattle.space.proofs.Room.{listOf, list-word}
-use Rattle.gathered.specs.Sets.{members, InRoom}
-use Rattle.gathered.specs.declared.sets.Set.{Set}
+use Rattle.gathered.specs.Sets.{sizeIn, members, InRoom}
 
 -- what is in use is within the room
 pub some-fits : (t : Table) → elementCount t ≤ 512 → (q : ℕ) (x : ElementOrNone) → SomeOf q x t → InRoom x
 some-fits t c q None h = tt
 some-fits t c q (Some e) h = le-trans (h .0) c
 
-pub low-of : (t : Table) → elementCount t ≤ 512 → (q : ℕ) (s : Set) → AllOf (Ranked t q) (members s) → Low (s .list) (s .n)
+pub low-of : (t : Table) → elementCount t ≤ 512 → (q : ℕ) (s : List ℕ) → AllOf (Ranked t q) (members s) → Low s (sizeIn s)
 low-of t c q s a = record {
   at = λ k h.
-      subst (λ (y : ℕ). y < 512) (getD-take (s .n) (s .list) k 0 h)
+      subst (λ (y : ℕ). y < 512) (getD-take (sizeIn s) s k 0 h)
       (below-get 512 (members s) k (lit≤ tt) (below-more (members s) c (all-below (elementCount t) (members s) (set-under t q (members s) a))));
 }
 
@@ -66,7 +65,7 @@ module _ (t : Table) (F : Fits desk t) (g : Good desk t) where
             below-more b (let q : x ≤ 512 = omega (arith, u, c) in q) (all-below x b (w .under)),
           )
 
-  pub ends-low : (es : List ℕ) → es ≡ elementsOf desk t → (s : Set) → s .n ≤ length (s .list) → AllOf (Ranked t 2) (members s) → LowEnds es (s .list) (s .n)
+  pub ends-low : (es : List ℕ) → es ≡ elementsOf desk t → (s : List ℕ) → sizeIn s ≤ length s → AllOf (Ranked t 2) (members s) → LowEnds es s (sizeIn s)
   ends-low es e s l a = record { first = λ k h. one k h 0 (lit≤ tt); second = λ k h. one k h 1 (lit≤ tt) }
     where
       at : (xs : List ℕ) (k : ℕ) → AllOf (Ranked t 2) xs → k < length xs → Ranked t 2 (getD xs k 0)
@@ -74,11 +73,11 @@ module _ (t : Table) (F : Fits desk t) (g : Good desk t) where
       at (x ∷ xs) zero p h = p .0
       at (x ∷ xs) (suc k) p h = at xs k (p .1) (le-of-suc-le-suc h)
 
-      one : (k : ℕ) → k < s .n → (j : ℕ) → j < 2 → getD es (getD (s .list) k 0 * 36 + (4 + j)) 0 < 512
+      one : (k : ℕ) → k < sizeIn s → (j : ℕ) → j < 2 → getD es (getD s k 0 * 36 + (4 + j)) 0 < 512
       one k h j i =
-          let m = length-take-le (s .n) (s .list) l in
-          subst (λ (w : List ℕ). getD w (getD (s .list) k 0 * 36 + (4 + j)) 0 < 512) (sym e)
-          (end-low (getD (s .list) k 0) j (subst (Ranked t 2) (getD-take (s .n) (s .list) k 0 h) (at (members s) k a (let q : k < length (members s) = omega (arith, m, h) in q))) i)
+          let m = length-take-le (sizeIn s) s l in
+          subst (λ (w : List ℕ). getD w (getD s k 0 * 36 + (4 + j)) 0 < 512) (sym e)
+          (end-low (getD s k 0) j (subst (Ranked t 2) (getD-take (sizeIn s) s k 0 h) (at (members s) k a (let q : k < length (members s) = omega (arith, m, h) in q))) i)
 
 -- ---- the element that is cut
 

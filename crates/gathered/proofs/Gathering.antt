@@ -1,63 +1,92 @@
 -- An answer gathered: a flush one is counted and is now the last, and the three parts of another go to their sets.
 use Prim.Native.Nat.{ℕ, _+_, _≤_, _<_}
+use mathlib.Core.List.{List}
 use mathlib.Core.Path.{_≡_, refl, sym, ap, _∙_, subst}
 use native.Mathlib.Nat.{le-trans}
 use native.Mathlib.Numerals.{add-one}
 use native.Mathlib.Omega.{arith}
+use lib.Dec.{lit≤}
+use lib.ListN.{length, getD, set, replicate, length-set}
+use lib.Seq.{getD-set-same, getD-set-other}
 use Rattle.rules.specs.Cut.{including}
 use Rattle.rules.specs.declared.ElementId.{ElementId}
 use Rattle.rules.specs.declared.ElementOrNone.{ElementOrNone}
 use Rattle.rules.specs.declared.ElementOrNone.the-variants.{Some}
 use Rattle.rules.specs.declared.ElementCutOutput.{ElementCutOutput}
 use Rattle.rules.specs.declared.ElementCutOutput.the-variants.{Flush, NonFlush}
-use Rattle.gathered.specs.Sets.{SizedSet, InRoom, OutputInRoom, Included, GatheredIn}
-use Rattle.gathered.specs.declared.sets.Set.{Set}
-use Rattle.gathered.specs.declared.sets.Answers.{Answers}
+use Rattle.gathered.specs.Sets.{answersIn, SizedSet, NothingYet, InRoom, OutputInRoom, Included, GatheredIn}
 
-pub at-most : {s : Set} (i m : ℕ) → i ≤ m → SizedSet s i → SizedSet s m
+pub at-most : {s : List ℕ} (i m : ℕ) → i ≤ m → SizedSet s i → SizedSet s m
 at-most i m h z = record { most = le-trans (z .most) h; long = z .long }
 
-one-more : {s : Set} {m : ℕ} → SizedSet s m → SizedSet s (m + 1)
+one-more : {s : List ℕ} {m : ℕ} → SizedSet s m → SizedSet s (m + 1)
 one-more {m = m} z = at-most m (m + 1) (let q : m ≤ m + 1 = omega arith in q) z
 
--- one flush answer more
-abbrev pub flushed : Answers → ElementId → Answers
-flushed s b = record { flushes = s .flushes + 1; flush = b; inside = s .inside; outside = s .outside; intersections = s .intersections }
+-- ---- blank words hold no answer
 
--- the three sets, and the flush answers as they were
-abbrev pub sided : Answers → Set → Set → Set → Answers
-sided s i o x = record { flushes = s .flushes; flush = s .flush; inside = i; outside = o; intersections = x }
+blank-set : SizedSet (replicate 34 0) 0
+blank-set = record { most = lit≤ tt; long = refl }
 
-module _ (s : Answers) (b : ElementId) (a : ElementCutOutput) where
-  pub gather-flush : a ≡ Flush → GatheredIn s (b .0) a (flushed s b)
-  gather-flush e = subst (λ (x : ElementCutOutput). GatheredIn s (b .0) x (flushed s b)) (sym e) (record {
+pub nothing-gathered : NothingYet (answersIn (replicate 2 0) (replicate 34 0) (replicate 34 0) (replicate 34 0))
+nothing-gathered = record {
+  of = record { flushes = refl; flush = refl; inside = refl; outside = refl; intersections = refl };
+  sized = record { flushes = lit≤ tt; flush = refl; inside = blank-set; outside = blank-set; intersections = blank-set };
+}
+
+-- ---- the flush answers
+
+-- one more, and b is the last
+abbrev pub flushed : List ℕ → ℕ → List ℕ
+flushed f b = set (set f 0 (getD f 0 0 + 1)) 1 b
+
+module _ (f : List ℕ) (b : ℕ) (long : length f ≡ 2) where
+  flushed-count : getD (flushed f b) 0 0 ≡ getD f 0 0 + 1
+  flushed-count =
+      getD-set-other (set f 0 (getD f 0 0 + 1)) 1 0 b 0 (λ e. (let z : ⊥ = omega (arith, e) in z))
+      ∙ getD-set-same f 0 (getD f 0 0 + 1) 0 (let q : 0 < length f = omega (arith, long) in q)
+
+  flushed-last : getD (flushed f b) 1 0 ≡ b
+  flushed-last =
+      let a = length-set f 0 (getD f 0 0 + 1) in
+      getD-set-same (set f 0 (getD f 0 0 + 1)) 1 b 0 (let q : 1 < length (set f 0 (getD f 0 0 + 1)) = omega (arith, a, long) in q)
+
+  flushed-long : length (flushed f b) ≡ 2
+  flushed-long = length-set (set f 0 (getD f 0 0 + 1)) 1 b ∙ length-set f 0 (getD f 0 0 + 1) ∙ long
+
+-- ---- an answer
+
+module _ (f i o x : List ℕ) (b : ℕ) (a : ElementCutOutput) where
+  pub gather-flush : length f ≡ 2 → a ≡ Flush → GatheredIn (answersIn f i o x) b a (answersIn (flushed f b) i o x)
+  gather-flush long e = subst (λ (y : ElementCutOutput). GatheredIn (answersIn f i o x) b y (answersIn (flushed f b) i o x)) (sym e) (record {
     of = λ g G. record {
-      flushes = ap (λ (n : ℕ). n + 1) (G .flushes) ∙ add-one _;
-      flush = refl;
+      flushes = flushed-count f b long ∙ ap (λ (n : ℕ). n + 1) (G .flushes) ∙ add-one _;
+      flush = flushed-last f b long;
       inside = G .inside;
       outside = G .outside;
       intersections = G .intersections;
     };
     sized = λ m z. record {
-      flushes = (let q = z .flushes in omega (arith, q));
+      flushes = (let q = z .flushes in let n = flushed-count f b long in omega (arith, n, q));
+      flush = flushed-long f b long;
       inside = one-more (z .inside);
       outside = one-more (z .outside);
       intersections = one-more (z .intersections);
     };
   })
 
-  pub gather-sides : (i o x : ElementOrNone) (si so sx : Set) → a ≡ NonFlush i o x → Included (s .inside) i si → Included (s .outside) o so → Included (s .intersections) x sx
-      → GatheredIn s (b .0) a (sided s si so sx)
-  gather-sides i o x si so sx e I O X = subst (λ (y : ElementCutOutput). GatheredIn s (b .0) y (sided s si so sx)) (sym e) (record {
+  pub gather-sides : (ei eo ex : ElementOrNone) (si so sx : List ℕ) → a ≡ NonFlush ei eo ex → Included i ei si → Included o eo so → Included x ex sx
+      → GatheredIn (answersIn f i o x) b a (answersIn f si so sx)
+  gather-sides ei eo ex si so sx e I O X = subst (λ (y : ElementCutOutput). GatheredIn (answersIn f i o x) b y (answersIn f si so sx)) (sym e) (record {
     of = λ g G. record {
       flushes = G .flushes;
       flush = G .flush;
-      inside = I .of ∙ ap (including i) (G .inside);
-      outside = O .of ∙ ap (including o) (G .outside);
-      intersections = X .of ∙ ap (including x) (G .intersections);
+      inside = I .of ∙ ap (including ei) (G .inside);
+      outside = O .of ∙ ap (including eo) (G .outside);
+      intersections = X .of ∙ ap (including ex) (G .intersections);
     };
     sized = λ m z. record {
       flushes = (let q = z .flushes in omega (arith, q));
+      flush = z .flush;
       inside = I .sized m (z .inside);
       outside = O .sized m (z .outside);
       intersections = X .sized m (z .intersections);

@@ -1,13 +1,13 @@
 -- The gathered intersections, added as an element of the rank below: the call of rule 8 is the step of the rules.
 use Prim.Native.Nat.{ℕ, _-_, _≤_, _<_}
-use mathlib.Core.Path.{_≡_, refl, ap, _∙_, subst}
+use mathlib.Core.Path.{_≡_, refl, sym, ap, _∙_, subst}
 use mathlib.Core.Bool.{Bool, true, false}
 use mathlib.Core.Option.{Option, none, some}
 use mathlib.Core.List.{List}
 use native.Mathlib.Nat.{le-trans}
 use native.Mathlib.Omega.{arith}
 use lib.Dec.{eqb}
-use lib.ListN.{length, getD}
+use lib.ListN.{length, getD, take}
 use lib.Ieee.{Float}
 use borrow.Author.Tests.{lt-leb, ne-eqb}
 use Rattle.rules.specs.Limits.{desk, noPlane}
@@ -25,9 +25,8 @@ use Rattle.space.specs.declared.memo.Added.{Added}
 use Rattle.space.specs.declared.memo.Added.the-variants as added
 use Rattle.space.proofs.VertexMemo.{dimension-is}
 use Rattle.space.proofs.Slices.{slices}
-use Rattle.gathered.specs.Sets.{members}
+use Rattle.gathered.specs.Sets.{sizeIn, members}
 use Rattle.gathered.specs.Cutting.{cutOf, IntersectionFit, IntersectionReady, IntersectionMade}
-use Rattle.gathered.specs.declared.sets.Set.{Set}
 use Rattle.gathered.specs.declared.answer.Cutter.{Cutter}
 use Rattle.gathered.proofs.Fitting.{low-of, edges-of, ends-low}
 
@@ -36,17 +35,18 @@ named : (n : ℕ) → n < 65535 → (b : Bool) → planeNamed (if b then n else 
 named n l true = ap (λ (c : Bool). if c then none else some n) (ne-eqb n 65535 (λ e. (let z : ⊥ = omega (arith, e, l) in z)))
 named n l false = refl
 
-module _ {cs es : List ℕ} {r : ℕ} {k : Cutter} {set : Set} where
+module _ {cs es : List ℕ} {r : ℕ} {k : Cutter} {set : List ℕ} where
   -- what the calls ask for
   pub plane-asks : IntersectionReady cs es r k set → (length cs ≡ 4) × (k .number .0 < 64)
   plane-asks R = (slices (R .fit .holds) .counts, le-trans (R .fit .plane) (R .fit .holds .fits .planeRoom))
 
-  pub intersection-asks : IntersectionReady cs es r k set
-      → (length cs ≡ 4) × (length es ≡ 18432) × (getD cs 1 0 ≤ 512) × (length (set .list) ≡ 33) × (set .n ≤ 33) × (r - 1 < 65536) × Low (set .list) (set .n) × (r - 1 ≡ 2 → LowEnds es (set .list) (set .n))
-  intersection-asks R =
+  -- n is the size of the set, as it was read
+  pub intersection-asks : IntersectionReady cs es r k set → (n : ℕ) → n ≡ sizeIn set
+      → (length cs ≡ 4) × (length es ≡ 18432) × (getD cs 1 0 ≤ 512) × (length set ≡ 34) × (n ≤ 33) × (r - 1 < 65536) × Low set n × (r - 1 ≡ 2 → LowEnds es set n)
+  intersection-asks R n size =
       let F = R .fit in
       let t = R .table in
-      let n = F .sized .most in
+      let most = F .sized .most in
       let long = F .sized .long in
       let low = F .low in
       let four = le-test (t .dimension) 4 (sound-good desk t (F .sound) .high) in (
@@ -54,12 +54,13 @@ module _ {cs es : List ℕ} {r : ℕ} {k : Cutter} {set : Set} where
         slices (F .holds) .elements,
         slices (F .holds) .elementsFit,
         F .sized .long,
-        (let q : set .n ≤ 33 = omega (arith, n) in q),
+        (let q : n ≤ 33 = omega (arith, size, most) in q),
         (let q : r - 1 < 65536 = omega (arith, low, four) in q),
-        low-of t (F .holds .fits .elementRoom) (r - 1) set (F .sets .ranked),
+        subst (Low set) (sym size) (low-of t (F .holds .fits .elementRoom) (r - 1) set (F .sets .ranked)),
         (λ two.
-            ends-low t (F .holds .fits) (sound-good desk t (F .sound)) es (F .holds .elements) set (let q : set .n ≤ length (set .list) = omega (arith, n, long) in q)
-            (subst (λ (m : ℕ). AllOf (Ranked t m) (members set)) two (F .sets .ranked))),
+            subst (LowEnds es set) (sym size)
+            (ends-low t (F .holds .fits) (sound-good desk t (F .sound)) es (F .holds .elements) set (let q : sizeIn set ≤ length set = omega (arith, most, long) in q)
+            (subst (λ (m : ℕ). AllOf (Ranked t m) (members set)) two (F .sets .ranked)))),
       )
 
   plane-is : {ps hs : List Float} {t : Table} (plane : ℕ) → plane ≡ (if eqb r (getD cs 0 0) then k .number .0 else noPlane) → IntersectionFit cs ps hs es r k set t
@@ -69,11 +70,11 @@ module _ {cs es : List ℕ} {r : ℕ} {k : Cutter} {set : Set} where
       ap planeNamed (p ∙ ap (λ (d : ℕ). if eqb r d then k .number .0 else noPlane) (dimension-is (getD cs 0 0) refl (F .holds)))
       ∙ named (k .number .0) (let z : k .number .0 < 65535 = omega (arith, few) in z) (eqb r (t .dimension))
 
-  pub intersection-made : {y : Added} {cs′ es′ : List ℕ} (plane : ℕ) → plane ≡ (if eqb r (getD cs 0 0) then k .number .0 else noPlane)
-      → PolytopeAdded cs es (r - 1) (members set) plane false y cs′ es′ → IntersectionMade cs es r k set y cs′ es′
-  intersection-made {y} {cs′} {es′} plane p A = record {
+  pub intersection-made : {y : Added} {cs′ es′ : List ℕ} (plane n : ℕ) → n ≡ sizeIn set → plane ≡ (if eqb r (getD cs 0 0) then k .number .0 else noPlane)
+      → PolytopeAdded cs es (r - 1) (take n set) plane false y cs′ es′ → IntersectionMade cs es r k set y cs′ es′
+  intersection-made {y} {cs′} {es′} plane n size p A = record {
     of = λ ps hs t F.
         subst (λ (h : Option ℕ). Came added.Made added.Refused (Holds desk cs′ ps hs es′) t (addPolytope desk (r - 1) (members set) h false t) y) (plane-is plane p F)
-        (A .of ps hs t (F .holds) (λ l. le-test 1 (r - 1) (rank-above t (r - 1) (members set) (F .sets) (lt-leb (length (members set)) (r - 1) l)))
+        (subst (λ (m : ℕ). PolytopeAdded cs es (r - 1) (take m set) plane false y cs′ es′) size A .of ps hs t (F .holds) (λ l. le-test 1 (r - 1) (rank-above t (r - 1) (members set) (F .sets) (lt-leb (length (members set)) (r - 1) l)))
         (λ two. edges-of t (sound-good desk t (F .sound)) (members set) (subst (λ (n : ℕ). AllOf (Ranked t n) (members set)) two (F .sets .ranked))));
   }

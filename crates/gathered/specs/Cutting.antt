@@ -15,9 +15,7 @@ use Rattle.rules.specs.declared.CutReply.{CutReply}
 use Rattle.rules.specs.declared.CutReply.the-variants as reply
 use Rattle.space.specs.declared.memo.Added.{Added}
 use Rattle.space.specs.declared.memo.Added.the-variants as added
-use Rattle.gathered.specs.Sets.{members, SizedSet, Sized, Gathers}
-use Rattle.gathered.specs.declared.sets.Set.{Set}
-use Rattle.gathered.specs.declared.sets.Answers.{Answers}
+use Rattle.gathered.specs.Sets.{members, SizedSet, Answers, Sized, Gathers}
 use Rattle.gathered.specs.declared.answer.Cutter.{Cutter}
 
 -- ---- the cut of one element
@@ -42,7 +40,7 @@ pub record Fit (cs : List ℕ) (ps hs : List Float) (es : List ℕ) (r e : ℕ) 
 -- ---- the intersection
 
 -- in a sound table that the memory holds, the set is of elements in use, two ranks below r
-pub record IntersectionFit (cs : List ℕ) (ps hs : List Float) (es : List ℕ) (r : ℕ) (k : Cutter) (set : Set) (t : Table) : Type 0 where
+pub record IntersectionFit (cs : List ℕ) (ps hs : List Float) (es : List ℕ) (r : ℕ) (k : Cutter) (set : List ℕ) (t : Table) : Type 0 where
   pub holds : Holds desk cs ps hs es t
   pub sound : sound desk t ≡ true
   pub plane : k .number .0 < length (t .planes)
@@ -52,21 +50,21 @@ pub record IntersectionFit (cs : List ℕ) (ps hs : List Float) (es : List ℕ) 
   pub sets : SetOf t (r - 1) (members set)
 
 -- there is such a table
-pub record IntersectionReady (cs es : List ℕ) (r : ℕ) (k : Cutter) (set : Set) : Type 0 where
+pub record IntersectionReady (cs es : List ℕ) (r : ℕ) (k : Cutter) (set : List ℕ) : Type 0 where
   pub points : List Float
   pub planes : List Float
   pub table : Table
   pub fit : IntersectionFit cs points planes es r k set table
 
 -- whatever such table the memory holds: the intersection's step
-pub record IntersectionMade (cs es : List ℕ) (r : ℕ) (k : Cutter) (set : Set) (y : Added) (cs′ es′ : List ℕ) : Type 0 where
+pub record IntersectionMade (cs es : List ℕ) (r : ℕ) (k : Cutter) (set : List ℕ) (y : Added) (cs′ es′ : List ℕ) : Type 0 where
   pub of : (ps hs : List Float) (t : Table) → IntersectionFit cs ps hs es r k set t
       → Came added.Made added.Refused (Holds desk cs′ ps hs es′) t (newIntersection desk (cutOf (t .dimension) k) r (members set) t) y
 
 -- ---- a side
 
 -- in a sound table that the memory holds, element e is in use and of rank r, and the set and the intersection are in use and of the rank below
-pub record SideFit (cs : List ℕ) (ps hs : List Float) (es : List ℕ) (r e : ℕ) (set : Set) (x : ElementOrNone) (t : Table) : Type 0 where
+pub record SideFit (cs : List ℕ) (ps hs : List Float) (es : List ℕ) (r e : ℕ) (set : List ℕ) (x : ElementOrNone) (t : Table) : Type 0 where
   pub holds : Holds desk cs ps hs es t
   pub sound : sound desk t ≡ true
   pub used : e < elementCount t
@@ -77,14 +75,14 @@ pub record SideFit (cs : List ℕ) (ps hs : List Float) (es : List ℕ) (r e : �
   pub intersection : SomeOf r x t
 
 -- there is such a table
-pub record SideReady (cs es : List ℕ) (r e : ℕ) (set : Set) (x : ElementOrNone) : Type 0 where
+pub record SideReady (cs es : List ℕ) (r e : ℕ) (set : List ℕ) (x : ElementOrNone) : Type 0 where
   pub points : List Float
   pub planes : List Float
   pub table : Table
   pub fit : SideFit cs points planes es r e set x table
 
 -- whatever such table the memory holds: the side's step
-pub record SideMade (cs es : List ℕ) (r e : ℕ) (keep : Bool) (set : Set) (x : ElementOrNone) (y : Added) (cs′ es′ : List ℕ) : Type 0 where
+pub record SideMade (cs es : List ℕ) (r e : ℕ) (keep : Bool) (set : List ℕ) (x : ElementOrNone) (y : Added) (cs′ es′ : List ℕ) : Type 0 where
   pub of : (ps hs : List Float) (t : Table) → SideFit cs ps hs es r e set x t
       → Came added.Made added.Refused (Holds desk cs′ ps hs es′) t (sideOfCut desk keep (element t e) x (members set) t) y
 
@@ -113,20 +111,29 @@ pub record Rule6Done (cs es : List ℕ) (r e : ℕ) (k : Cutter) (s : Answers) (
 
 -- ---- rule 7
 
--- the same, and the intersection is in use and of the rank below
-pub record Rule7Fit (cs : List ℕ) (ps hs : List Float) (es : List ℕ) (r e : ℕ) (k : Cutter) (s : Answers) (x : ElementOrNone) (t : Table) (g : Gathered) : Type 0 where
-  pub answered : Rule6Fit cs ps hs es r e k s t g
+-- the words of a side's set, of elements in use and of the rank below r
+pub record SideSet (r : ℕ) (t : Table) (set xs : List ℕ) : Type 0 where
+  pub held : members set ≡ xs
+  pub sized : SizedSet set 32
+  pub sets : SetOf t r xs
+
+-- the boundary of element e has answered, the code holds the sides' sets, and the intersection is in use and of the rank below
+pub record Rule7Fit (cs : List ℕ) (ps hs : List Float) (es : List ℕ) (r e : ℕ) (k : Cutter) (i o : List ℕ) (x : ElementOrNone) (t : Table) (g : Gathered) : Type 0 where
+  pub fit : Fit cs ps hs es r e k t
+  pub some : 1 ≤ r
+  pub inside : SideSet r t i (g .inside)
+  pub outside : SideSet r t o (g .outside)
   pub intersection : SomeOf r x t
 
 -- there is such a table
-pub record Rule7Ready (cs es : List ℕ) (r e : ℕ) (k : Cutter) (s : Answers) (x : ElementOrNone) : Type 0 where
+pub record Rule7Ready (cs es : List ℕ) (r e : ℕ) (k : Cutter) (i o : List ℕ) (x : ElementOrNone) : Type 0 where
   pub points : List Float
   pub planes : List Float
   pub table : Table
   pub gathered : Gathered
-  pub fit : Rule7Fit cs points planes es r e k s x table gathered
+  pub fit : Rule7Fit cs points planes es r e k i o x table gathered
 
 -- whatever such table the memory holds, and whatever is gathered: rule 7
-pub record Rule7Done (cs es : List ℕ) (r e : ℕ) (k : Cutter) (s : Answers) (x : ElementOrNone) (y : CutReply) (cs′ es′ : List ℕ) : Type 0 where
-  pub of : (ps hs : List Float) (t : Table) (g : Gathered) → Rule7Fit cs ps hs es r e k s x t g
+pub record Rule7Done (cs es : List ℕ) (r e : ℕ) (k : Cutter) (i o : List ℕ) (x : ElementOrNone) (y : CutReply) (cs′ es′ : List ℕ) : Type 0 where
+  pub of : (ps hs : List Float) (t : Table) (g : Gathered) → Rule7Fit cs ps hs es r e k i o x t g
       → Came reply.Answered reply.Refused (Holds desk cs′ ps hs es′) t (rule7 desk (cutOf (t .dimension) k) (element t e) g x t) y

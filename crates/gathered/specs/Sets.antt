@@ -1,43 +1,61 @@
--- What code holds of a set, and of what rules 4 and 5 gather. Definitions only.
+-- What code holds of a set, and of what rules 4 and 5 gather: lent words. Definitions only.
 use Prim.Native.Nat.{ℕ, _+_, _-_, _≤_, _<_}
 use mathlib.Core.Path.{_≡_}
 use mathlib.Core.List.{List, _++_}
 use lib.ListN.{length, getD, take, drop, set}
 use lib.Seq.{sets}
 use Rattle.rules.specs.Lists.{withMember}
-use Rattle.rules.specs.Cut.{Gathered, including, gathering}
+use Rattle.rules.specs.Cut.{Gathered, nothingYet, including, gathering}
 use Rattle.rules.specs.declared.ElementOrNone.{ElementOrNone}
 use Rattle.rules.specs.declared.ElementOrNone.the-variants.{None, Some}
 use Rattle.rules.specs.declared.ElementCutOutput.{ElementCutOutput}
 use Rattle.rules.specs.declared.ElementCutOutput.the-variants.{Flush, NonFlush}
-use Rattle.gathered.specs.declared.sets.Set.{Set}
-use Rattle.gathered.specs.declared.sets.Answers.{Answers}
 
 -- ---- what is held
 
--- the front of the array is the set
-abbrev pub members : Set → List ℕ
-members s = take (s .n) (s .list)
+-- the last word of a set says how many numbers it has
+abbrev pub sizeIn : List ℕ → ℕ
+sizeIn s = getD s 33 0
+
+-- and they stand in front
+abbrev pub members : List ℕ → List ℕ
+members s = take (sizeIn s) s
+
+-- the words of the flush answers, and of the sets of all other answers
+pub record Answers : Type 0 where
+  pub flush : List ℕ
+  pub inside : List ℕ
+  pub outside : List ℕ
+  pub intersections : List ℕ
+
+abbrev pub answersIn : List ℕ → List ℕ → List ℕ → List ℕ → Answers
+answersIn f i o x = record { flush = f; inside = i; outside = o; intersections = x }
 
 -- flush answers by their count and the last one, the others as sets
 pub record Gathers (s : Answers) (g : Gathered) : Type 0 where
-  pub flushes : s .flushes ≡ length (g .flush)
-  pub flush : s .flush .0 ≡ getD (g .flush) 0 0
+  pub flushes : getD (s .flush) 0 0 ≡ length (g .flush)
+  pub flush : getD (s .flush) 1 0 ≡ getD (g .flush) 0 0
   pub inside : members (s .inside) ≡ g .inside
   pub outside : members (s .outside) ≡ g .outside
   pub intersections : members (s .intersections) ≡ g .intersections
 
--- no more than m numbers, in an array of its room
-pub record SizedSet (s : Set) (m : ℕ) : Type 0 where
-  pub most : s .n ≤ m
-  pub long : length (s .list) ≡ 33
+-- no more than m numbers, in words of its room
+pub record SizedSet (s : List ℕ) (m : ℕ) : Type 0 where
+  pub most : sizeIn s ≤ m
+  pub long : length s ≡ 34
 
 -- no more than m answers, of any kind
 pub record Sized (s : Answers) (m : ℕ) : Type 0 where
-  pub flushes : s .flushes ≤ m
+  pub flushes : getD (s .flush) 0 0 ≤ m
+  pub flush : length (s .flush) ≡ 2
   pub inside : SizedSet (s .inside) m
   pub outside : SizedSet (s .outside) m
   pub intersections : SizedSet (s .intersections) m
+
+-- the words before any answer
+pub record NothingYet (s : Answers) : Type 0 where
+  pub of : Gathers s nothingYet
+  pub sized : Sized s 0
 
 -- ---- a number put in
 
@@ -46,21 +64,21 @@ pub record Passed (x : ℕ) (xs : List ℕ) (at : ℕ) : Type 0 where
   pub so : withMember x xs ≡ take at xs ++ withMember x (drop at xs)
 
 -- x stands there, or belongs there
-pub record Place (s : Set) (x r : ℕ) : Type 0 where
+pub record Place (s : List ℕ) (x r : ℕ) : Type 0 where
   pub passed : Passed x (members s) r
-  pub within : r ≤ s .n
-  pub stop : r < s .n → x ≤ getD (s .list) r 0
+  pub within : r ≤ sizeIn s
+  pub stop : r < sizeIn s → x ≤ getD s r 0
 
--- the array with x stored at a place, and behind it j of those that stood there
-abbrev pub shifted : List ℕ → ℕ → ℕ → ℕ → ℕ → List ℕ
-shifted list n x at j = sets (set list at x) (at + 1) (take j (drop at (take n list)))
+-- the words with x stored at a place, and behind it j of the members that stood there
+abbrev pub shifted : List ℕ → ℕ → ℕ → ℕ → List ℕ
+shifted s x at j = sets (set s at x) (at + 1) (take j (drop at (members s)))
 
 -- the set with x at a place
-abbrev pub putAt : Set → ℕ → ℕ → Set
-putAt s x at = record { list = shifted (s .list) (s .n) x at (s .n - at); n = s .n + 1 }
+abbrev pub putAt : List ℕ → ℕ → ℕ → List ℕ
+putAt s x at = set (shifted s x at (sizeIn s - at)) 33 (sizeIn s + 1)
 
 -- the set with the element in it, if there is one
-pub record Included (s : Set) (p : ElementOrNone) (r : Set) : Type 0 where
+pub record Included (s : List ℕ) (p : ElementOrNone) (r : List ℕ) : Type 0 where
   pub of : members r ≡ including p (members s)
   pub sized : (m : ℕ) → SizedSet s m → SizedSet r (m + 1)
 

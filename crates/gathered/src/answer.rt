@@ -1,7 +1,6 @@
 // Rules 6 to 8: what a cut adds for an element whose boundary has answered, and the element's own answer.
-use crate::sets;
-use crate::sets::Answers;
-use crate::sets::Set;
+use crate::sets::SIZE;
+use crate::sets::include;
 use rules::CutReply;
 use rules::ElementCutOutput;
 use rules::ElementId;
@@ -20,6 +19,7 @@ ghost use lib.ListN.{length, getD};
 ghost use Rattle.rules.specs.Limits.{noPlane};
 ghost use Rattle.rules.specs.Lists.{if_then_else_};
 ghost use Rattle.space.specs.Chains.{Indexed};
+ghost use Rattle.gathered.specs.Sets.{answersIn};
 ghost use Rattle.gathered.specs.Cutting.{IntersectionReady, IntersectionMade, SideReady, SideMade, Rule7Ready, Rule7Done, Rule6Ready, Rule6Done};
 
 // The divider as given, its hyperplane's number, and which sides are kept.
@@ -49,16 +49,15 @@ fn new_intersection(
     index: &mut [u16],
     rank: usize,
     k: Cutter,
-    set: Set,
+    set: &[u16; 34],
 ) -> Added
-    requires { ⌜ IntersectionReady (now counts) (now elements) rank k set × Indexed (now elements) (getD (now counts) 1 0) (now index) ⌝ }
-    ensures { λ r. ⌜ IntersectionMade (now (counts .entry)) (now (elements .entry)) rank k set r (now (counts .exit)) (now (elements .exit)) × Indexed (now (elements .exit)) (getD (now (counts .exit)) 1 0) (now (index .exit)) ⌝ }
+    requires { ⌜ IntersectionReady (now counts) (now elements) rank k (now set) × Indexed (now elements) (getD (now counts) 1 0) (now index) ⌝ }
+    ensures { λ r. ⌜ IntersectionMade (now (counts .entry)) (now (elements .entry)) rank k (now (set .entry)) r (now (counts .exit)) (now (elements .exit)) × Indexed (now (elements .exit)) (getD (now (counts .exit)) 1 0) (now (index .exit)) ⌝ }
 {
     let number = k.number;
     let plane = plane_of_intersection(counts, rank, number);
-    let list = set.list;
-    let n = set.n;
-    memo::add_polytope(counts, elements, index, rank - 1, &list, n, plane, false)
+    let n = wide(set[SIZE]);
+    memo::add_polytope(counts, elements, index, rank - 1, set, n, plane, false)
 }
 
 // A side's set and the intersection, with the old rank, hyperplane and mark; a removed side is none.
@@ -69,21 +68,20 @@ fn side_of_cut(
     e: ElementId,
     rank: usize,
     keep: bool,
-    set: Set,
+    set: &mut [u16; 34],
     x: ElementOrNone,
 ) -> Added
-    requires { ⌜ SideReady (now counts) (now elements) rank (e .0) set x × Indexed (now elements) (getD (now counts) 1 0) (now index) ⌝ }
-    ensures { λ r. ⌜ SideMade (now (counts .entry)) (now (elements .entry)) rank (e .0) keep set x r (now (counts .exit)) (now (elements .exit)) × Indexed (now (elements .exit)) (getD (now (counts .exit)) 1 0) (now (index .exit)) ⌝ }
+    requires { ⌜ SideReady (now counts) (now elements) rank (e .0) (now set) x × Indexed (now elements) (getD (now counts) 1 0) (now index) ⌝ }
+    ensures { λ r. ⌜ SideMade (now (counts .entry)) (now (elements .entry)) rank (e .0) keep (now (set .entry)) x r (now (counts .exit)) (now (elements .exit)) × Indexed (now (elements .exit)) (getD (now (counts .exit)) 1 0) (now (index .exit)) ⌝ }
 {
     if !keep {
         return Added::Made(ElementOrNone::None);
     }
     let plane = rows::plane_of(elements, e);
     let mark = rows::is_primordial(elements, e);
-    let all = sets::including(set, x);
-    let list = all.list;
-    let n = all.n;
-    memo::add_polytope(counts, elements, index, rank, &list, n, plane, mark)
+    include(set, x);
+    let n = wide(set[SIZE]);
+    memo::add_polytope(counts, elements, index, rank, set, n, plane, mark)
 }
 
 // The intersection is known: then inside, then outside.
@@ -94,19 +92,18 @@ fn rule7(
     e: ElementId,
     rank: usize,
     k: Cutter,
-    s: Answers,
+    inside: &mut [u16; 34],
+    outside: &mut [u16; 34],
     x: ElementOrNone,
 ) -> CutReply
-    requires { ⌜ Rule7Ready (now counts) (now elements) rank (e .0) k s x × Indexed (now elements) (getD (now counts) 1 0) (now index) ⌝ }
-    ensures { λ r. ⌜ Rule7Done (now (counts .entry)) (now (elements .entry)) rank (e .0) k s x r (now (counts .exit)) (now (elements .exit)) × Indexed (now (elements .exit)) (getD (now (counts .exit)) 1 0) (now (index .exit)) ⌝ }
+    requires { ⌜ Rule7Ready (now counts) (now elements) rank (e .0) k (now inside) (now outside) x × Indexed (now elements) (getD (now counts) 1 0) (now index) ⌝ }
+    ensures { λ r. ⌜ Rule7Done (now (counts .entry)) (now (elements .entry)) rank (e .0) k (now (inside .entry)) (now (outside .entry)) x r (now (counts .exit)) (now (elements .exit)) × Indexed (now (elements .exit)) (getD (now (counts .exit)) 1 0) (now (index .exit)) ⌝ }
 {
-    let inner = s.inside;
-    let first = side_of_cut(counts, elements, index, e, rank, k.keep_inside, inner, x);
+    let first = side_of_cut(counts, elements, index, e, rank, k.keep_inside, inside, x);
     match first {
         Added::Refused(no) => CutReply::Refused(no),
         Added::Made(i) => {
-            let outer = s.outside;
-            let second = side_of_cut(counts, elements, index, e, rank, k.keep_outside, outer, x);
+            let second = side_of_cut(counts, elements, index, e, rank, k.keep_outside, outside, x);
             match second {
                 Added::Refused(no) => CutReply::Refused(no),
                 Added::Made(o) => CutReply::Answered(ElementCutOutput::NonFlush {
@@ -127,32 +124,25 @@ pub fn rule6(
     e: ElementId,
     rank: usize,
     k: Cutter,
-    s: Answers,
+    flush: &[u16; 2],
+    inside: &mut [u16; 34],
+    outside: &mut [u16; 34],
+    intersections: &[u16; 34],
 ) -> CutReply
-    requires { ⌜ Rule6Ready (now counts) (now elements) rank (e .0) k s × Indexed (now elements) (getD (now counts) 1 0) (now index) ⌝ }
-    ensures { λ r. ⌜ Rule6Done (now (counts .entry)) (now (elements .entry)) rank (e .0) k s r (now (counts .exit)) (now (elements .exit)) × Indexed (now (elements .exit)) (getD (now (counts .exit)) 1 0) (now (index .exit)) ⌝ }
+    requires { ⌜ Rule6Ready (now counts) (now elements) rank (e .0) k (answersIn (now flush) (now inside) (now outside) (now intersections)) × Indexed (now elements) (getD (now counts) 1 0) (now index) ⌝ }
+    ensures { λ r. ⌜ Rule6Done (now (counts .entry)) (now (elements .entry)) rank (e .0) k (answersIn (now (flush .entry)) (now (inside .entry)) (now (outside .entry)) (now (intersections .entry))) r (now (counts .exit)) (now (elements .exit)) × Indexed (now (elements .exit)) (getD (now (counts .exit)) 1 0) (now (index .exit)) ⌝ }
 {
-    let flushes = s.flushes;
+    let flushes = flush[0];
     if 1 < flushes {
         return CutReply::Answered(ElementCutOutput::Flush);
     }
     if flushes == 1 {
-        let flush = s.flush;
-        return rule7(
-            counts,
-            elements,
-            index,
-            e,
-            rank,
-            k,
-            s,
-            ElementOrNone::Some(flush),
-        );
+        let x = ElementOrNone::Some(ElementId(wide(flush[1])));
+        return rule7(counts, elements, index, e, rank, k, inside, outside, x);
     }
-    let set = s.intersections;
-    let middle = new_intersection(counts, elements, index, rank, k, set);
+    let middle = new_intersection(counts, elements, index, rank, k, intersections);
     match middle {
         Added::Refused(no) => CutReply::Refused(no),
-        Added::Made(x) => rule7(counts, elements, index, e, rank, k, s, x),
+        Added::Made(x) => rule7(counts, elements, index, e, rank, k, inside, outside, x),
     }
 }

@@ -1,52 +1,29 @@
-// What a boundary's elements answer, gathered: flush answers are counted, all other answers go to three sets.
+// What a boundary's elements answer, gathered in lent words: flush answers are counted, all other answers go to three sets.
 use rules::ElementCutOutput;
 use rules::ElementId;
 use rules::ElementOrNone;
+use space::words::wide;
 ghost use Prim.Native.Nat.{_≤_, _<_};
 ghost use mathlib.Core.Path.{_≡_};
-ghost use Rattle.rules.specs.Cut.{nothingYet};
-ghost use Rattle.gathered.specs.Sets.{SizedSet, Sized, Gathers, Place, putAt, InRoom, OutputInRoom, Included, GatheredIn};
+ghost use Rattle.gathered.specs.Sets.{sizeIn, SizedSet, Sized, answersIn, Place, putAt, InRoom, OutputInRoom, Included, GatheredIn};
 
-// Numbers of elements, each above the one before; one place more than a boundary may have, so that rule 8 can refuse.
-pub struct Set {
-    pub list: [u16; 33],
-    pub n: usize,
-}
+// The words of a set: numbers of elements, each above the one before, one place more than a boundary may have, so that rule 8 can refuse; and behind them how many are in use.
+pub const SET: usize = 34;
 
-// How many answers were flush and the last such element, and the sets of all other answers.
-pub struct Answers {
-    pub flushes: usize,
-    pub flush: ElementId,
-    pub inside: Set,
-    pub outside: Set,
-    pub intersections: Set,
-}
+pub const SIZE: usize = 33;
 
-pub fn nothing_yet() -> Answers
-    ensures { λ r. ⌜ Gathers r nothingYet × Sized r 0 ⌝ }
-{
-    let list = [0u16; 33];
-    let none = Set { list, n: 0 };
-    let flush = ElementId(0);
-    Answers {
-        flushes: 0,
-        flush,
-        inside: none,
-        outside: none,
-        intersections: none,
-    }
-}
+// The words of the flush answers: how many there were, and the last such element.
+pub const FLUSH: usize = 2;
 
 // The first place whose number is not below x, or the end.
-fn place(s: Set, x: u16) -> usize
-    requires { ⌜ SizedSet s 32 ⌝ }
-    ensures { λ r. ⌜ Place s x r ⌝ }
+fn place(s: &[u16; 34], x: u16) -> usize
+    requires { ⌜ SizedSet (now s) 32 ⌝ }
+    ensures { λ r. ⌜ Place (now (s .entry)) x r ⌝ }
 {
-    let n = s.n;
-    let list = s.list;
+    let n = wide(s[SIZE]);
     let mut at = 0usize;
     while at < n {
-        if x <= list[at] {
+        if x <= s[at] {
             return at;
         }
         at += 1;
@@ -55,83 +32,72 @@ fn place(s: Set, x: u16) -> usize
 }
 
 // A number more, at a place; those from there on move up by one.
-fn put_at(s: Set, x: u16, at: usize) -> Set
-    requires { ⌜ SizedSet s 32 × (at ≤ s .n) ⌝ }
-    ensures { λ r. ⌜ r ≡ putAt s x at ⌝ }
+fn put_at(s: &mut [u16; 34], x: u16, at: usize)
+    requires { ⌜ SizedSet (now s) 32 × (at ≤ sizeIn (now s)) ⌝ }
+    ensures { λ r. ⌜ now (s .exit) ≡ putAt (now (s .entry)) x at ⌝ }
 {
-    let n = s.n;
-    let list = s.list;
-    let mut more = list;
-    more[at] = x;
+    let n = wide(s[SIZE]);
     let m = n - at;
+    let mut moved = s[at];
+    s[at] = x;
     for j in 0..m {
-        more[at + 1 + j] = list[at + j];
+        let above = s[at + 1 + j];
+        s[at + 1 + j] = moved;
+        moved = above;
     }
-    Set {
-        list: more,
-        n: n + 1,
-    }
+    s[SIZE] = (n + 1) as u16;
 }
 
 // A number that is there already is not put in again.
-fn insert(s: Set, x: u16) -> Set
-    requires { ⌜ SizedSet s 32 ⌝ }
-    ensures { λ r. ⌜ Included s (ElementOrNone.Some (record { 0 = x })) r ⌝ }
+fn insert(s: &mut [u16; 34], x: u16)
+    requires { ⌜ SizedSet (now s) 32 ⌝ }
+    ensures { λ r. ⌜ Included (now (s .entry)) (ElementOrNone.Some (record { 0 = x })) (now (s .exit)) ⌝ }
 {
     let at = place(s, x);
-    if s.n <= at {
-        return put_at(s, x, at);
+    if wide(s[SIZE]) <= at {
+        put_at(s, x, at);
+        return;
     }
-    let list = s.list;
-    if list[at] == x {
-        return s;
+    if s[at] == x {
+        return;
     }
-    put_at(s, x, at)
+    put_at(s, x, at);
 }
 
-pub fn including(s: Set, p: ElementOrNone) -> Set
-    requires { ⌜ SizedSet s 32 × InRoom p ⌝ }
-    ensures { λ r. ⌜ Included s p r ⌝ }
+pub fn include(s: &mut [u16; 34], p: ElementOrNone)
+    requires { ⌜ SizedSet (now s) 32 × InRoom p ⌝ }
+    ensures { λ r. ⌜ Included (now (s .entry)) p (now (s .exit)) ⌝ }
 {
-    match p {
-        ElementOrNone::None => s,
-        ElementOrNone::Some(e) => insert(s, e.0 as u16),
+    if let ElementOrNone::Some(e) = p {
+        insert(s, e.0 as u16);
     }
 }
 
 // The answer of boundary element b is counted, or goes to the sets.
-pub fn gather_in(s: Answers, b: ElementId, a: ElementCutOutput) -> Answers
-    requires { ⌜ Sized s 31 × OutputInRoom a ⌝ }
-    ensures { λ r. ⌜ GatheredIn s (b .0) a r ⌝ }
+pub fn gather_in(
+    flush: &mut [u16; 2],
+    inside: &mut [u16; 34],
+    outside: &mut [u16; 34],
+    intersections: &mut [u16; 34],
+    b: ElementId,
+    a: ElementCutOutput,
+)
+    requires { ⌜ Sized (answersIn (now flush) (now inside) (now outside) (now intersections)) 31 × (b .0 < 512) × OutputInRoom a ⌝ }
+    ensures { λ r. ⌜ GatheredIn (answersIn (now (flush .entry)) (now (inside .entry)) (now (outside .entry)) (now (intersections .entry))) (b .0) a (answersIn (now (flush .exit)) (now (inside .exit)) (now (outside .exit)) (now (intersections .exit))) ⌝ }
 {
-    let flushes = s.flushes;
-    let flush = s.flush;
-    let inside = s.inside;
-    let outside = s.outside;
-    let intersections = s.intersections;
     match a {
-        ElementCutOutput::Flush => Answers {
-            flushes: flushes + 1,
-            flush: b,
-            inside,
-            outside,
-            intersections,
-        },
+        ElementCutOutput::Flush => {
+            flush[0] = flush[0] + 1;
+            flush[1] = b.0 as u16;
+        }
         ElementCutOutput::NonFlush {
             inside: i,
             outside: o,
             intersection: x,
         } => {
-            let si = including(inside, i);
-            let so = including(outside, o);
-            let sx = including(intersections, x);
-            Answers {
-                flushes,
-                flush,
-                inside: si,
-                outside: so,
-                intersections: sx,
-            }
+            include(inside, i);
+            include(outside, o);
+            include(intersections, x);
         }
     }
 }

@@ -17,10 +17,10 @@ use Rattle.rules.specs.Memory.{elementRow, planeNumber, planeNamed}
 use Rattle.rules.specs.Held.{elementWords}
 use Rattle.space.proofs.Laid.{drop-replicate}
 
--- the front of a list of 33
-module _ (list : List ℕ) (n : ℕ) (long : length list ≡ 33) (fit : n ≤ 33) where
+-- the front of a list of 34
+module _ (list : List ℕ) (n : ℕ) (long : length list ≡ 34) (fit : n ≤ 33) where
   pub taken : length (take n list) ≡ n
-  taken = length-take-le n list (le-trans fit (le-of-eq (sym long)))
+  taken = length-take-le n list (omega (arith, fit, long))
 
   pub row-is : (r plane bit : ℕ) (mark : Bool) (row row₀ : List ℕ) → n ≤ 32 → bit ≡ cond mark 1 0
       → row₀ ≡ set (set (set (set (replicate 36 0) 0 r) 1 bit) 2 plane) 3 n

@@ -193,12 +193,12 @@ pub fn add_polytope(
     elements: &mut [u16],
     index: &mut [u16],
     rank: usize,
-    list: &[u16; 33],
+    list: &[u16; 34],
     n: usize,
     plane: u16,
     mark: bool,
 ) -> Added
-    requires { ⌜ (length (now counts) ≡ 4) × (length (now elements) ≡ 18432) × (getD (now counts) 1 0 ≤ 512) × (length (now list) ≡ 33) × (n ≤ 33) × (rank < 65536) × Low (now list) n × (rank ≡ 2 → LowEnds (now elements) (now list) n) × Indexed (now elements) (getD (now counts) 1 0) (now index) ⌝ }
+    requires { ⌜ (length (now counts) ≡ 4) × (length (now elements) ≡ 18432) × (getD (now counts) 1 0 ≤ 512) × (length (now list) ≡ 34) × (n ≤ 33) × (rank < 65536) × Low (now list) n × (rank ≡ 2 → LowEnds (now elements) (now list) n) × Indexed (now elements) (getD (now counts) 1 0) (now index) ⌝ }
     ensures { λ r. ⌜ PolytopeAdded (now (counts .entry)) (now (elements .entry)) rank (take n (now (list .entry))) plane mark r (now (counts .exit)) (now (elements .exit)) × Indexed (now (elements .exit)) (getD (now (counts .exit)) 1 0) (now (index .exit)) ⌝ }
 {
     if n <= rank {

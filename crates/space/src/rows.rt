@@ -114,8 +114,8 @@ fn bit(mark: bool) -> u16
 }
 
 // The boundary is the front of a list with one place more than a row has: rule 8 refuses a full list before.
-pub fn polytope_row(rank: usize, list: &[u16; 33], n: usize, plane: u16, mark: bool) -> [u16; 36]
-    requires { ⌜ (length (now list) ≡ 33) × (n ≤ 32) × (rank < 65536) ⌝ }
+pub fn polytope_row(rank: usize, list: &[u16; 34], n: usize, plane: u16, mark: bool) -> [u16; 36]
+    requires { ⌜ (length (now list) ≡ 34) × (n ≤ 32) × (rank < 65536) ⌝ }
     ensures { λ r. ⌜ r ≡ elementWords desk (polytope rank (take n (now (list .entry))) (planeNamed plane) mark) ⌝ }
 {
     let mut row = [0u16; 36];

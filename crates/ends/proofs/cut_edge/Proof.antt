@@ -1,6 +1,7 @@
 -- Two ways, by the edge test: rule 6 on what the ends answered, or the crossing first.
 use native.Mathlib.Omega.{arith}
 use Rattle.space.proofs.Slices.{slices}
+use Rattle.gathered.proofs.Gathering.{nothing-gathered}
 use Rattle.ends.proofs.Edges.{ends-ready, ends-low, missed-ready, missed-cut, crossing-ready, crossing-cut}
 use borrow.Author.Needs.{needs}
 use Rattle.ends.proofs.cut_edge.Statement.{statement}
@@ -15,17 +16,32 @@ wide-requires c κs = search needs
 read-ends-requires : tie.Need-read-ends-requires
 read-ends-requires c κs = ends-ready (c .before .before .before .before .before .before .before .before .pre .0)
 
-both-ends-requires : tie.Need-both-ends-requires
-both-ends-requires c κs = ends-low (ends-ready (c .before .before .before .before .before .before .before .before .before .before .pre .0)) (c .before .read-ends .ensures)
+signed-distance-requires : tie.Need-signed-distance-requires
+signed-distance-requires c κs = search needs
 
-edge-test-requires : tie.Need-edge-test-requires
-edge-test-requires c κs = search needs
+signed-distance-requires-2 : tie.Need-signed-distance-requires-2
+signed-distance-requires-2 c κs = search needs
+
+gather-ends-requires : tie.Need-gather-ends-requires
+gather-ends-requires c κs =
+    let read = c .before .before .before .before .before .before .before .before .before in
+    let start = read .before .before .before .before .before .before .before .before .before in
+    let room = ends-low (ends-ready (start .pre .0)) (read .read-ends .ensures) in
+    (room .0, room .1, nothing-gathered)
+
+crossing-between-requires : tie.Need-crossing-between-requires
+crossing-between-requires c κs = search needs
 
 enum-told : tie.Need-enum-told
 enum-told c = search needs
 
 rule6-requires : tie.Need-rule6-requires
-rule6-requires c κs = (missed-ready _ _ _ (c .before .before .before .before .before .before .before .before .before .before .before .before .before .wide .ensures .0) (c .before .before .before .before .before .before .before .before .before .before .read-ends .ensures) (c .before .before .before .before .before .before .before .before .both-ends .ensures) (c .before .before .before .before .before .before .before .before .before .before .before .before .before .before .before .before .before .before .before .pre .0), c .before .before .before .before .before .before .before .before .before .before .before .before .before .before .before .before .before .before .before .pre .1)
+rule6-requires c κs = (
+  missed-ready _ _ _ _ _ (c .before .before .before .before .before .before .before .before .before .before .before .before .before .before .before .before .before .before .before .before .before .before .before .wide .ensures .0) (c .before .before .before .before .before .before .before .before .before .before .before .before .before .before .before .before .before .before .before .before .read-ends .ensures)
+      (c .before .before .before .before .before .before .before .before .before .before .before .before .before .before .before .before .before .signed-distance .ensures) (c .before .before .before .before .before .before .before .before .before .before .before .before .before .before .before .signed-distance2 .ensures)
+      (c .before .before .before .before .before .before .before .before .before .before .gather-ends .ensures) (c .before .before .before .before .before .before .before .before .before .before .before .before .before .before .before .before .before .before .before .before .before .before .before .before .before .before .before .before .before .pre .0),
+  c .before .before .before .before .before .before .before .before .before .before .before .before .before .before .before .before .before .before .before .before .before .before .before .before .before .before .before .before .before .pre .1,
+)
 
 enum-known-crossing : tie.Need-enum-known-crossing
 enum-known-crossing c = search needs
@@ -35,9 +51,11 @@ crossing-point-requires c κs = search needs
 
 cut-crossed-requires : tie.Need-cut-crossed-requires
 cut-crossed-requires c κs = (
-  crossing-ready _ _ _ (c .before .before .before .before .before .before .before .before .before .before .before .before .before .before .before .before .wide .ensures .0) (c .before .before .before .before .before .before .before .before .before .before .before .before .before .read-ends .ensures) (c .before .before .before .before .before .before .before .before .before .before .before .both-ends .ensures) _ _ (c .before .before .before .before .crossing-point .ensures)
-      (c .before .before .before .before .before .before .before .before .before .before .before .before .before .before .before .before .before .before .before .before .before .before .pre .0),
-  c .before .before .before .before .before .before .before .before .before .before .before .before .before .before .before .before .before .before .before .before .before .before .pre .1,
+  crossing-ready _ _ _ _ _ (c .before .before .before .before .before .before .before .before .before .before .before .before .before .before .before .before .before .before .before .before .before .before .before .before .before .before .wide .ensures .0) (c .before .before .before .before .before .before .before .before .before .before .before .before .before .before .before .before .before .before .before .before .before .before .before .read-ends .ensures)
+      (c .before .before .before .before .before .before .before .before .before .before .before .before .before .before .before .before .before .before .before .before .signed-distance .ensures) (c .before .before .before .before .before .before .before .before .before .before .before .before .before .before .before .before .before .before .signed-distance2 .ensures)
+      (c .before .before .before .before .before .before .before .before .before .before .before .before .before .gather-ends .ensures) _ _ (c .before .before .before .before .before .before .before .before .crossing-point .ensures)
+      (c .before .before .before .before .before .before .before .before .before .before .before .before .before .before .before .before .before .before .before .before .before .before .before .before .before .before .before .before .before .before .before .before .pre .0),
+  c .before .before .before .before .before .before .before .before .before .before .before .before .before .before .before .before .before .before .before .before .before .before .before .before .before .before .before .before .before .before .before .before .pre .1,
 )
 
 same-length : tie.Need-same-length
@@ -54,8 +72,10 @@ same-length-4 c = search needs
 
 returns : tie.Need-returns
 returns c = (
-  missed-cut _ _ _ (c .before .before .before .before .before .before .before .before .before .before .before .before .before .before .before .before .before .before .before .before .wide .ensures .0) (c .before .before .before .before .before .before .before .before .before .before .before .before .before .before .before .before .before .read-ends .ensures) (c .before .before .before .before .before .before .before .before .before .before .before .before .before .before .before .both-ends .ensures)
-      _ (c .before .before .before .before .before .before .before .before .before .before .before .before .edge-test .ensures) (c .before .before .before .before .before .before .before .before .before .before .enum-told .given .1) (c .before .before .before .before .before .before .rule6 .ensures .0),
+  missed-cut _ _ _ _ _ (c .before .before .before .before .before .before .before .before .before .before .before .before .before .before .before .before .before .before .before .before .before .before .before .before .before .before .before .before .before .before .wide .ensures .0) (c .before .before .before .before .before .before .before .before .before .before .before .before .before .before .before .before .before .before .before .before .before .before .before .before .before .before .before .read-ends .ensures)
+      (c .before .before .before .before .before .before .before .before .before .before .before .before .before .before .before .before .before .before .before .before .before .before .before .before .signed-distance .ensures) (c .before .before .before .before .before .before .before .before .before .before .before .before .before .before .before .before .before .before .before .before .before .before .signed-distance2 .ensures)
+      (c .before .before .before .before .before .before .before .before .before .before .before .before .before .before .before .before .before .gather-ends .ensures)
+      _ (c .before .before .before .before .before .before .before .before .before .before .before .before .before .before .before .before .crossing-between .ensures) (c .before .before .before .before .before .before .before .before .before .before .before .before .before .before .enum-told .given .1) (c .before .before .before .before .before .before .rule6 .ensures .0),
   c .before .before .before .before .before .before .rule6 .ensures .1,
 )
 
@@ -73,8 +93,10 @@ same-length-8 c = search needs
 
 returns-2 : tie.Need-returns-2
 returns-2 c = (
-  crossing-cut _ _ _ (c .before .before .before .before .before .before .before .before .before .before .before .before .before .before .before .before .before .before .before .before .before .before .before .before .before .wide .ensures .0) (c .before .before .before .before .before .before .before .before .before .before .before .before .before .before .before .before .before .before .before .before .before .before .read-ends .ensures) (c .before .before .before .before .before .before .before .before .before .before .before .before .before .before .before .before .before .before .before .before .both-ends .ensures) _ _ (c .before .before .before .before .before .before .before .before .before .before .before .before .before .crossing-point .ensures)
-      _ (c .before .before .before .before .before .before .before .before .before .before .before .before .before .before .before .before .before .edge-test .ensures) (c .before .before .before .before .before .before .before .before .before .before .before .before .before .before .before .crossing .given .1) (c .before .before .before .before .before .before .before .before .cut-crossed .ensures .0),
+  crossing-cut _ _ _ _ _ (c .before .before .before .before .before .before .before .before .before .before .before .before .before .before .before .before .before .before .before .before .before .before .before .before .before .before .before .before .before .before .before .before .before .before .before .wide .ensures .0) (c .before .before .before .before .before .before .before .before .before .before .before .before .before .before .before .before .before .before .before .before .before .before .before .before .before .before .before .before .before .before .before .before .read-ends .ensures)
+      (c .before .before .before .before .before .before .before .before .before .before .before .before .before .before .before .before .before .before .before .before .before .before .before .before .before .before .before .before .before .signed-distance .ensures) (c .before .before .before .before .before .before .before .before .before .before .before .before .before .before .before .before .before .before .before .before .before .before .before .before .before .before .before .signed-distance2 .ensures)
+      (c .before .before .before .before .before .before .before .before .before .before .before .before .before .before .before .before .before .before .before .before .before .before .gather-ends .ensures) _ _ (c .before .before .before .before .before .before .before .before .before .before .before .before .before .before .before .before .before .crossing-point .ensures)
+      _ (c .before .before .before .before .before .before .before .before .before .before .before .before .before .before .before .before .before .before .before .before .before .crossing-between .ensures) (c .before .before .before .before .before .before .before .before .before .before .before .before .before .before .before .before .before .before .before .crossing .given .1) (c .before .before .before .before .before .before .before .before .cut-crossed .ensures .0),
   c .before .before .before .before .before .before .before .before .cut-crossed .ensures .1,
 )
 
@@ -85,8 +107,10 @@ cut-edge-spec =
     slice-read-wide
     wide-requires
     read-ends-requires
-    both-ends-requires
-    edge-test-requires
+    signed-distance-requires
+    signed-distance-requires-2
+    gather-ends-requires
+    crossing-between-requires
     enum-told
     rule6-requires
     enum-known-crossing

@@ -1,5 +1,6 @@
 -- One call of rule 8, at the rank below.
 use Rattle.gathered.proofs.IntersectionAdded.{plane-asks, intersection-asks, intersection-made}
+use native.Mathlib.Omega.{arith}
 use borrow.Author.Needs.{needs}
 use Rattle.gathered.proofs.answer.new_intersection.Statement.{statement}
 use Rattle.gathered.proofs.answer.new_intersection.Tie as tie
@@ -7,12 +8,18 @@ use Rattle.gathered.proofs.answer.new_intersection.Tie as tie
 plane-of-intersection-requires : tie.Need-plane-of-intersection-requires
 plane-of-intersection-requires c κs = plane-asks (c .before .before .before .before .before .pre .0)
 
+element-copy-out-wide : tie.Need-element-copy-out-wide
+element-copy-out-wide c = omega (arith, c .before .before .before .before .before .before .pre .0 .fit .sized .long)
+
+wide-requires : tie.Need-wide-requires
+wide-requires c κs = search needs
+
 sub-add-polytope : tie.Need-sub-add-polytope
-sub-add-polytope c = let h = c .before .before .before .before .before .before .before .before .before .before .pre .0 .fit .some in search needs
+sub-add-polytope c = let h = c .before .before .before .before .before .before .before .before .before .before .before .pre .0 .fit .some in search needs
 
 add-polytope-requires : tie.Need-add-polytope-requires
 add-polytope-requires c κs =
-    let asked = intersection-asks (c .before .before .before .before .before .before .before .before .before .before .before .pre .0) in
+    let asked = intersection-asks (c .before .before .before .before .before .before .before .before .before .before .before .pre .0) _ (c .before .before .before .wide .ensures .0) in
     (asked .0, asked .1, asked .2, asked .3, asked .4, asked .5, asked .6, asked .7, c .before .before .before .before .before .before .before .before .before .before .before .pre .1)
 
 same-length : tie.Need-same-length
@@ -25,13 +32,15 @@ same-length-3 : tie.Need-same-length-3
 same-length-3 c = search needs
 
 returns : tie.Need-returns
-returns c = (intersection-made _ (c .before .before .before .before .before .before .before .before .before .before .before .before .plane-of-intersection .ensures) (c .before .before .before .before .before .before .add-polytope .ensures .0), c .before .before .before .before .before .before .add-polytope .ensures .1)
+returns c = (intersection-made _ _ (c .before .before .before .before .before .before .before .before .before .before .wide .ensures .0) (c .before .before .before .before .before .before .before .before .before .before .before .before .plane-of-intersection .ensures) (c .before .before .before .before .before .before .add-polytope .ensures .0), c .before .before .before .before .before .before .add-polytope .ensures .1)
 
 pub new-intersection-spec : {M : Type 1} → statement M
 new-intersection-spec =
     tie.close
     (tie.spec
     plane-of-intersection-requires
+    element-copy-out-wide
+    wide-requires
     sub-add-polytope
     add-polytope-requires
     same-length

@@ -7,44 +7,54 @@ use Rattle.gathered.proofs.sets.insert.Tie as tie
 place-requires : tie.Need-place-requires
 place-requires c κs = search needs
 
+element-copy-out-wide : tie.Need-element-copy-out-wide
+element-copy-out-wide c = search needs
+
+wide-requires : tie.Need-wide-requires
+wide-requires c κs = search needs
+
 put-at-requires : tie.Need-put-at-requires
 put-at-requires c κs = search needs
 
 returns : tie.Need-returns
 returns c =
-    let placed = c .before .before .before in
-    included-as (c .put-at .ensures) (insert-end (placed .before .args .s) (placed .before .args .x) (placed .before .pre) _ (placed .place .ensures) (c .before .if1 .taken))
+    let placed = c .before .before .before .before .before in
+    let start = placed .before .before in
+    included-as (c .put-at .ensures) (insert-end (start .args .s .now) (start .args .x) (start .pre) _ (placed .place .ensures) (search needs))
 
 mul-if2 : tie.Need-mul-if2
 mul-if2 c = search needs
 
-array-read-if2 : tie.Need-array-read-if2
-array-read-if2 c = search needs
+element-copy-out-if2 : tie.Need-element-copy-out-if2
+element-copy-out-if2 c = search needs
 
 returns-2 : tie.Need-returns-2
 returns-2 c =
-    let first-test = c .before .before in
-    let placed = first-test .before .before in
-    insert-same (placed .before .args .s) (placed .before .args .x) (placed .before .pre) _ (placed .place .ensures) (first-test .if1 .left) (c .if2 .taken)
+    let placed = c .before .before .before .before .before in
+    let start = placed .before .before in
+    insert-same (start .args .s .now) (start .args .x) (start .pre) _ (placed .place .ensures) (search needs) (c .if2 .taken)
 
 put-at-requires-2 : tie.Need-put-at-requires-2
 put-at-requires-2 c κs = search needs
 
 returns-3 : tie.Need-returns-3
 returns-3 c =
-    let first-test = c .before .before .before in
-    let placed = first-test .before .before in
-    included-as (c .put-at2 .ensures) (insert-mid (placed .before .args .s) (placed .before .args .x) (placed .before .pre) _ (placed .place .ensures) (first-test .if1 .left) (c .before .if2 .left))
+    let second-test = c .before .before in
+    let placed = second-test .before .before .before .before .before in
+    let start = placed .before .before in
+    included-as (c .put-at2 .ensures) (insert-mid (start .args .s .now) (start .args .x) (start .pre) _ (placed .place .ensures) (search needs) (second-test .if2 .left))
 
 pub insert-spec : {M : Type 1} → statement M
 insert-spec =
     tie.close
     (tie.spec
     place-requires
+    element-copy-out-wide
+    wide-requires
     put-at-requires
     returns
     mul-if2
-    array-read-if2
+    element-copy-out-if2
     returns-2
     put-at-requires-2
     returns-3)

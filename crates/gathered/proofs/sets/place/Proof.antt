@@ -1,30 +1,38 @@
 -- The invariant: the search has passed all numbers so far.
 use Prim.Native.Nat.{_≤_, _-_}
-use lib.ListN.{take}
+use mathlib.Core.Path.{_≡_}
 use native.Mathlib.Omega.{arith}
-use Rattle.gathered.specs.Sets.{Passed}
+use Rattle.gathered.specs.Sets.{sizeIn, members, Passed}
 use Rattle.gathered.proofs.Inserting.{passed-none, passed-next}
 use borrow.Author.Needs.{needs}
 use Rattle.gathered.proofs.sets.place.Statement.{statement}
 use Rattle.gathered.proofs.sets.place.Tie as tie
 
 abbrev Inv-loop : tie.InvT-loop
-Inv-loop x n list at₀ at = (at ≤ n) × Passed x (take n list) at
+Inv-loop s x n at₀ at = (at ≤ n) × (n ≡ sizeIn s) × Passed x (members s) at
 
 abbrev μ-loop : tie.MeasureT-loop
-μ-loop x n list at₀ at = n - at
+μ-loop s x n at₀ at = n - at
+
+element-copy-out-wide : tie.Need-element-copy-out-wide Inv-loop μ-loop
+element-copy-out-wide c = search needs
+
+wide-requires : tie.Need-wide-requires Inv-loop μ-loop
+wide-requires c κs = search needs
 
 loop-holds : tie.Need-loop-holds Inv-loop μ-loop
-loop-holds c = (search needs, passed-none _ _)
+loop-holds c = (search needs, search needs, passed-none _ _)
 
 mul-if1 : tie.Need-mul-if1 Inv-loop μ-loop
 mul-if1 c = search needs
 
-array-read-if1 : tie.Need-array-read-if1 Inv-loop μ-loop
-array-read-if1 c = omega (arith, c .before .before .before .pre .most, c .before .before .before .pre .long, c .loop-test .taken)
+element-copy-out-if1 : tie.Need-element-copy-out-if1 Inv-loop μ-loop
+element-copy-out-if1 c = search needs
 
 returns : tie.Need-returns Inv-loop μ-loop
-returns c = record { passed = c .before .before .loop .inv .1; within = c .before .before .loop .inv .0; stop = λ h. c .if1 .taken }
+returns c =
+    let round = c .before .before .before in
+    record { passed = round .loop .inv .2; within = search needs; stop = λ h. c .if1 .taken }
 
 add-at : tie.Need-add-at Inv-loop μ-loop
 add-at c = search needs
@@ -34,12 +42,12 @@ loop-less c = search needs
 
 loop-again : tie.Need-loop-again Inv-loop μ-loop
 loop-again c =
-    let round = c .before .before in
-    let start = round .before .before in
-    (search needs, passed-next (start .args .s) (start .args .x) (start .pre) (round .loop .at) (round .loop .inv .1) (c .before .loop-test .taken) (c .if1 .left))
+    let round = c .before .before .before in
+    let start = round .before .before .before in
+    (search needs, search needs, passed-next (start .args .s .now) (start .args .x) (start .pre) (round .loop .at) (round .loop .inv .2) (search needs) (search needs))
 
 returns-2 : tie.Need-returns-2 Inv-loop μ-loop
-returns-2 c = record { passed = c .before .loop .inv .1; within = c .before .loop .inv .0; stop = λ h. absurd (omega arith) }
+returns-2 c = record { passed = c .before .loop .inv .2; within = search needs; stop = λ h. absurd (omega arith) }
 
 pub place-spec : {M : Type 1} → statement M
 place-spec =
@@ -47,9 +55,11 @@ place-spec =
     (tie.spec
     Inv-loop
     μ-loop
+    element-copy-out-wide
+    wide-requires
     loop-holds
     mul-if1
-    array-read-if1
+    element-copy-out-if1
     returns
     add-at
     loop-less

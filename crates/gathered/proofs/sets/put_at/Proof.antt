@@ -1,53 +1,68 @@
--- The invariant: x is stored at its place, and behind it the first j of those that move up.
-use mathlib.Core.List.{List}
-use mathlib.Core.Path.{_≡_, refl, ap, _∙_}
-use Prim.Native.Nat.{ℕ, _+_, _≤_, _-_}
-use lib.ListN.{getD, set}
-use native.Mathlib.Omega.{arith}
-use Rattle.gathered.specs.Sets.{shifted}
-use Rattle.gathered.proofs.Inserting.{moved-more}
+-- The invariant: x is stored at its place, behind it the first j of those that move up, and the next of them is at hand.
+-- Where the loop begins, the words of before are s₀ with what stood at the place put back.
+use Prim.Native.Nat.{_≤_, _-_}
+use lib.ListN.{set}
+use Rattle.gathered.proofs.Inserting.{Moving, moving-start, moving-more, moving-end}
 use borrow.Author.Needs.{needs}
 use Rattle.gathered.proofs.sets.put_at.Statement.{statement}
 use Rattle.gathered.proofs.sets.put_at.Tie as tie
 
 abbrev Inv-loop : tie.InvT-loop
-Inv-loop x at n list more₀ m j₀ more j = (j ≤ m) × (more ≡ shifted list n x at j)
+Inv-loop s₀ x at n m moved₀ j₀ s moved j = (j ≤ m) × Moving (set s₀ at moved₀) x at j s moved
 
 abbrev μ-loop : tie.MeasureT-loop
-μ-loop x at n list more₀ m j₀ more j = m - j
+μ-loop s₀ x at n m moved₀ j₀ s moved j = m - j
 
-mul-more : tie.Need-mul-more Inv-loop μ-loop
-mul-more c = search needs
+element-copy-out-wide : tie.Need-element-copy-out-wide Inv-loop μ-loop
+element-copy-out-wide c = search needs
 
-array-write-more : tie.Need-array-write-more Inv-loop μ-loop
-array-write-more c = search needs
+wide-requires : tie.Need-wide-requires Inv-loop μ-loop
+wide-requires c κs = search needs
 
 sub-m : tie.Need-sub-m Inv-loop μ-loop
 sub-m c = search needs
 
+mul-moved : tie.Need-mul-moved Inv-loop μ-loop
+mul-moved c = search needs
+
+element-copy-out-moved : tie.Need-element-copy-out-moved Inv-loop μ-loop
+element-copy-out-moved c = search needs
+
+mul-s : tie.Need-mul-s Inv-loop μ-loop
+mul-s c = search needs
+
+element-write-s : tie.Need-element-write-s Inv-loop μ-loop
+element-write-s c = search needs
+
 loop-holds : tie.Need-loop-holds Inv-loop μ-loop
-loop-holds c = (search needs, refl)
+loop-holds c =
+    let start = c .before .before .before in
+    let a = start .args in
+    (search needs, moving-start (a .s .now) (a .x) (start .pre .0) (a .at) (start .pre .1))
 
-add-more : tie.Need-add-more Inv-loop μ-loop
-add-more c = search needs
+add-above : tie.Need-add-above Inv-loop μ-loop
+add-above c = search needs
 
-mul-more-2 : tie.Need-mul-more-2 Inv-loop μ-loop
-mul-more-2 c = search needs
+add-above-2 : tie.Need-add-above-2 Inv-loop μ-loop
+add-above-2 c = search needs
 
-array-read-more : tie.Need-array-read-more Inv-loop μ-loop
-array-read-more c = search needs
+mul-above : tie.Need-mul-above Inv-loop μ-loop
+mul-above c = search needs
 
-add-more-2 : tie.Need-add-more-2 Inv-loop μ-loop
-add-more-2 c = search needs
+element-copy-out-above : tie.Need-element-copy-out-above Inv-loop μ-loop
+element-copy-out-above c = search needs
 
-add-more-3 : tie.Need-add-more-3 Inv-loop μ-loop
-add-more-3 c = search needs
+add-s : tie.Need-add-s Inv-loop μ-loop
+add-s c = search needs
 
-mul-more-3 : tie.Need-mul-more-3 Inv-loop μ-loop
-mul-more-3 c = search needs
+add-s-2 : tie.Need-add-s-2 Inv-loop μ-loop
+add-s-2 c = search needs
 
-array-write-more-2 : tie.Need-array-write-more-2 Inv-loop μ-loop
-array-write-more-2 c = search needs
+mul-s-2 : tie.Need-mul-s-2 Inv-loop μ-loop
+mul-s-2 c = search needs
+
+element-write-s-2 : tie.Need-element-write-s-2 Inv-loop μ-loop
+element-write-s-2 c = search needs
 
 add-j : tie.Need-add-j Inv-loop μ-loop
 add-j c = search needs
@@ -57,22 +72,26 @@ loop-less c = search needs
 
 loop-again : tie.Need-loop-again Inv-loop μ-loop
 loop-again c =
-    let start = c .before .before .before in
+    let round = c .before .before in
+    let start = round .before .before .before .before in
     let a = start .args in
-    let k = c .before .loop .j in (
-      search needs,
-      ap (λ (l : List ℕ). set l (a .at + 1 + k) (getD (a .s .list) (a .at + k) 0)) (c .before .loop .inv .1)
-          ∙ moved-more (a .s) (a .x) (start .pre .0) (a .at) (start .pre .1) k (c .loop-test .taken),
-    )
+    (search needs, moving-more (a .s .now) (a .x) (start .pre .0) (a .at) (start .pre .1) (round .loop .j) (search needs) (round .loop .inv .1))
 
-add-t10 : tie.Need-add-t10 Inv-loop μ-loop
-add-t10 c = search needs
+add-s-3 : tie.Need-add-s-3 Inv-loop μ-loop
+add-s-3 c = search needs
+
+cast-s : tie.Need-cast-s Inv-loop μ-loop
+cast-s c = search needs
+
+element-write-s-3 : tie.Need-element-write-s-3 Inv-loop μ-loop
+element-write-s-3 c = search needs
 
 returns : tie.Need-returns Inv-loop μ-loop
 returns c =
-    let a = c .before .before .before .args in
-    let e : c .before .loop .j ≡ a .s .n - a .at = omega arith in
-    ap (λ (l : List ℕ). record { list = l; n = a .s .n + 1 }) (c .before .loop .inv .1 ∙ ap (shifted (a .s .list) (a .s .n) (a .x) (a .at)) e)
+    let round = c .before in
+    let start = round .before .before .before .before in
+    let a = start .args in
+    moving-end (a .s .now) (a .x) (start .pre .0) (a .at) (start .pre .1) (round .loop .j) _ (search needs) (search needs) (round .loop .inv .1)
 
 pub put-at-spec : {M : Type 1} → statement M
 put-at-spec =
@@ -80,19 +99,26 @@ put-at-spec =
     (tie.spec
     Inv-loop
     μ-loop
-    mul-more
-    array-write-more
+    element-copy-out-wide
+    wide-requires
     sub-m
+    mul-moved
+    element-copy-out-moved
+    mul-s
+    element-write-s
     loop-holds
-    add-more
-    mul-more-2
-    array-read-more
-    add-more-2
-    add-more-3
-    mul-more-3
-    array-write-more-2
+    add-above
+    add-above-2
+    mul-above
+    element-copy-out-above
+    add-s
+    add-s-2
+    mul-s-2
+    element-write-s-2
     add-j
     loop-less
     loop-again
-    add-t10
+    add-s-3
+    cast-s
+    element-write-s-3
     returns)
