@@ -35,20 +35,23 @@ pub floats-are : (d v h : ℕ) (ps hs : List Float) (a b : Bool) → pointsSound
 unfolding floatsSound
 floats-are d v h ps hs a b p q = sym (λ i. p i && q i)
 
-pub rows-are : (d n v h : ℕ) (es : List ℕ) (a b c : Bool) → rowsInUse desk d n v h es ≡ a → blank (drop (n * 36) es) ≡ b → rowsDistinct desk n es ≡ c → (a && b && c) ≡ rowsSound desk d n v h es
+pub rows-both : (d n v h : ℕ) (es : List ℕ) (a b : Bool) → (rowsInUse desk d n v h es && rowsDistinct desk n es) ≡ a → blank (drop (n * 36) es) ≡ b → (a && b) ≡ rowsSound desk d n v h es
 unfolding rowsSound recordsSound
-rows-are d n v h es a b c p q r = sym ((λ i. (all (recordWords desk) (rows n 36 es) && q i) && cornersSound desk n v es && elementsSound desk d n h es && r i) ∙ moved (all (recordWords desk) (rows n 36 es)) b (cornersSound desk n v es) (elementsSound desk d n h es) c ∙ ap (λ (t : Bool). t && b && c) p)
+rows-both d n v h es a b p q =
+    sym (moved (all (recordWords desk) (rows n 36 es)) (blank (drop (n * 36) es)) (cornersSound desk n v es) (elementsSound desk d n h es) (rowsDistinct desk n es) ∙ (λ i. p i && q i))
   where
-    moved : (w b k e c : Bool) → ((w && b) && k && e && c) ≡ ((w && k && e) && b && c)
-    moved false b k e c = refl
-    moved true true k e c = ap (λ (t : Bool). t && c) (sym (last (k && e)))
+    moved : (w z k e c : Bool) → ((w && z) && k && e && c) ≡ (((w && k && e) && c) && z)
+    moved false z k e c = refl
+    moved true true k e c = sym (last ((k && e) && c))
       where
         last : (t : Bool) → (t && true) ≡ t
         last true = refl
         last false = refl
-    moved true false true true c = refl
-    moved true false true false c = refl
-    moved true false false e c = refl
+    moved true false k e c = sym (last ((k && e) && c))
+      where
+        last : (t : Bool) → (t && false) ≡ false
+        last true = refl
+        last false = refl
 
 grouped : (s c p h e o r d : Bool) → (s && c && p && h && e && o && r && d) ≡ (s && c && (p && h) && (e && o && r && d))
 grouped false c p h e o r d = refl

@@ -71,3 +71,23 @@ row-record es d h k e r s = and-left (recordWords desk r) (cornerNamed k r) (and
 
 pub row-element : (es : List ℕ) (d h k e : ℕ) (r : List ℕ) → rowSound desk es d h k e r ≡ true → elementSound desk es d h e r ≡ true
 row-element es d h k e r s = and-right (recordWords desk r && cornerNamed k r) (elementSound desk es d h e r) s
+
+-- ---- with the test that no two rows are equal
+
+module _ (a b : Bool) where
+  pub no-first : false ≡ a → false ≡ (a && b)
+  no-first q = ap (λ (x : Bool). x && b) q
+
+  pub no-second : b ≡ false → false ≡ (a && b)
+  no-second q = sym (ap (λ (x : Bool). a && x) q ∙ last a)
+    where
+      last : (x : Bool) → (x && false) ≡ false
+      last true = refl
+      last false = refl
+
+  pub both : {c : Bool} → c ≡ a → b ≡ true → c ≡ (a && b)
+  both p q = p ∙ sym (ap (λ (x : Bool). a && x) q ∙ last a)
+    where
+      last : (x : Bool) → (x && true) ≡ x
+      last true = refl
+      last false = refl

@@ -1,19 +1,18 @@
-// No two elements are equal: each row is looked for among the earlier ones, along the chain of its key, and then joins it.
+// Whether a row is new: it is looked for among the earlier ones, along the chain of its key, and then joins it.
 use space::chains::FoundElement;
 use space::chains::find_row;
 use space::chains::join;
 use space::chains::key_of;
 use space::words::WIDTH;
-ghost use Prim.Native.Nat.{_+_, _*_, _<_, _≤_};
+ghost use Prim.Native.Nat.{_+_, _<_};
 ghost use mathlib.Core.Path.{_≡_};
 ghost use mathlib.Core.Bool.{true};
 ghost use lib.ListN.{length};
-ghost use Rattle.rules.specs.Limits.{desk};
 ghost use Rattle.space.specs.Chains.{Indexed};
-ghost use Rattle.soundness.specs.Words.{rowsDistinct, rowNew};
+ghost use Rattle.soundness.specs.Words.{rowNew};
 
 // Row i is equal to no earlier one, and is in the index then.
-fn row_new(elements: &[u16], i: usize, index: &mut [u16]) -> bool
+pub fn row_new(elements: &[u16], i: usize, index: &mut [u16]) -> bool
     requires { ⌜ (i < 512) × (length (now elements) ≡ 18432) × Indexed (now elements) i (now index) ⌝ }
     ensures { λ r. ⌜ (r ≡ rowNew (now (elements .entry)) i) × (r ≡ true → Indexed (now (elements .entry)) (i + 1) (now (index .exit))) ⌝ }
 {
@@ -27,17 +26,4 @@ fn row_new(elements: &[u16], i: usize, index: &mut [u16]) -> bool
             true
         }
     }
-}
-
-// From an empty index to that of all rows in use.
-pub fn rows_distinct(elements: &[u16], n: usize, index: &mut [u16]) -> bool
-    requires { ⌜ (n ≤ 512) × (length (now elements) ≡ 18432) × Indexed (now elements) 0 (now index) ⌝ }
-    ensures { λ r. ⌜ (r ≡ rowsDistinct desk n (now (elements .entry))) × (r ≡ true → Indexed (now (elements .entry)) n (now (index .exit))) ⌝ }
-{
-    for i in 0..n {
-        if !row_new(elements, i, index) {
-            return false;
-        }
-    }
-    true
 }

@@ -1,5 +1,5 @@
 // Document 01, "A table is sound when", over the words of the lent memory: one function for each of its lines.
-use crate::chains::rows_distinct;
+use crate::chains::row_new;
 use crate::floats::floats_sound;
 use space::chains::INDEX;
 use space::closed::closed_at;
@@ -14,7 +14,7 @@ use space::words::right_size;
 use space::words::wide;
 ghost use Prim.Native.Nat.{_+_, _*_, _<_, _≤_};
 ghost use mathlib.Core.Path.{_≡_};
-ghost use mathlib.Core.Bool.{cond, true};
+ghost use mathlib.Core.Bool.{cond, true, _&&_};
 ghost use lib.Dec.{eqb};
 ghost use lib.ListN.{length, getD, take, drop};
 ghost use Rattle.rules.specs.Limits.{desk};
@@ -22,7 +22,7 @@ ghost use Rattle.rules.specs.Memory.{soundMemory};
 ghost use Rattle.rules.specs.Held.{memoryOf};
 ghost use Rattle.rules.specs.Replies.{isSoundReply};
 ghost use Rattle.space.specs.Chains.{Indexed};
-ghost use Rattle.soundness.specs.Words.{blank, countsFit, Mask, recordWords, cornerNamed, numbersFit, boundaryWords, facetWords, EdgesLow, elementSound, rowSound, rowsInUse, rowsSound};
+ghost use Rattle.soundness.specs.Words.{blank, countsFit, Mask, recordWords, cornerNamed, numbersFit, boundaryWords, facetWords, EdgesLow, elementSound, rowSound, rowsInUse, rowsDistinct, rowsSound};
 
 // How many words stand before a boundary: rank, mark, hyperplane, count.
 const HEAD: usize = 4;
@@ -230,10 +230,10 @@ fn row_sound(elements: &[u16], e: usize, d: usize, h: usize, k: usize, past: &[u
     element_sound(elements, e, d, h)
 }
 
-// The rows in use, each read once; vertex elements name vertices 0, 1, 2 .. in order, each once.
-fn rows_in_use(elements: &[u16], d: usize, n: usize, v: usize, h: usize) -> bool
-    requires { ⌜ (n ≤ 512) × (length (now elements) ≡ 18432) ⌝ }
-    ensures { λ r. ⌜ r ≡ rowsInUse desk d n v h (now (elements .entry)) ⌝ }
+// The rows in use, in one pass: each is sound and equal to no earlier one, and vertex elements name vertices 0, 1, 2 .. in order, each once. From an empty index to that of all of them.
+fn rows_in_use(elements: &[u16], d: usize, n: usize, v: usize, h: usize, index: &mut [u16]) -> bool
+    requires { ⌜ (n ≤ 512) × (length (now elements) ≡ 18432) × Indexed (now elements) 0 (now index) ⌝ }
+    ensures { λ r. ⌜ (r ≡ (rowsInUse desk d n v h (now (elements .entry)) && rowsDistinct desk n (now (elements .entry)))) × (r ≡ true → Indexed (now (elements .entry)) n (now (index .exit))) ⌝ }
 {
     let past = past_mask();
     let mut k = 0usize;
@@ -241,23 +241,23 @@ fn rows_in_use(elements: &[u16], d: usize, n: usize, v: usize, h: usize) -> bool
         if !row_sound(elements, i, d, h, k, &past) {
             return false;
         }
+        if !row_new(elements, i, index) {
+            return false;
+        }
         k = k + one_if_corner(elements, i * WIDTH);
     }
     k == v
 }
 
-// The slice of elements: the rows in use, zeros past them, and no two rows equal.
+// The slice of elements: the rows in use, and zeros past them.
 fn rows_sound(elements: &[u16], d: usize, n: usize, v: usize, h: usize, index: &mut [u16]) -> bool
     requires { ⌜ (n ≤ 512) × (length (now elements) ≡ 18432) × Indexed (now elements) 0 (now index) ⌝ }
     ensures { λ r. ⌜ (r ≡ rowsSound desk d n v h (now (elements .entry))) × (r ≡ true → Indexed (now (elements .entry)) n (now (index .exit))) ⌝ }
 {
-    if !rows_in_use(elements, d, n, v, h) {
+    if !rows_in_use(elements, d, n, v, h, index) {
         return false;
     }
-    if !blank_words(elements, n * WIDTH, ELEMENT_WORDS) {
-        return false;
-    }
-    rows_distinct(elements, n, index)
+    blank_words(elements, n * WIDTH, ELEMENT_WORDS)
 }
 
 // Lengths and counts come first: the other tests rely on them. The rows of a sound memory are in the index then.

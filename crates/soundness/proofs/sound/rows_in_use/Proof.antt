@@ -1,37 +1,62 @@
--- What is asked of the rows that are left, with `k` as the vertex that is to be named next, is what is asked of all.
+-- What is asked of the rows that are left, with `k` as the vertex that is to be named next, is what is asked of all; and the rows so far are in the index, no two of them equal.
 use Prim.Native.Nat.{_-_, _≤_}
-use mathlib.Core.Path.{_≡_, sym, _∙_}
+use mathlib.Core.Path.{_≡_, refl, sym, ap, _∙_}
+use mathlib.Core.Bool.{true, false≢true}
+use native.Mathlib.Omega.{arith}
 use Rattle.rules.specs.Limits.{desk}
 use Rattle.rules.proofs.Laws.{not-true, not-false}
+use Rattle.space.specs.Chains.{Indexed}
+use Rattle.space.proofs.Indexing.{index-count}
 use Rattle.soundness.specs.Words.{EdgesLow, Mask, rowsInUse}
 use Rattle.soundness.proofs.BoundaryLoops.{edges-none, edges-on}
-use Rattle.soundness.proofs.OnePass.{left, pass-start, pass-go, pass-no, pass-end, row-record, row-element}
+use Rattle.soundness.proofs.Distinct.{apart, apart-go, apart-no, apart-is}
+use Rattle.soundness.proofs.OnePass.{left, pass-start, pass-go, pass-no, pass-end, row-record, row-element, no-first, no-second, both}
 use borrow.Author.Needs.{needs}
 use Rattle.soundness.proofs.sound.rows_in_use.Statement.{statement}
 use Rattle.soundness.proofs.sound.rows_in_use.Tie as tie
 
 abbrev Inv-loop : tie.InvT-loop
-Inv-loop elements d n v h past k₀ i₀ k i = (i ≤ n) × (k ≤ i) × Mask past × (rowsInUse desk d n v h elements ≡ left elements d n v h k i) × EdgesLow elements i
+Inv-loop elements d n v h index₀ past k₀ i₀ index k i =
+    (i ≤ n) × (k ≤ i) × Mask past × (rowsInUse desk d n v h elements ≡ left elements d n v h k i) × EdgesLow elements i × (apart elements i ≡ true) × Indexed elements i index
 
 abbrev μ-loop : tie.MeasureT-loop
-μ-loop elements d n v h past k₀ i₀ k i = n - i
+μ-loop elements d n v h index₀ past k₀ i₀ index k i = n - i
 
 past-mask-requires : tie.Need-past-mask-requires Inv-loop μ-loop
 past-mask-requires c κs = search needs
 
 loop-holds : tie.Need-loop-holds Inv-loop μ-loop
 loop-holds c =
-    let a = c .before .before .args in
-    (search needs, search needs, c .past-mask .ensures, pass-start (a .elements .now) (a .d) (a .n) (a .v) (a .h), edges-none (a .elements .now))
+    let a = c .before .before .before .args in
+    (search needs, search needs, c .past-mask .ensures, pass-start (a .elements .now) (a .d) (a .n) (a .v) (a .h), edges-none (a .elements .now), refl, c .before .before .before .pre .2)
 
 row-sound-requires : tie.Need-row-sound-requires Inv-loop μ-loop
-row-sound-requires c κs = (search needs, search needs, c .before .before .loop .inv .2, c .before .before .loop .inv .4)
+row-sound-requires c κs =
+    let p = c .before .before .before .before .before .before .pre in
+    (p .1, omega (arith, p .0, c .before .loop-test .taken), c .before .before .loop .inv .2, c .before .before .loop .inv .4)
+
+same-length : tie.Need-same-length Inv-loop μ-loop
+same-length c = c .before .before .before .before .loop .inv .6 .long ∙ sym (c .before .before .before .before .before .before .before .before .pre .2 .long)
 
 returns : tie.Need-returns Inv-loop μ-loop
 returns c =
-    let a = c .before .before .before .before .before .before .before .args in
+    let a = c .before .before .before .before .before .before .before .before .args in
     let at = c .before .before .before .before .loop in
-    pass-no (a .elements .now) (a .d) (a .n) (a .v) (a .h) (at .k) (at .i) (at .inv .3) (search needs) (sym (c .before .row-sound .ensures) ∙ not-true _ (c .if1 .taken))
+    (no-first _ _ (pass-no (a .elements .now) (a .d) (a .n) (a .v) (a .h) (at .k) (at .i) (at .inv .3) (c .before .before .before .loop-test .taken) (sym (c .before .row-sound .ensures) ∙ not-true _ (c .if1 .taken))), λ e. absurd (false≢true e))
+
+row-new-requires : tie.Need-row-new-requires Inv-loop μ-loop
+row-new-requires c κs =
+    let p = c .before .before .before .before .before .before .before .before .before .pre in
+    (omega (arith, p .0, c .before .before .before .before .loop-test .taken), p .1, c .before .before .before .before .before .loop .inv .6)
+
+same-length-2 : tie.Need-same-length-2 Inv-loop μ-loop
+same-length-2 c = search needs
+
+returns-2 : tie.Need-returns-2 Inv-loop μ-loop
+returns-2 c =
+    let a = c .before .before .before .before .before .before .before .before .before .before .before .before .before .args in
+    let at = c .before .before .before .before .before .before .before .before .before .loop in
+    (no-second (rowsInUse desk (a .d) (a .n) (a .v) (a .h) (a .elements .now)) _ (sym (apart-is (a .elements .now) (a .n)) ∙ apart-no (a .elements .now) (a .n) (at .i) (c .before .before .before .before .before .before .before .before .loop-test .taken) (sym (c .before .before .before .row-new .ensures .0) ∙ not-true _ (c .if2 .taken))), λ e. absurd (false≢true e))
 
 mul-one-if-corner : tie.Need-mul-one-if-corner Inv-loop μ-loop
 mul-one-if-corner c = search needs
@@ -50,22 +75,30 @@ loop-less c = search needs
 
 loop-again : tie.Need-loop-again Inv-loop μ-loop
 loop-again c =
-    let a = c .before .before .before .before .before .before .before .before .args in
-    let at = c .before .before .before .before .before .loop in
-    let p = c .before .before .before .before .before .before .before .before .pre in
-    let sound = sym (c .before .before .row-sound .ensures) ∙ not-false _ (c .before .if1 .left) in (
+    let a = c .before .before .before .before .before .before .before .before .before .before .before .before .before .before .args in
+    let at = c .before .before .before .before .before .before .before .before .before .before .loop in
+    let p = c .before .before .before .before .before .before .before .before .before .before .before .before .before .before .pre in
+    let sound = sym (c .before .before .before .before .before .before .before .row-sound .ensures) ∙ not-false _ (c .before .before .before .before .before .before .if1 .left) in (
       search needs,
       search needs,
       at .inv .2,
-      pass-go (a .elements .now) (a .d) (a .n) (a .v) (a .h) (at .k) (at .i) _ (at .inv .3) (search needs) sound (c .one-if-corner .ensures .0),
-      edges-on (a .elements .now) (at .i) (a .d) (a .h) (p .1) (search needs) (row-record (a .elements .now) (a .d) (a .h) (at .k) (at .i) _ sound) (row-element (a .elements .now) (a .d) (a .h) (at .k) (at .i) _ sound) (at .inv .4),
+      pass-go (a .elements .now) (a .d) (a .n) (a .v) (a .h) (at .k) (at .i) _ (at .inv .3) (c .before .before .before .before .before .before .before .before .before .loop-test .taken) sound (c .one-if-corner .ensures .0),
+      edges-on (a .elements .now) (at .i) (a .d) (a .h) (p .1) (omega (arith, p .0, c .before .before .before .before .before .before .before .before .before .loop-test .taken)) (row-record (a .elements .now) (a .d) (a .h) (at .k) (at .i) _ sound) (row-element (a .elements .now) (a .d) (a .h) (at .k) (at .i) _ sound) (at .inv .4),
+      apart-go (a .elements .now) (at .i) (at .inv .5) (sym (c .before .before .before .before .row-new .ensures .0) ∙ not-false _ (c .before .if2 .left)),
+      c .before .before .before .before .row-new .ensures .1 (not-false _ (c .before .if2 .left)),
     )
 
-returns-2 : tie.Need-returns-2 Inv-loop μ-loop
-returns-2 c =
-    let a = c .before .before .before .before .args in
+same-length-3 : tie.Need-same-length-3 Inv-loop μ-loop
+same-length-3 c = c .before .loop .inv .6 .long ∙ sym (c .before .before .before .before .before .pre .2 .long)
+
+returns-3 : tie.Need-returns-3 Inv-loop μ-loop
+returns-3 c =
+    let a = c .before .before .before .before .before .args in
     let at = c .before .loop in
-    pass-end (a .elements .now) (a .d) (a .n) (a .v) (a .h) (at .k) (at .i) (at .inv .3) (search needs)
+    let e : at .i ≡ a .n = omega (arith, at .inv .0, c .loop-test .left) in (
+      both _ _ (pass-end (a .elements .now) (a .d) (a .n) (a .v) (a .h) (at .k) (at .i) (at .inv .3) (c .loop-test .left)) (sym (apart-is (a .elements .now) (a .n)) ∙ ap (apart (a .elements .now)) (sym e) ∙ at .inv .5),
+      λ t. index-count _ _ _ _ e (at .inv .6),
+    )
 
 pub rows-in-use-spec : {M : Type 1} → statement M
 rows-in-use-spec =
@@ -76,11 +109,16 @@ rows-in-use-spec =
     past-mask-requires
     loop-holds
     row-sound-requires
+    same-length
     returns
+    row-new-requires
+    same-length-2
+    returns-2
     mul-one-if-corner
     one-if-corner-requires
     add-k
     add-i
     loop-less
     loop-again
-    returns-2)
+    same-length-3
+    returns-3)
