@@ -5,6 +5,7 @@ use rules::VertexId;
 use space::memo;
 use space::restore;
 use space::rows;
+use space::words::SET;
 use space::words::right_size;
 ghost use Prim.Native.Nat.{_+_, _*_, _^_, _<_, _≤_};
 ghost use mathlib.Core.Bool.{cond};
@@ -21,7 +22,7 @@ ghost use Rattle.rules.specs.Replies.{cubeReply};
 
 // Some numbers of a boundary, in the front of their room.
 pub struct Faces {
-    pub list: [u16; 34],
+    pub list: [u16; SET],
     pub n: usize,
 }
 
@@ -75,7 +76,7 @@ fn faces_of(d: usize, e: u16) -> Faces
 {
     let ks = digits_of(d, e);
     let mut f = Faces {
-        list: [0u16; 34],
+        list: [0u16; SET],
         n: 0,
     };
     let mut step = cube_size(d);

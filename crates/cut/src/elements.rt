@@ -1,5 +1,6 @@
 // Rule 5: an element asks for its boundary, and the boundary asks for each element. An element asked twice in a cut is answered from what is known.
 use crate::known::Asked;
+use crate::known::KNOWN;
 use crate::known::is_known;
 use crate::known::keep;
 use crate::known::output_at;
@@ -7,9 +8,9 @@ use gathered::answer;
 use gathered::answer::Cutter;
 use gathered::sets;
 use gathered::sets::FLUSH;
-use gathered::sets::SET;
 use rules::ElementId;
 use space::rows;
+use space::words::SET;
 use space::words::wide;
 ghost use Prim.Native.Nat.{_<_};
 ghost use lib.ListN.{getD};
@@ -22,7 +23,7 @@ pub fn cut_element(
     points: &mut [f64],
     elements: &mut [u16],
     index: &mut [u16],
-    known: &mut [u16; 1536],
+    known: &mut [u16; KNOWN],
     e: ElementId,
     rank: usize,
     k: Cutter,
@@ -70,14 +71,14 @@ fn cut_boundary(
     points: &mut [f64],
     elements: &mut [u16],
     index: &mut [u16],
-    known: &mut [u16; 1536],
+    known: &mut [u16; KNOWN],
     e: ElementId,
     rank: usize,
     k: Cutter,
-    flush: &mut [u16; 2],
-    inside: &mut [u16; 34],
-    outside: &mut [u16; 34],
-    intersections: &mut [u16; 34],
+    flush: &mut [u16; FLUSH],
+    inside: &mut [u16; SET],
+    outside: &mut [u16; SET],
+    intersections: &mut [u16; SET],
 ) -> Asked
     requires { ⌜ AskReady (now counts) (now points) (now elements) (now known) rank (e .0) k × (1 < rank) × NothingYet (answersIn (now flush) (now inside) (now outside) (now intersections)) × Indexed (now elements) (getD (now counts) 1 0) (now index) ⌝ }
     ensures { λ r. ⌜ BoundaryCut (now (counts .entry)) (now (points .entry)) (now (elements .entry)) (now (known .entry)) rank (e .0) k r (answersIn (now (flush .exit)) (now (inside .exit)) (now (outside .exit)) (now (intersections .exit))) (now (counts .exit)) (now (points .exit)) (now (elements .exit)) (now (known .exit)) × Indexed (now (elements .exit)) (getD (now (counts .exit)) 1 0) (now (index .exit)) ⌝ }

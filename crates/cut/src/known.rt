@@ -10,6 +10,11 @@ ghost use lib.ListN.{length};
 ghost use Rattle.gathered.specs.Sets.{InRoom};
 ghost use Rattle.cut.specs.Known.{wordOf, someOf, knownAt, outputAt, askedBy, threeAt, ReplyInRoom, withReply};
 
+// The words of an answer, and of the answers of all elements.
+const ANSWER: usize = 3;
+
+pub const KNOWN: usize = 1536;
+
 // Whether asking ended: refused, or the answer is known.
 pub enum Asked {
     Refused(u8),
@@ -37,19 +42,19 @@ fn some_of(word: u16) -> ElementOrNone
 }
 
 // Whether an element was asked before.
-pub fn is_known(known: &[u16; 1536], e: ElementId) -> bool
+pub fn is_known(known: &[u16; KNOWN], e: ElementId) -> bool
     requires { ⌜ (length (now known) ≡ 1536) × (e .0 < 512) ⌝ }
     ensures { λ r. ⌜ r ≡ knownAt (now (known .entry)) (e .0) ⌝ }
 {
-    0 < known[e.0 * 3]
+    0 < known[e.0 * ANSWER]
 }
 
 // What the words of an element that was asked say.
-pub fn output_at(known: &[u16; 1536], e: ElementId) -> ElementCutOutput
+pub fn output_at(known: &[u16; KNOWN], e: ElementId) -> ElementCutOutput
     requires { ⌜ (length (now known) ≡ 1536) × (e .0 < 512) ⌝ }
     ensures { λ r. ⌜ r ≡ outputAt (now (known .entry)) (e .0) ⌝ }
 {
-    let at = e.0 * 3;
+    let at = e.0 * ANSWER;
     let a = known[at];
     let b = known[at + 1];
     let c = known[at + 2];
@@ -66,18 +71,18 @@ pub fn output_at(known: &[u16; 1536], e: ElementId) -> ElementCutOutput
     }
 }
 
-fn put_words(known: &mut [u16; 1536], e: ElementId, a: u16, b: u16, c: u16)
+fn put_words(known: &mut [u16; KNOWN], e: ElementId, a: u16, b: u16, c: u16)
     requires { ⌜ (length (now known) ≡ 1536) × (e .0 < 512) ⌝ }
     ensures { λ r. ⌜ now (known .exit) ≡ threeAt (now (known .entry)) (e .0) a b c ⌝ }
 {
-    let first = e.0 * 3;
+    let first = e.0 * ANSWER;
     known[first] = a;
     known[first + 1] = b;
     known[first + 2] = c;
 }
 
 // An answer is kept.
-pub fn keep(known: &mut [u16; 1536], e: ElementId, reply: CutReply) -> Asked
+pub fn keep(known: &mut [u16; KNOWN], e: ElementId, reply: CutReply) -> Asked
     requires { ⌜ (length (now known) ≡ 1536) × (e .0 < 512) × ReplyInRoom reply ⌝ }
     ensures { λ r. ⌜ (r ≡ askedBy reply) × (now (known .exit) ≡ withReply (now (known .entry)) (e .0) reply) ⌝ }
 {

@@ -1,6 +1,7 @@
 // Rules 2 to 8, and all memory given back where they refuse.
 use crate::elements::cut_element;
 use crate::known::Asked;
+use crate::known::KNOWN;
 use crate::known::output_at;
 use gathered::answer::Cutter;
 use rules::CutReply;
@@ -40,7 +41,7 @@ fn cut_named(
                 keep_inside,
                 keep_outside,
             };
-            let mut known = [0u16; 1536];
+            let mut known = [0u16; KNOWN];
             let asked = cut_element(counts, points, elements, index, &mut known, root, rank, k);
             match asked {
                 Asked::Refused(no) => CutReply::Refused(no),

@@ -3,7 +3,6 @@ use gathered::answer;
 use gathered::answer::Cutter;
 use gathered::sets;
 use gathered::sets::FLUSH;
-use gathered::sets::SET;
 use rules::Crossing;
 use rules::CutReply;
 use rules::ElementCutOutput;
@@ -14,6 +13,7 @@ use rules::VertexId;
 use space::memo;
 use space::rows;
 use space::rows::Placed;
+use space::words::SET;
 use space::words::wide;
 ghost use Prim.Native.Nat.{_+_, _*_, _<_};
 ghost use mathlib.Core.Path.{_≡_};
@@ -95,10 +95,10 @@ fn read_ends(points: &[f64], elements: &[u16], e: ElementId) -> EdgeEnds
 
 // Ends on the plane are flush, and other ends go to their side; the lower-numbered end comes first.
 fn gather_ends(
-    flush: &mut [u16; 2],
-    inside: &mut [u16; 34],
-    outside: &mut [u16; 34],
-    intersections: &mut [u16; 34],
+    flush: &mut [u16; FLUSH],
+    inside: &mut [u16; SET],
+    outside: &mut [u16; SET],
+    intersections: &mut [u16; SET],
     a: ElementId,
     sa: f64,
     b: ElementId,
@@ -121,10 +121,10 @@ fn cut_crossed(
     index: &mut [u16],
     e: ElementId,
     k: Cutter,
-    flush: &mut [u16; 2],
-    inside: &mut [u16; 34],
-    outside: &mut [u16; 34],
-    intersections: &[u16; 34],
+    flush: &mut [u16; FLUSH],
+    inside: &mut [u16; SET],
+    outside: &mut [u16; SET],
+    intersections: &[u16; SET],
     x: [f64; 4],
 ) -> CutReply
     requires { ⌜ CrossedReady (now counts) (now points) (now elements) (e .0) k (answersIn (now flush) (now inside) (now outside) (now intersections)) x × Indexed (now elements) (getD (now counts) 1 0) (now index) ⌝ }

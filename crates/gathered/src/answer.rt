@@ -1,5 +1,5 @@
 // Rules 6 to 8: what a cut adds for an element whose boundary has answered, and the element's own answer.
-use crate::sets::SIZE;
+use crate::sets::FLUSH;
 use crate::sets::include;
 use rules::CutReply;
 use rules::ElementCutOutput;
@@ -11,6 +11,8 @@ use space::memo;
 use space::memo::Added;
 use space::rows;
 use space::words::NO_PLANE;
+use space::words::SET;
+use space::words::SIZE;
 use space::words::wide;
 ghost use Prim.Native.Nat.{_<_};
 ghost use mathlib.Core.Path.{_≡_};
@@ -49,7 +51,7 @@ fn new_intersection(
     index: &mut [u16],
     rank: usize,
     k: Cutter,
-    set: &[u16; 34],
+    set: &[u16; SET],
 ) -> Added
     requires { ⌜ IntersectionReady (now counts) (now elements) rank k (now set) × Indexed (now elements) (getD (now counts) 1 0) (now index) ⌝ }
     ensures { λ r. ⌜ IntersectionMade (now (counts .entry)) (now (elements .entry)) rank k (now (set .entry)) r (now (counts .exit)) (now (elements .exit)) × Indexed (now (elements .exit)) (getD (now (counts .exit)) 1 0) (now (index .exit)) ⌝ }
@@ -68,7 +70,7 @@ fn side_of_cut(
     e: ElementId,
     rank: usize,
     keep: bool,
-    set: &mut [u16; 34],
+    set: &mut [u16; SET],
     x: ElementOrNone,
 ) -> Added
     requires { ⌜ SideReady (now counts) (now elements) rank (e .0) (now set) x × Indexed (now elements) (getD (now counts) 1 0) (now index) ⌝ }
@@ -92,8 +94,8 @@ fn rule7(
     e: ElementId,
     rank: usize,
     k: Cutter,
-    inside: &mut [u16; 34],
-    outside: &mut [u16; 34],
+    inside: &mut [u16; SET],
+    outside: &mut [u16; SET],
     x: ElementOrNone,
 ) -> CutReply
     requires { ⌜ Rule7Ready (now counts) (now elements) rank (e .0) k (now inside) (now outside) x × Indexed (now elements) (getD (now counts) 1 0) (now index) ⌝ }
@@ -124,10 +126,10 @@ pub fn rule6(
     e: ElementId,
     rank: usize,
     k: Cutter,
-    flush: &[u16; 2],
-    inside: &mut [u16; 34],
-    outside: &mut [u16; 34],
-    intersections: &[u16; 34],
+    flush: &[u16; FLUSH],
+    inside: &mut [u16; SET],
+    outside: &mut [u16; SET],
+    intersections: &[u16; SET],
 ) -> CutReply
     requires { ⌜ Rule6Ready (now counts) (now elements) rank (e .0) k (answersIn (now flush) (now inside) (now outside) (now intersections)) × Indexed (now elements) (getD (now counts) 1 0) (now index) ⌝ }
     ensures { λ r. ⌜ Rule6Done (now (counts .entry)) (now (elements .entry)) rank (e .0) k (answersIn (now (flush .entry)) (now (inside .entry)) (now (outside .entry)) (now (intersections .entry))) r (now (counts .exit)) (now (elements .exit)) × Indexed (now (elements .exit)) (getD (now (counts .exit)) 1 0) (now (index .exit)) ⌝ }

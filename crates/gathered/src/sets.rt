@@ -2,21 +2,18 @@
 use rules::ElementCutOutput;
 use rules::ElementId;
 use rules::ElementOrNone;
+use space::words::SET;
+use space::words::SIZE;
 use space::words::wide;
 ghost use Prim.Native.Nat.{_≤_, _<_};
 ghost use mathlib.Core.Path.{_≡_};
 ghost use Rattle.gathered.specs.Sets.{sizeIn, SizedSet, Sized, answersIn, Place, putAt, InRoom, OutputInRoom, Included, GatheredIn};
 
-// The words of a set: numbers of elements, each above the one before, one place more than a boundary may have, so that rule 8 can refuse; and behind them how many are in use.
-pub const SET: usize = 34;
-
-pub const SIZE: usize = 33;
-
 // The words of the flush answers: how many there were, and the last such element.
 pub const FLUSH: usize = 2;
 
 // The first place whose number is not below x, or the end.
-fn place(s: &[u16; 34], x: u16) -> usize
+fn place(s: &[u16; SET], x: u16) -> usize
     requires { ⌜ SizedSet (now s) 32 ⌝ }
     ensures { λ r. ⌜ Place (now (s .entry)) x r ⌝ }
 {
@@ -32,7 +29,7 @@ fn place(s: &[u16; 34], x: u16) -> usize
 }
 
 // A number more, at a place; those from there on move up by one.
-fn put_at(s: &mut [u16; 34], x: u16, at: usize)
+fn put_at(s: &mut [u16; SET], x: u16, at: usize)
     requires { ⌜ SizedSet (now s) 32 × (at ≤ sizeIn (now s)) ⌝ }
     ensures { λ r. ⌜ now (s .exit) ≡ putAt (now (s .entry)) x at ⌝ }
 {
@@ -49,7 +46,7 @@ fn put_at(s: &mut [u16; 34], x: u16, at: usize)
 }
 
 // A number that is there already is not put in again.
-fn insert(s: &mut [u16; 34], x: u16)
+fn insert(s: &mut [u16; SET], x: u16)
     requires { ⌜ SizedSet (now s) 32 ⌝ }
     ensures { λ r. ⌜ Included (now (s .entry)) (ElementOrNone.Some (record { 0 = x })) (now (s .exit)) ⌝ }
 {
@@ -64,7 +61,7 @@ fn insert(s: &mut [u16; 34], x: u16)
     put_at(s, x, at);
 }
 
-pub fn include(s: &mut [u16; 34], p: ElementOrNone)
+pub fn include(s: &mut [u16; SET], p: ElementOrNone)
     requires { ⌜ SizedSet (now s) 32 × InRoom p ⌝ }
     ensures { λ r. ⌜ Included (now (s .entry)) p (now (s .exit)) ⌝ }
 {
@@ -75,10 +72,10 @@ pub fn include(s: &mut [u16; 34], p: ElementOrNone)
 
 // The answer of boundary element b is counted, or goes to the sets.
 pub fn gather_in(
-    flush: &mut [u16; 2],
-    inside: &mut [u16; 34],
-    outside: &mut [u16; 34],
-    intersections: &mut [u16; 34],
+    flush: &mut [u16; FLUSH],
+    inside: &mut [u16; SET],
+    outside: &mut [u16; SET],
+    intersections: &mut [u16; SET],
     b: ElementId,
     a: ElementCutOutput,
 )

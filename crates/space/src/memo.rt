@@ -7,6 +7,7 @@ use crate::words::BOUNDARY;
 use crate::words::HYPERPLANES;
 use crate::words::NO_PLANE;
 use crate::words::PLANE_WIDTH;
+use crate::words::SET;
 use crate::words::VERTICES;
 use crate::words::wide;
 use hypermath::FoundHyperplane;
@@ -193,7 +194,7 @@ pub fn add_polytope(
     elements: &mut [u16],
     index: &mut [u16],
     rank: usize,
-    list: &[u16; 34],
+    list: &[u16; SET],
     n: usize,
     plane: u16,
     mark: bool,

@@ -4,6 +4,7 @@ use crate::chains::find_row;
 use crate::chains::join;
 use crate::chains::key_of;
 use crate::words::ELEMENTS;
+use crate::words::SET;
 use crate::words::WIDTH;
 use crate::words::wide;
 use rules::ElementId;
@@ -114,7 +115,7 @@ fn bit(mark: bool) -> u16
 }
 
 // The boundary is the front of a list with one place more than a row has: rule 8 refuses a full list before.
-pub fn polytope_row(rank: usize, list: &[u16; 34], n: usize, plane: u16, mark: bool) -> [u16; 36]
+pub fn polytope_row(rank: usize, list: &[u16; SET], n: usize, plane: u16, mark: bool) -> [u16; 36]
     requires { ⌜ (length (now list) ≡ 34) × (n ≤ 32) × (rank < 65536) ⌝ }
     ensures { λ r. ⌜ r ≡ elementWords desk (polytope rank (take n (now (list .entry))) (planeNamed plane) mark) ⌝ }
 {
