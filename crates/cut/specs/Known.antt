@@ -69,10 +69,12 @@ ReplyInRoom (reply.Answered a) = OutputInRoom a
 
 -- ---- a reply whose answer is in the words
 
+-- how asking ended: an answer is left out
 abbrev pub askedBy : CutReply → Asked
 askedBy (reply.Refused n) = asked.Refused n
 askedBy (reply.Answered a) = asked.Done
 
+-- and put back from the words of element e
 abbrev pub replyOf : Asked → List ℕ → ℕ → CutReply
 replyOf (asked.Refused n) ms e = reply.Refused n
 replyOf asked.Done ms e = reply.Answered (outputAt ms e)

@@ -5,8 +5,7 @@ use mathlib.Core.List.{List, [], _∷_}
 use native.Mathlib.Nat.{le-trans, le-of-eq}
 use native.Mathlib.Omega.{arith}
 use lib.Dec.{lit≤}
-use lib.ListN.{length, getD, take, set, length-set}
-use lib.Seq.{getD-set-same, getD-set-other}
+use lib.ListN.{length, getD, take, set}
 use lib.Ieee.{Float}
 use Rattle.rules.specs.Limits.{desk}
 use Rattle.rules.specs.Lists.{pad}
@@ -37,7 +36,7 @@ use Rattle.space.proofs.Slices.{slices}
 use Rattle.gathered.specs.Sets.{Answers, answersIn, Gathers, Sized, NothingYet, OutputInRoom, GatheredIn}
 use Rattle.gathered.specs.Cutting.{Fit, cutOf, Rule6Fit, Rule6Ready, Rule6Done}
 use Rattle.gathered.specs.declared.answer.Cutter.{Cutter}
-use Rattle.gathered.proofs.Gathering.{at-most}
+use Rattle.gathered.proofs.Gathering.{at-most, said-count, said-last, said-long}
 use Rattle.ends.specs.Ends.{EndsReady, EndsRead, endsOf, EndsGathered, crossedOf, afterEnds, CrossedFit, CrossedReady, CrossedCut}
 use Rattle.ends.specs.declared.EdgeEnds.{EdgeEnds}
 use Rattle.ends.specs.Elements.{Ready, ElementCut}
@@ -81,18 +80,9 @@ pub record Crossed (s : Answers) (v : ℕ) (s′ : Answers) : Type 0 where
 -- the flush words say so once the count is 1 and the last one is v
 pub crossed : (f i o x : List ℕ) (v : ℕ) → length f ≡ 2 → Crossed (answersIn f i o x) v (answersIn (set (set f 0 1) 1 v) i o x)
 crossed f i o x v long = record {
-  of = λ g G. record { flushes = one; flush = last; inside = G .inside; outside = G .outside; intersections = G .intersections };
-  sized = λ m h Z. record { flushes = le-trans (le-of-eq one) h; flush = still; inside = Z .inside; outside = Z .outside; intersections = Z .intersections };
+  of = λ g G. record { flushes = said-count f 1 v long; flush = said-last f 1 v long; inside = G .inside; outside = G .outside; intersections = G .intersections };
+  sized = λ m h Z. record { flushes = le-trans (le-of-eq (said-count f 1 v long)) h; flush = said-long f 1 v long; inside = Z .inside; outside = Z .outside; intersections = Z .intersections };
 }
-  where
-    one : getD (set (set f 0 1) 1 v) 0 0 ≡ 1
-    one = getD-set-other (set f 0 1) 1 0 v 0 (λ e. (let z : ⊥ = omega (arith, e) in z)) ∙ getD-set-same f 0 1 0 (let q : 0 < length f = omega (arith, long) in q)
-
-    last : getD (set (set f 0 1) 1 v) 1 0 ≡ v
-    last = let a = length-set f 0 1 in getD-set-same (set f 0 1) 1 v 0 (let q : 1 < length (set f 0 1) = omega (arith, a, long) in q)
-
-    still : length (set (set f 0 1) 1 v) ≡ 2
-    still = length-set (set f 0 1) 1 v ∙ length-set f 0 1 ∙ long
 
 -- ---- the crossing is matched or appended
 

@@ -35,23 +35,20 @@ nothing-gathered = record {
 
 -- ---- the flush answers
 
+-- the two words, once they say n and b
+module _ (f : List ℕ) (n b : ℕ) (long : length f ≡ 2) where
+  pub said-count : getD (set (set f 0 n) 1 b) 0 0 ≡ n
+  said-count = getD-set-other (set f 0 n) 1 0 b 0 (λ e. (let z : ⊥ = omega (arith, e) in z)) ∙ getD-set-same f 0 n 0 (let q : 0 < length f = omega (arith, long) in q)
+
+  pub said-last : getD (set (set f 0 n) 1 b) 1 0 ≡ b
+  said-last = let a = length-set f 0 n in getD-set-same (set f 0 n) 1 b 0 (let q : 1 < length (set f 0 n) = omega (arith, a, long) in q)
+
+  pub said-long : length (set (set f 0 n) 1 b) ≡ 2
+  said-long = length-set (set f 0 n) 1 b ∙ length-set f 0 n ∙ long
+
 -- one more, and b is the last
 abbrev pub flushed : List ℕ → ℕ → List ℕ
 flushed f b = set (set f 0 (getD f 0 0 + 1)) 1 b
-
-module _ (f : List ℕ) (b : ℕ) (long : length f ≡ 2) where
-  flushed-count : getD (flushed f b) 0 0 ≡ getD f 0 0 + 1
-  flushed-count =
-      getD-set-other (set f 0 (getD f 0 0 + 1)) 1 0 b 0 (λ e. (let z : ⊥ = omega (arith, e) in z))
-      ∙ getD-set-same f 0 (getD f 0 0 + 1) 0 (let q : 0 < length f = omega (arith, long) in q)
-
-  flushed-last : getD (flushed f b) 1 0 ≡ b
-  flushed-last =
-      let a = length-set f 0 (getD f 0 0 + 1) in
-      getD-set-same (set f 0 (getD f 0 0 + 1)) 1 b 0 (let q : 1 < length (set f 0 (getD f 0 0 + 1)) = omega (arith, a, long) in q)
-
-  flushed-long : length (flushed f b) ≡ 2
-  flushed-long = length-set (set f 0 (getD f 0 0 + 1)) 1 b ∙ length-set f 0 (getD f 0 0 + 1) ∙ long
 
 -- ---- an answer
 
@@ -59,15 +56,15 @@ module _ (f i o x : List ℕ) (b : ℕ) (a : ElementCutOutput) where
   pub gather-flush : length f ≡ 2 → a ≡ Flush → GatheredIn (answersIn f i o x) b a (answersIn (flushed f b) i o x)
   gather-flush long e = subst (λ (y : ElementCutOutput). GatheredIn (answersIn f i o x) b y (answersIn (flushed f b) i o x)) (sym e) (record {
     of = λ g G. record {
-      flushes = flushed-count f b long ∙ ap (λ (n : ℕ). n + 1) (G .flushes) ∙ add-one _;
-      flush = flushed-last f b long;
+      flushes = said-count f (getD f 0 0 + 1) b long ∙ ap (λ (n : ℕ). n + 1) (G .flushes) ∙ add-one _;
+      flush = said-last f (getD f 0 0 + 1) b long;
       inside = G .inside;
       outside = G .outside;
       intersections = G .intersections;
     };
     sized = λ m z. record {
-      flushes = (let q = z .flushes in let n = flushed-count f b long in omega (arith, n, q));
-      flush = flushed-long f b long;
+      flushes = (let q = z .flushes in let n = said-count f (getD f 0 0 + 1) b long in omega (arith, n, q));
+      flush = said-long f (getD f 0 0 + 1) b long;
       inside = one-more (z .inside);
       outside = one-more (z .outside);
       intersections = one-more (z .intersections);

@@ -28,6 +28,7 @@ pub record Answers : Type 0 where
   pub outside : List ℕ
   pub intersections : List ℕ
 
+-- as they are lent, one array each
 abbrev pub answersIn : List ℕ → List ℕ → List ℕ → List ℕ → Answers
 answersIn f i o x = record { flush = f; inside = i; outside = o; intersections = x }
 

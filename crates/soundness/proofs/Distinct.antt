@@ -2,7 +2,7 @@
 use Prim.Native.Nat.{ℕ, zero, suc, _+_, _*_, _-_, _<_}
 use mathlib.Core.Bool.{Bool, true, false, not, _&&_, _||_}
 use mathlib.Core.List.{List, [], _∷_, _++_}
-use mathlib.Core.Option.{Option, none, some}
+use mathlib.Core.Option.{none, some}
 use mathlib.Core.Path.{_≡_, refl, sym, ap, ap₂, _∙_}
 use native.Mathlib.Numerals.{add-one}
 use native.Mathlib.Omega.{arith}
@@ -13,6 +13,7 @@ use Rattle.rules.specs.Limits.{desk}
 use Rattle.rules.specs.Lists.{if_then_else_, alike, any, distinct, find, findFrom, rows}
 use Rattle.space.specs.Chains.{rowAt}
 use Rattle.soundness.specs.Words.{rowNew, rowsDistinct}
+use Rattle.soundness.proofs.ReadBack.{and-zero}
 
 -- ---- one entry behind the others
 
@@ -92,11 +93,7 @@ module _ (es : List ℕ) where
   pub apart-no : (n i : ℕ) → i < n → rowNew es i ≡ false → apart n ≡ false
   apart-no n i l f =
       ap apart (let q : n ≡ suc i + (n - suc i) = omega arith in q)
-      ∙ stays-false (n - suc i) (suc i) (one-new i ∙ ap (λ (c : Bool). apart i && c) f ∙ and-false (apart i))
-    where
-      and-false : (b : Bool) → (b && false) ≡ false
-      and-false true = refl
-      and-false false = refl
+      ∙ stays-false (n - suc i) (suc i) (one-new i ∙ ap (λ (c : Bool). apart i && c) f ∙ and-zero (apart i))
 
   pub apart-is : (n : ℕ) → apart n ≡ rowsDistinct desk n es
   unfolding rowsDistinct

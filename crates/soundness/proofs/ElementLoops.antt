@@ -2,7 +2,7 @@
 use Prim.Native.Nat.{ℕ, _*_, _≤_}
 use mathlib.Core.Bool.{Bool, true, _&&_, false}
 use mathlib.Core.List.{List}
-use mathlib.Core.Path.{_≡_, ap, sym, _∙_, refl}
+use mathlib.Core.Path.{_≡_, sym, _∙_, refl}
 use lib.Dec.{leb}
 use lib.Ieee.{Float}
 use lib.ListN.{getD, drop}
@@ -13,6 +13,7 @@ use Rattle.rules.specs.Table.{primordials}
 use Rattle.rules.proofs.Laws.{and-left, and-right, le-test}
 use Rattle.rules.specs.Held.{memoryOf}
 use Rattle.soundness.specs.Words.{recordsSound, recordWords, blank, elementsSound, rowsInUse, countsFit, pointsSound, planesSound, floatsSound, cornersSound, rowsDistinct, rowsSound, wordsSound}
+use Rattle.soundness.proofs.ReadBack.{and-one, and-zero}
 use Rattle.soundness.proofs.SoundWhole.{words-memory}
 
 pub fit-counts : (d n v h : ℕ) → countsFit desk d n v h ≡ true → (d ≤ 4) × (v ≤ 256) × (n ≤ 512) × (h ≤ 64)
@@ -42,16 +43,8 @@ rows-both d n v h es a b p q =
   where
     moved : (w z k e c : Bool) → ((w && z) && k && e && c) ≡ (((w && k && e) && c) && z)
     moved false z k e c = refl
-    moved true true k e c = sym (last ((k && e) && c))
-      where
-        last : (t : Bool) → (t && true) ≡ t
-        last true = refl
-        last false = refl
-    moved true false k e c = sym (last ((k && e) && c))
-      where
-        last : (t : Bool) → (t && false) ≡ false
-        last true = refl
-        last false = refl
+    moved true true k e c = sym (and-one ((k && e) && c))
+    moved true false k e c = sym (and-zero ((k && e) && c))
 
 grouped : (s c p h e o r d : Bool) → (s && c && p && h && e && o && r && d) ≡ (s && c && (p && h) && (e && o && r && d))
 grouped false c p h e o r d = refl

@@ -15,6 +15,7 @@ use Rattle.rules.proofs.Indexed.{rows-on}
 use Rattle.rules.proofs.Laws.{and-left, and-right}
 use Rattle.soundness.specs.Words.{recordWords, cornerNamed, inOrder, elementSound, cornersSound, elementsSound, rowSound, rowsInUse}
 use Rattle.soundness.proofs.BoundaryFits.{by-three}
+use Rattle.soundness.proofs.ReadBack.{and-one, and-zero}
 
 module _ (es : List ℕ) (d n v h : ℕ) where
   abbrev rowsFrom : ℕ → List (List ℕ)
@@ -56,11 +57,7 @@ module _ (es : List ℕ) (d n v h : ℕ) where
   pub pass-end : {reply : Bool} (k i : ℕ) → reply ≡ left k i → n ≤ i → eqb k v ≡ reply
   pass-end k i t l =
       sym (t ∙ ap (λ (m : ℕ). all (recordWords desk) (rows m 36 (drop (i * 36) es)) && inOrder k v (rows m 36 (drop (i * 36) es)) && allFrom i (elementSound desk es d h) (rows m 36 (drop (i * 36) es)))
-      (let z : n - i ≡ 0 = omega arith in z) ∙ last (eqb k v))
-    where
-      last : (b : Bool) → (b && true) ≡ b
-      last true = refl
-      last false = refl
+      (let z : n - i ≡ 0 = omega arith in z) ∙ and-one (eqb k v))
 
 -- the tests of one row
 pub row-is : (es : List ℕ) (d h k e : ℕ) (r : List ℕ) (a b c : Bool) → recordWords desk r ≡ a → cornerNamed k r ≡ b → elementSound desk es d h e r ≡ c → (a && b && c) ≡ rowSound desk es d h k e r
@@ -79,15 +76,7 @@ module _ (a b : Bool) where
   no-first q = ap (λ (x : Bool). x && b) q
 
   pub no-second : b ≡ false → false ≡ (a && b)
-  no-second q = sym (ap (λ (x : Bool). a && x) q ∙ last a)
-    where
-      last : (x : Bool) → (x && false) ≡ false
-      last true = refl
-      last false = refl
+  no-second q = sym (ap (λ (x : Bool). a && x) q ∙ and-zero a)
 
   pub both : {c : Bool} → c ≡ a → b ≡ true → c ≡ (a && b)
-  both p q = p ∙ sym (ap (λ (x : Bool). a && x) q ∙ last a)
-    where
-      last : (x : Bool) → (x && true) ≡ x
-      last true = refl
-      last false = refl
+  both p q = p ∙ sym (ap (λ (x : Bool). a && x) q ∙ and-one a)

@@ -114,7 +114,7 @@ fn bit(mark: bool) -> u16
     if mark { 1 } else { 0 }
 }
 
-// The boundary is the front of a list with one place more than a row has: rule 8 refuses a full list before.
+// The boundary is the front of a set's words, which have place for one more than a row: rule 8 refuses a full set before.
 pub fn polytope_row(rank: usize, list: &[u16; SET], n: usize, plane: u16, mark: bool) -> [u16; 36]
     requires { ⌜ (length (now list) ≡ 34) × (n ≤ 32) × (rank < 65536) ⌝ }
     ensures { λ r. ⌜ r ≡ elementWords desk (polytope rank (take n (now (list .entry))) (planeNamed plane) mark) ⌝ }
