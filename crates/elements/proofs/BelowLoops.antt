@@ -16,11 +16,11 @@ use Rattle.rules.specs.Promises.{Reaches, itself, lower, border, Bordered}
 use Rattle.rules.proofs.Borders.{sound-bordered}
 use Rattle.rules.proofs.Good.{above-zero, sound-good}
 use Rattle.rules.proofs.Growing.{all-get}
-use Rattle.rules.proofs.Laws.{or-case, or-left, or-right, eq-test, test-le, le-test, and-true, refute, eqb-self, unlike-eq}
+use Rattle.rules.proofs.Laws.{or-case, or-left, or-right, eq-test, test-le, le-test, not-le, and-true, refute, eqb-self, unlike-eq}
 use Rattle.rules.proofs.Reach.{some-at, is-below}
 use Rattle.space.proofs.SameRows.{bool-both}
 use Rattle.space.proofs.Room.{elements-size, sizeOf, listOf, rank-word, size-word, list-word}
-use Rattle.elements.specs.Marks.{isMarked, marking, markingAll, NoneMarked, members}
+use Rattle.elements.specs.Marks.{isMarked, marking, markingAll, NoneMarked, DownTo, members}
 use Rattle.elements.specs.Below.{Lent, Used, boundaryWord, boundaryWords, BoundaryReady, Passed, Onward, Below}
 use Rattle.elements.proofs.MarkLaws.{marking-long, marked-one, marking-all-long, marked-all}
 use Rattle.elements.proofs.MemberLaws.{members-are}
@@ -211,8 +211,8 @@ module _ (es : List ℕ) (t : Table) (lent : Lent es t) (e : ℕ) (u : e < eleme
 pub record Going (es : List ℕ) (root y : ℕ) (ws : List ℕ) : Type 0 where
   pub of : (t : Table) → Lent es t → root < elementCount t → Passed t root y ws
 
-pub going-start : (es : List ℕ) (root : ℕ) (none ws : List ℕ) → length none ≡ 8 → NoneMarked none → root < 512 → ws ≡ marking none root → Going es root (root + 1 - 0) ws
-going-start es root none ws l none′ r q = record {
+pub going-start : (es : List ℕ) (root : ℕ) (none ws : List ℕ) → length none ≡ 8 → NoneMarked none → root < 512 → ws ≡ marking none root → Going es (root + 1 - 1) (root + 1) ws
+going-start es root none ws l none′ r q = subst (λ (k : ℕ). Going es k (root + 1) ws) (let z : root ≡ root + 1 - 1 = omega arith in z) record {
   of = λ t lent u. record {
     long = ap length q ∙ marking-long none root ∙ l;
     top = told root ∙ or-left (eqb root root) (isMarked none root) (eqb-self root);
@@ -227,25 +227,34 @@ going-start es root none ws l none′ r q = record {
     only : (x : ℕ) → isMarked ws x ≡ true → x ≡ root
     only x h = or-case (eqb x root) (isMarked none x) (sym (told x) ∙ h) (x ≡ root) (eq-test x root) (λ k. absurd (false≢true (sym (none′ .of x) ∙ k)))
 
-pub going-next : (es : List ℕ) (root i : ℕ) (ws ws′ : List ℕ) → i < root + 1 → Onward es (root - i) ws ws′ → Going es root (root + 1 - i) ws → Going es root (root + 1 - (i + 1)) ws′
-going-next es root i ws ws′ p o g = record {
-  of = λ t lent u.
-      subst (λ (k : ℕ). Passed t root k ws′) (let q : root - i ≡ root + 1 - (i + 1) = omega (arith, p) in q)
-      (o .of t lent (omega (arith, u)) root (subst (λ (k : ℕ). Passed t root k ws) (let q : root + 1 - i ≡ suc (root - i) = omega (arith, p) in q) (g .of t lent u)));
-}
+-- down to e: between nothing is marked, and e is gone by
+pub going-next : (es : List ℕ) (root y e : ℕ) (ws ws′ : List ℕ) → 0 < y → y ≤ root + 1 → DownTo ws (y - 1) e → Onward es e ws ws′ → Going es root y ws → Going es root e ws′
+going-next es root y e ws ws′ p h d o g = record { of = λ t lent u. o .of t lent (let l = d .low in omega (arith, l, h, u)) root (skipped t (g .of t lent u)) }
+  where
+    skipped : (t : Table) → Passed t root y ws → Passed t root (suc e) ws
+    skipped t P = record {
+      long = P .long;
+      top = P .top;
+      reached = P .reached;
+      closed = λ x n l m k. past x n l m k (leb y x) refl;
+    }
+      where
+        past : (x n : ℕ) → suc e ≤ x → isMarked ws x ≡ true → n < length (boundary t x) → (b : Bool) → leb y x ≡ b → isMarked ws (border t x n) ≡ true
+        past x n l m k true q = P .closed x n (le-test y x q) m k
+        past x n l m k false q = absurd (false≢true (sym (d .none x l (let j = not-le y x q in omega (arith, j))) ∙ m))
 
-pub going-end : (es : List ℕ) (root y : ℕ) (ws : List ℕ) → y ≡ 0 → Going es root y ws → Below es root ws
+pub going-end : (es : List ℕ) (root y : ℕ) (ws : List ℕ) → y ≡ 0 → Going es (root + 1 - 1) y ws → Below es root ws
 going-end es root y ws z g = record {
   of = λ t lent u x.
-      let P = g .of t lent u in
+      let P = subst (λ (k : ℕ). Going es k y ws) (let q : root + 1 - 1 ≡ root = omega arith in q) g .of t lent u in
       let i = is-below desk t (lent .sound) root x u in
       bool-both (isMarked ws x) (isBelow t root x) (λ h. i .1 (P .reached x h))
       (λ h. all-reached ws (λ v n m l. P .closed v n (omega (arith, z)) m l) (i .0 h) (P .top));
 }
 
 -- every element from the root down is in use
-pub used-below : (es : List ℕ) (root i : ℕ) → Used es root → Used es (root - i)
-used-below es root i w = record { table = w .table; lent = w .lent; used = let u = w .used in omega (arith, u) }
+pub used-below : (es : List ℕ) (root e : ℕ) → e ≤ root → Used es root → Used es e
+used-below es root e l w = record { table = w .table; lent = w .lent; used = let u = w .used in omega (arith, l, u) }
 
 -- ---- the marks are the sub-elements
 

@@ -1,19 +1,20 @@
--- A mark is one digit of one word: setting it leaves every other digit, and a set of both has the digits of both.
+-- A mark is one digit of one word: setting it leaves every other digit, and a set of both has the digits of both. The zeros at the top of a shifted word are digits with no mark.
 use Prim.Native.Nat.{ℕ, zero, suc, _+_, _*_, _-_, _/_, _%_, _^_, _<_, _≤_}
 use mathlib.Core.Bool.{Bool, true, false, _||_}
 use mathlib.Core.List.{List, [], _∷_}
 use mathlib.Core.Logic.{inl, inr}
-use mathlib.Core.Path.{_≡_, refl, ap, subst, _∙_}
-use native.Mathlib.Nat.{div-self, div-eq-of-lt, mod-lt, mod-eq-of-lt, one-mul, div-add-mod', eq-zero-or-pos, div-eq-of-eq-mul-left, pow-suc, mul-mod-left}
+use mathlib.Core.Path.{_≡_, refl, sym, ap, subst, _∙_}
+use native.Mathlib.Nat.{div-self, div-eq-of-lt, mod-lt, mod-eq-of-lt, one-mul, div-add-mod', eq-zero-or-pos, div-eq-of-eq-mul-left, lt-of-lt-of-le, pow-suc, mul-mod-left}
 use native.Mathlib.Omega.{arith}
 use lib.Bits.{bitOr, bitAnd, and-mask, or-shr, or-mod, or-zero-r}
+use lib.Count.{leadingZeros, leading-length}
 use lib.Dec.{eqb, ltb}
 use lib.ListN.{length, getD, set, length-set, replicate, List·getD-eq-default}
-use lib.Pow.{pow-pos, pow-lt, pow-add}
+use lib.Pow.{pow-pos, pow-mono, pow-lt, pow-add, shr-shr, shl-shr, field, mod-mod-pow}
 use lib.Seq.{getD-set-same, getD-set-other}
 use Rattle.rules.specs.Lists.{all, member}
 use Rattle.rules.proofs.Laws.{eq-test, unlike-eq, and-left, and-right, le-test}
-use Rattle.elements.specs.Marks.{bit, isMarked, marking, markingAll, NoneMarked}
+use Rattle.elements.specs.Marks.{bit, isMarked, marking, markingAll, NoneMarked, DownTo}
 
 -- ---- a digit
 
@@ -128,3 +129,40 @@ none-marked n = record { of = λ x. word-zero (replicate n 0) x (zeros-at n (x /
 -- past the room nothing is marked
 pub marked-high : (ws : List ℕ) (x : ℕ) → length ws ≡ 8 → 512 ≤ x → isMarked ws x ≡ false
 marked-high ws x l h = word-zero ws x (List·getD-eq-default ws 0 (omega (arith, l, h, div-add-mod' x 64)))
+
+-- ---- down to the next mark
+
+-- shifted until the digit b is the top one, a word of z leading zeros has no digit set of the z from b down
+zeros-from : (w b z c : ℕ) → b < 64 → z ≡ leadingZeros 64 (w * 2 ^ (63 - b) % 2 ^ 64) → c ≤ b → b < c + z → bit w c ≡ 0
+zeros-from w b z c h q l m =
+    let n = leading-length 64 v (mod-lt (w * 2 ^ k) (pow-pos 64)) in
+    let few : n .0 ≤ k + c = let s = n .1 in omega (arith, s, q, m, h) in
+    let none : v / 2 ^ (k + c) ≡ 0 = div-eq-of-lt (lt-of-lt-of-le (n .2) (pow-mono few)) in
+    sym (mod-mod-pow (w / 2 ^ c) (b - c) 1) ∙ ap (λ (x : ℕ). x % 2) (sym digits ∙ none)
+  where
+    k : ℕ
+    k = 63 - b
+
+    v : ℕ
+    v = w * 2 ^ k % 2 ^ 64
+
+    -- the digits of w from c up to b
+    digits : v / 2 ^ (k + c) ≡ w / 2 ^ c % 2 ^ (b - c + 1)
+    digits =
+        ap (λ (n : ℕ). w * 2 ^ k % 2 ^ n / 2 ^ (k + c)) (let e : 64 ≡ b - c + 1 + (k + c) = omega (arith, h, l) in e)
+        ∙ field (w * 2 ^ k) (b - c + 1) (k + c)
+        ∙ ap (λ (x : ℕ). x % 2 ^ (b - c + 1)) (sym (shr-shr (w * 2 ^ k) k c) ∙ ap (λ (x : ℕ). x / 2 ^ c) (shl-shr w k))
+
+pub down-to : (ws : List ℕ) (i z r : ℕ) → z ≡ leadingZeros 64 (getD ws (i / 64) 0 * 2 ^ (63 - i % 64) % 2 ^ 64) → r ≤ i → i ≤ r + i % 64 → i ≤ r + z → DownTo ws i r
+unfolding isMarked
+down-to ws i z r q l m n = record {
+  low = l;
+  none = λ x a b.
+      let p = div-add-mod' x 64 in
+      let o = div-add-mod' i 64 in
+      let u : x % 64 < 64 = mod-lt x (omega arith) in
+      let v : i % 64 < 64 = mod-lt i (omega arith) in
+      let word : x / 64 ≡ i / 64 = omega (arith, p, o, u, v, a, b, m) in
+      ap (λ (j : ℕ). eqb (bit (getD ws j 0) (x % 64)) 1) word
+      ∙ ap (λ (d : ℕ). eqb d 1) (zeros-from (getD ws (i / 64) 0) (i % 64) z (x % 64) v q (omega (arith, p, o, word, b)) (omega (arith, p, o, word, a, n)));
+}

@@ -1,10 +1,10 @@
--- Marks by rank, one element after another; those that are left have no mark yet. What is marked is in use, so its row is an element's.
-use Prim.Native.Nat.{ℕ, suc, _+_, _*_, _-_, _<_, _≤_}
+-- Marks by rank, downwards from one marked element to the next; those that are left have no mark yet. What is marked is in use, so its row is an element's.
+use Prim.Native.Nat.{ℕ, _+_, _*_, _-_, _<_, _≤_}
 use mathlib.Core.Bool.{Bool, true, false, _&&_, _||_}
 use mathlib.Core.List.{List, [], _∷_, map}
 use mathlib.Core.Path.{_≡_, refl, sym, ap, ap₂, subst, _∙_}
 use native.Mathlib.Omega.{arith}
-use lib.Dec.{eqb, ltb}
+use lib.Dec.{eqb, leb}
 use lib.ListN.{length, getD}
 use Rattle.rules.specs.Limits.{desk}
 use Rattle.rules.specs.Lists.{if_then_else_, all, keep, upTo}
@@ -12,9 +12,9 @@ use Rattle.rules.specs.Table.{Table, Element, corner, polytope, element, elemen
 use Rattle.rules.specs.Held.{elementsOf}
 use Rattle.rules.specs.Questions.{isBelow, subElements, withRank, vertexSet}
 use Rattle.rules.proofs.Good.{above-zero, sound-good}
-use Rattle.rules.proofs.Laws.{if-true, if-false, eq-test, test-eq, unlike-eq, not-eq, and-left, and-right, le-test, not-le, test-le, test-above}
+use Rattle.rules.proofs.Laws.{eqb-self, eq-test, test-eq, unlike-eq, not-eq, and-left, and-right, le-test, not-le}
 use Rattle.space.proofs.Room.{listOf, list-word}
-use Rattle.elements.specs.Marks.{isMarked, marking, members, NoneMarked}
+use Rattle.elements.specs.Marks.{isMarked, marking, members, NoneMarked, DownTo}
 use Rattle.elements.specs.Below.{Lent, Below}
 use Rattle.elements.specs.Ranks.{isOfRank, oneMore, OfRank, vertexWord}
 use Rattle.elements.proofs.MarkLaws.{marking-long, marked-one, marked-high}
@@ -38,67 +38,77 @@ module _ (es ws : List ℕ) (rank e : ℕ) (out : List ℕ) where
     pub this-rank : getD es (e * 36) 0 ≡ rank → marking out e ≡ oneMore es ws rank e out
     this-rank n = chosen true (ap₂ (λ (a b : Bool). a && b) m (test-eq (getD es (e * 36) 0) rank n))
 
+  one-more-long : length (oneMore es ws rank e out) ≡ length out
+  unfolding oneMore
+  one-more-long = go (isOfRank es ws rank e)
+    where
+      go : (b : Bool) → length (if b then marking out e else out) ≡ length out
+      go true = marking-long out e
+      go false = refl
+
+  module _ (l : length out ≡ 8) (h : e < 512) where
+    one-more-here : isMarked out e ≡ false → isMarked (oneMore es ws rank e out) e ≡ isOfRank es ws rank e
+    unfolding oneMore
+    one-more-here m = go (isOfRank es ws rank e)
+      where
+        go : (b : Bool) → isMarked (if b then marking out e else out) e ≡ b
+        go true = marked-one out e e l h ∙ ap (λ (c : Bool). c || isMarked out e) (eqb-self e)
+        go false = m
+
+    one-more-other : (x : ℕ) → (x ≡ e → ⊥) → isMarked (oneMore es ws rank e out) x ≡ isMarked out x
+    unfolding oneMore
+    one-more-other x n = go (isOfRank es ws rank e)
+      where
+        go : (b : Bool) → isMarked (if b then marking out e else out) x ≡ isMarked out x
+        go true = marked-one out e x l h ∙ ap (λ (c : Bool). c || isMarked out x) (not-eq x e n)
+        go false = refl
+
 -- ---- all elements
 
--- those before e are as they should be, and from e on none is marked
-pub record Ranking (es ws : List ℕ) (rank : ℕ) (out : List ℕ) (e : ℕ) : Type 0 where
+-- those from y on are as they should be, and before y none is marked
+pub record Ranking (es ws : List ℕ) (rank : ℕ) (out : List ℕ) (y : ℕ) : Type 0 where
   pub long : length out ≡ 8
-  pub of : (x : ℕ) → isMarked out x ≡ (ltb x e && isOfRank es ws rank x)
+  pub done : (x : ℕ) → y ≤ x → isMarked out x ≡ isOfRank es ws rank x
+  pub rest : (x : ℕ) → x < y → isMarked out x ≡ false
 
-pub ranking-start : (es ws : List ℕ) (rank : ℕ) (out : List ℕ) → length out ≡ 8 → NoneMarked out → Ranking es ws rank out 0
-ranking-start es ws rank out l n = record {
+none-ranked : (es ws : List ℕ) (rank x : ℕ) → isMarked ws x ≡ false → isOfRank es ws rank x ≡ false
+none-ranked es ws rank x m = ap (λ (b : Bool). b && eqb (getD es (x * 36) 0) rank) m
+
+pub ranking-start : (es ws : List ℕ) (rank : ℕ) (out : List ℕ) → length out ≡ 8 → length ws ≡ 8 → NoneMarked out → Ranking es ws rank out 512
+ranking-start es ws rank out l w n = record {
   long = l;
-  of = λ x. n .of x ∙ sym (ap (λ (b : Bool). b && isOfRank es ws rank x) (test-above (suc x) 0 (omega arith)));
+  done = λ x h. n .of x ∙ sym (none-ranked es ws rank x (marked-high ws x w h));
+  rest = λ x h. n .of x;
 }
 
-module _ (es ws : List ℕ) (rank : ℕ) (out : List ℕ) (e : ℕ) (r : Ranking es ws rank out e) where
-  pub ranking-next : (out′ : List ℕ) → e < 512 → out′ ≡ oneMore es ws rank e out → Ranking es ws rank out′ (e + 1)
-  unfolding oneMore
-  ranking-next out′ h q = go (isOfRank es ws rank e) refl
+module _ (es ws : List ℕ) (rank : ℕ) (out : List ℕ) (y : ℕ) (r : Ranking es ws rank out y) where
+  pub ranking-next : (e : ℕ) (out′ : List ℕ) → 0 < y → y ≤ 512 → DownTo ws (y - 1) e → out′ ≡ oneMore es ws rank e out → Ranking es ws rank out′ e
+  ranking-next e out′ p h d q = record {
+    long = ap length q ∙ one-more-long es ws rank e out ∙ r .long;
+    done = λ x l. from x l (eqb x e) refl;
+    rest = λ x l. other x (λ j. omega (arith, j, l)) ∙ r .rest x (let k = before in omega (arith, k, l));
+  }
     where
-      -- another number is before e + 1 exactly when it is before e
-      before : (x : ℕ) → (x ≡ e → ⊥) → ltb x e ≡ ltb x (e + 1)
-      before x n = side (ltb x e) refl
-        where
-          side : (b : Bool) → ltb x e ≡ b → b ≡ ltb x (e + 1)
-          side true p = sym (test-le (suc x) (e + 1) (let k = le-test (suc x) e p in omega (arith, k)))
-          side false p = sym (test-above (suc x) (e + 1) (let k = not-le (suc x) e p in omega (arith, k, n)))
+      before : e < y
+      before = let k = d .low in omega (arith, k, p)
 
-      here : ltb e (e + 1) ≡ true
-      here = test-le (suc e) (e + 1) (omega arith)
+      other : (x : ℕ) → (x ≡ e → ⊥) → isMarked out′ x ≡ isMarked out x
+      other x n = ap (λ (v : List ℕ). isMarked v x) q ∙ one-more-other es ws rank e out (r .long) (let k = before in omega (arith, k, h)) x n
 
-      not-here : ltb e e ≡ false
-      not-here = test-above (suc e) e (omega arith)
+      here : isMarked out′ e ≡ isOfRank es ws rank e
+      here = ap (λ (v : List ℕ). isMarked v e) q ∙ one-more-here es ws rank e out (r .long) (let k = before in omega (arith, k, h)) (r .rest e before)
 
-      or-same : (x : ℕ) (b : Bool) → eqb x e ≡ b → isOfRank es ws rank e ≡ true → (b || (ltb x e && isOfRank es ws rank x)) ≡ (ltb x (e + 1) && isOfRank es ws rank x)
-      or-same x true p t = sym (ap₂ (λ (a c : Bool). a && c) (ap (λ (y : ℕ). ltb y (e + 1)) (eq-test x e p) ∙ here) (ap (isOfRank es ws rank) (eq-test x e p) ∙ t))
-      or-same x false p t = ap (λ (a : Bool). a && isOfRank es ws rank x) (before x (unlike-eq x e p))
+      -- past e: gone by before, or between, where nothing is marked
+      past : (x : ℕ) → e < x → (b : Bool) → leb y x ≡ b → isMarked out x ≡ isOfRank es ws rank x
+      past x l true j = r .done x (le-test y x j)
+      past x l false j = let k = not-le y x j in r .rest x k ∙ sym (none-ranked es ws rank x (d .none x l (omega (arith, k))))
 
-      no-more : (x : ℕ) (b : Bool) → eqb x e ≡ b → isOfRank es ws rank e ≡ false → (ltb x e && isOfRank es ws rank x) ≡ (ltb x (e + 1) && isOfRank es ws rank x)
-      no-more x true p t =
-          let n = ap (isOfRank es ws rank) (eq-test x e p) ∙ t in
-          ap₂ (λ (a c : Bool). a && c) (ap (λ (y : ℕ). ltb y e) (eq-test x e p) ∙ not-here) n
-          ∙ sym (ap₂ (λ (a c : Bool). a && c) (ap (λ (y : ℕ). ltb y (e + 1)) (eq-test x e p) ∙ here) n)
-      no-more x false p t = ap (λ (a : Bool). a && isOfRank es ws rank x) (before x (unlike-eq x e p))
+      from : (x : ℕ) → e ≤ x → (b : Bool) → eqb x e ≡ b → isMarked out′ x ≡ isOfRank es ws rank x
+      from x l true j = subst (λ (n : ℕ). isMarked out′ n ≡ isOfRank es ws rank n) (sym (eq-test x e j)) here
+      from x l false j = let n = unlike-eq x e j in other x n ∙ past x (omega (arith, l, n)) (leb y x) refl
 
-      go : (b : Bool) → isOfRank es ws rank e ≡ b → Ranking es ws rank out′ (e + 1)
-      go true t =
-          let w : out′ ≡ marking out e = q ∙ if-true (isOfRank es ws rank e) (marking out e) out t in record {
-            long = ap length w ∙ marking-long out e ∙ r .long;
-            of = λ x. ap (λ (v : List ℕ). isMarked v x) w ∙ marked-one out e x (r .long) h ∙ ap (λ (b : Bool). eqb x e || b) (r .of x) ∙ or-same x (eqb x e) refl t;
-          }
-      go false t =
-          let w : out′ ≡ out = q ∙ if-false (isOfRank es ws rank e) (marking out e) out t in record {
-            long = ap length w ∙ r .long;
-            of = λ x. ap (λ (v : List ℕ). isMarked v x) w ∙ r .of x ∙ no-more x (eqb x e) refl t;
-          }
-
-  pub ranking-end : 512 ≤ e → length ws ≡ 8 → OfRank es ws rank out
-  ranking-end h l = record { of = λ x. r .of x ∙ all-before x (ltb x e) refl }
-    where
-      all-before : (x : ℕ) (b : Bool) → ltb x e ≡ b → (b && isOfRank es ws rank x) ≡ isOfRank es ws rank x
-      all-before x true p = refl
-      all-before x false p = sym (ap (λ (b : Bool). b && eqb (getD es (x * 36) 0) rank) (marked-high ws x l (let k = not-le (suc x) e p in omega (arith, k, h))))
+  pub ranking-end : y ≡ 0 → OfRank es ws rank out
+  ranking-end z = record { of = λ x. r .done x (omega (arith, z)) }
 
 -- ---- sub-elements of a rank
 

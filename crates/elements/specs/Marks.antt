@@ -1,5 +1,5 @@
 -- A set of numbers below 512 as eight words of 64 marks. Definitions only.
-use Prim.Native.Nat.{ℕ, zero, suc, _+_, _*_, _/_, _%_, _^_, _≤_}
+use Prim.Native.Nat.{ℕ, zero, suc, _+_, _*_, _/_, _%_, _^_, _<_, _≤_}
 use mathlib.Core.Bool.{Bool, false, _&&_}
 use mathlib.Core.Path.{_≡_}
 use mathlib.Core.List.{List, [], _∷_, _++_}
@@ -31,6 +31,11 @@ pub record NoneMarked (ws : List ℕ) : Type 0 where
 -- exactly what is in both sets
 pub record Both (a b out : List ℕ) : Type 0 where
   pub of : (x : ℕ) → isMarked out x ≡ (isMarked a x && isMarked b x)
+
+-- from i down to r: what lies between is not in the set
+pub record DownTo (ws : List ℕ) (i r : ℕ) : Type 0 where
+  pub low : r ≤ i
+  pub none : (x : ℕ) → r < x → x ≤ i → isMarked ws x ≡ false
 
 -- ---- the numbers of a set, rising
 

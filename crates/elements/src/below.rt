@@ -1,5 +1,6 @@
 // All that lies below a root, in one pass downwards: a boundary has earlier numbers, so each element is gone by once.
 use crate::marks::Marks;
+use crate::marks::down_to;
 use crate::marks::mark;
 use crate::marks::marked;
 use crate::marks::no_marks;
@@ -45,8 +46,11 @@ pub fn below(elements: &[u16], root: ElementId) -> Marks
     ensures { λ r. ⌜ Below (now (elements .entry)) (root .0) (r .words) ⌝ }
 {
     let mut s = mark(no_marks(), root.0);
-    for i in 0..root.0 + 1 {
-        s = onward(elements, ElementId(root.0 - i), s);
+    let mut left = root.0 + 1;
+    while 0 < left {
+        let e = down_to(s, left - 1);
+        s = onward(elements, ElementId(e), s);
+        left = e;
     }
     s
 }

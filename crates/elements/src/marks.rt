@@ -1,10 +1,10 @@
-// Sets of numbers below 512 as marks in eight words: the size is the number of marks set, and the lowest mark is met first.
+// Sets of numbers below 512 as marks in eight words: the size is the number of marks set, and what is not marked is passed over.
 ghost use Prim.Native.Nat.{_+_, _<_, _≤_};
 ghost use mathlib.Core.Path.{_≡_};
-ghost use lib.Count.{trailingZeros};
+ghost use lib.Count.{leadingZeros, trailingZeros};
 ghost use lib.ListN.{length};
 ghost use lib.Seq.{sets};
-ghost use Rattle.elements.specs.Marks.{isMarked, marking, bitsFrom, members, CountOf, NoneMarked, Both};
+ghost use Rattle.elements.specs.Marks.{isMarked, marking, bitsFrom, members, CountOf, NoneMarked, Both, DownTo};
 
 // How many words a set has, and how many marks a word.
 const WORDS: usize = 8;
@@ -66,6 +66,23 @@ fn zeros_below(x: u64) -> usize
     ensures { λ r. ⌜ (r ≡ trailingZeros 64 x) × (r ≤ 64) ⌝ }
 {
     u64::trailing_zeros(x) as usize
+}
+
+fn zeros_above(x: u64) -> usize
+    ensures { λ r. ⌜ (r ≡ leadingZeros 64 x) × (r ≤ 64) ⌝ }
+{
+    u64::leading_zeros(x) as usize
+}
+
+// From a number down to the next mark, or to its word's first number: what lies between is not marked.
+pub fn down_to(s: Marks, i: usize) -> usize
+    requires { ⌜ i < 512 ⌝ }
+    ensures { λ r. ⌜ DownTo (s .words) i r ⌝ }
+{
+    let words = s.words;
+    let b = i % BITS;
+    let z = zeros_above(words[i / BITS] << (63 - b));
+    if z < b { i - z } else { i - b }
 }
 
 pub fn size(s: Marks) -> usize

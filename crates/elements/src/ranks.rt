@@ -1,5 +1,6 @@
 // The marks of one rank.
 use crate::marks::Marks;
+use crate::marks::down_to;
 use crate::marks::mark;
 use crate::marks::marked;
 use crate::marks::no_marks;
@@ -30,8 +31,11 @@ pub fn with_rank(elements: &[u16], s: Marks, rank: usize) -> Marks
     ensures { λ r. ⌜ OfRank (now (elements .entry)) (s .words) rank (r .words) ⌝ }
 {
     let mut out = no_marks();
-    for e in 0..ELEMENTS {
+    let mut left = ELEMENTS;
+    while 0 < left {
+        let e = down_to(s, left - 1);
         out = add_ranked(elements, s, rank, ElementId(e), out);
+        left = e;
     }
     out
 }

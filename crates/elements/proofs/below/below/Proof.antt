@@ -1,6 +1,5 @@
--- The pass has come down to what is left; at the end the marks are what is below the root.
-use Prim.Native.Nat.{_+_, _-_, _≤_}
-use mathlib.Core.Path.{_≡_, refl}
+-- The pass has come down to what is left: what is not marked is passed over. At the end the marks are what is below the root.
+use Prim.Native.Nat.{_-_, _≤_}
 use native.Mathlib.Omega.{arith}
 use Rattle.elements.specs.Below.{Used}
 use Rattle.elements.proofs.BelowLoops.{in-room, Going, going-start, going-next, going-end, used-below}
@@ -9,10 +8,10 @@ use Rattle.elements.proofs.below.below.Statement.{statement}
 use Rattle.elements.proofs.below.below.Tie as tie
 
 abbrev Inv-loop : tie.InvT-loop
-Inv-loop elements root s₀ i₀ i-end s i = (i ≤ i-end) × (i-end ≡ root .0 + 1) × Used elements (root .0) × Going elements (root .0) (root .0 + 1 - i) (s .words)
+Inv-loop elements s₀ left₀ s left = (left ≤ left₀) × (left₀ ≤ 512) × Used elements (left₀ - 1) × Going elements (left₀ - 1) left (s .words)
 
 abbrev μ-loop : tie.MeasureT-loop
-μ-loop elements root s₀ i₀ i-end s i = i-end - i
+μ-loop elements s₀ left₀ s left = left
 
 no-marks-requires : tie.Need-no-marks-requires Inv-loop μ-loop
 no-marks-requires c κs = search needs
@@ -20,22 +19,26 @@ no-marks-requires c κs = search needs
 mark-requires : tie.Need-mark-requires Inv-loop μ-loop
 mark-requires c κs = search needs
 
-add-i-end : tie.Need-add-i-end Inv-loop μ-loop
-add-i-end c = search needs
+add-left : tie.Need-add-left Inv-loop μ-loop
+add-left c = search needs
 
 loop-holds : tie.Need-loop-holds Inv-loop μ-loop
 loop-holds c =
     let p = c .before .before .before .before .pre in
-    (search needs, refl, p, going-start _ _ _ _ (search needs) (c .before .before .no-marks .ensures) (in-room _ _ (p .lent) _ (p .used)) (c .before .mark .ensures))
+    let r = in-room _ _ (p .lent) _ (p .used) in
+    (search needs, omega (arith, r), used-below _ _ _ (omega arith) p, going-start _ _ _ _ (search needs) (c .before .before .no-marks .ensures) r (c .before .mark .ensures))
 
-sub-t8 : tie.Need-sub-t8 Inv-loop μ-loop
-sub-t8 c = search needs
+sub-down-to : tie.Need-sub-down-to Inv-loop μ-loop
+sub-down-to c = search needs
+
+down-to-requires : tie.Need-down-to-requires Inv-loop μ-loop
+down-to-requires c κs = search needs
 
 onward-requires : tie.Need-onward-requires Inv-loop μ-loop
-onward-requires c κs = used-below _ _ _ (c .before .before .loop .inv .2)
-
-add-i : tie.Need-add-i Inv-loop μ-loop
-add-i c = search needs
+onward-requires c κs =
+    let at = c .before .before .loop in
+    let l = c .down-to .ensures .low in
+    used-below _ _ _ (omega (arith, l)) (at .inv .2)
 
 loop-less : tie.Need-loop-less Inv-loop μ-loop
 loop-less c = search needs
@@ -43,7 +46,8 @@ loop-less c = search needs
 loop-again : tie.Need-loop-again Inv-loop μ-loop
 loop-again c =
     let at = c .before .before .before .loop in
-    (search needs, at .inv .1, at .inv .2, going-next _ _ _ _ _ (omega arith) (c .onward .ensures) (at .inv .3))
+    let d = c .before .down-to .ensures in
+    (search needs, at .inv .1, at .inv .2, going-next _ _ _ _ _ _ (search needs) (omega arith) d (c .onward .ensures) (at .inv .3))
 
 returns : tie.Need-returns Inv-loop μ-loop
 returns c = going-end _ _ _ _ (omega arith) (c .before .loop .inv .3)
@@ -56,11 +60,11 @@ below-spec =
     μ-loop
     no-marks-requires
     mark-requires
-    add-i-end
+    add-left
     loop-holds
-    sub-t8
+    sub-down-to
+    down-to-requires
     onward-requires
-    add-i
     loop-less
     loop-again
     returns)

@@ -1,5 +1,5 @@
--- Those before e are as they should be, and from e on none is marked.
-use Prim.Native.Nat.{_-_, _≤_}
+-- Those from what is left on are as they should be, and before it none is marked: what is not in the set is passed over.
+use Prim.Native.Nat.{_≤_}
 use mathlib.Core.Path.{_≡_}
 use native.Mathlib.Omega.{arith}
 use lib.ListN.{length}
@@ -9,31 +9,34 @@ use Rattle.elements.proofs.ranks.with_rank.Statement.{statement}
 use Rattle.elements.proofs.ranks.with_rank.Tie as tie
 
 abbrev Inv-loop : tie.InvT-loop
-Inv-loop elements s rank out₀ e₀ out e = (e ≤ 512) × (length elements ≡ 18432) × (length (s .words) ≡ 8) × Ranking elements (s .words) rank (out .words) e
+Inv-loop elements s rank out₀ left₀ out left = (left ≤ 512) × (length elements ≡ 18432) × Ranking elements (s .words) rank (out .words) left
 
 abbrev μ-loop : tie.MeasureT-loop
-μ-loop elements s rank out₀ e₀ out e = 512 - e
+μ-loop elements s rank out₀ left₀ out left = left
 
 no-marks-requires : tie.Need-no-marks-requires Inv-loop μ-loop
 no-marks-requires c κs = search needs
 
 loop-holds : tie.Need-loop-holds Inv-loop μ-loop
-loop-holds c = (search needs, search needs, search needs, ranking-start _ _ _ _ (search needs) (c .no-marks .ensures))
+loop-holds c = (search needs, search needs, ranking-start _ _ _ _ (search needs) (search needs) (c .no-marks .ensures))
+
+sub-down-to : tie.Need-sub-down-to Inv-loop μ-loop
+sub-down-to c = search needs
+
+down-to-requires : tie.Need-down-to-requires Inv-loop μ-loop
+down-to-requires c κs = search needs
 
 add-ranked-requires : tie.Need-add-ranked-requires Inv-loop μ-loop
 add-ranked-requires c κs = search needs
-
-add-e : tie.Need-add-e Inv-loop μ-loop
-add-e c = search needs
 
 loop-less : tie.Need-loop-less Inv-loop μ-loop
 loop-less c = search needs
 
 loop-again : tie.Need-loop-again Inv-loop μ-loop
-loop-again c = (search needs, search needs, search needs, ranking-next _ _ _ _ _ (c .before .before .loop .inv .3) _ (search needs) (c .add-ranked .ensures))
+loop-again c = (search needs, search needs, ranking-next _ _ _ _ _ (c .before .before .before .loop .inv .2) _ _ (search needs) (search needs) (c .before .down-to .ensures) (c .add-ranked .ensures))
 
 returns : tie.Need-returns Inv-loop μ-loop
-returns c = ranking-end _ _ _ _ _ (c .before .loop .inv .3) (omega arith) (c .before .loop .inv .2)
+returns c = ranking-end _ _ _ _ _ (c .before .loop .inv .2) (omega arith)
 
 pub with-rank-spec : {M : Type 1} → statement M
 with-rank-spec =
@@ -43,8 +46,9 @@ with-rank-spec =
     μ-loop
     no-marks-requires
     loop-holds
+    sub-down-to
+    down-to-requires
     add-ranked-requires
-    add-e
     loop-less
     loop-again
     returns)
