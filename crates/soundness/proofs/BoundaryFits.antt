@@ -12,7 +12,7 @@ use lib.Seq.{getD-take, length-take-le, drop-cons}
 use Rattle.rules.specs.Limits.{desk}
 use Rattle.rules.specs.Lists.{all, rises}
 use Rattle.rules.proofs.Laws.{and-left, and-right, test-le}
-use Rattle.soundness.specs.Words.{numbersFit}
+use Rattle.soundness.specs.Words.{numberFits, numbersFit}
 use Rattle.soundness.proofs.ReadBack.{and-assoc, and-when}
 use borrow.Author.Tests.{ltb-true, lt-ltb}
 
@@ -56,6 +56,10 @@ by-three true false true b true c = refl
 by-three true false true b false c = refl
 by-three true false false b m c = refl
 
+-- the tests of one number
+pub number-is : (es : List ℕ) (e r low x : ℕ) (A B C : Bool) → leb low x ≡ A → ltb x e ≡ B → eqb (suc (getD es (x * 36) 0)) r ≡ C → (A && B && C) ≡ numberFits desk es e r low x
+number-is es e r low x A B C a b c = sym (λ i. a i && b i && c i)
+
 -- three tests of a list, number by number
 module _ (p q : ℕ → Bool) where
   abbrev pub fits : ℕ → List ℕ → Bool
@@ -79,21 +83,18 @@ module _ (es : List ℕ) (to e r : ℕ) where
       ∙ together (λ x. ltb x e) (λ x. eqb (suc (getD es (x * 36) 0)) r) 0 b
 
   module _ (fit : to ≤ length es) where
-    on : (low i x : ℕ) (A B C : Bool) → x ≡ getD es i 0 → i < to → leb low x ≡ A → ltb x e ≡ B → eqb (suc (getD es (x * 36) 0)) r ≡ C
-        → left low i ≡ ((A && B && C) && left (x + 1) (i + 1))
-    on low i x A B C s h a b c =
+    on : (low i x : ℕ) (F : Bool) → x ≡ getD es i 0 → i < to → numberFits desk es e r low x ≡ F → left low i ≡ (F && left (x + 1) (i + 1))
+    on low i x F s h f =
         ap (fits (λ y. ltb y e) (λ y. eqb (suc (getD es (y * 36) 0)) r) low)
         (drop-cons (take to es) i 0 (let k = length-take-le to es fit in let q : i < length (take to es) = omega (arith, k, h) in q)
         ∙ ap (λ (y : ℕ). y ∷ drop (suc i) (take to es)) (getD-take to es i 0 h ∙ sym s))
-        ∙ (λ j. (a j && b j && c j) && left (sym (add-one x) j) (sym (add-one i) j))
+        ∙ (λ j. f j && left (sym (add-one x) j) (sym (add-one i) j))
 
-    pub fits-go : {reply : Bool} (low i x : ℕ) → reply ≡ left low i → x ≡ getD es i 0 → i < to → leb low x ≡ true → ltb x e ≡ true → eqb (suc (getD es (x * 36) 0)) r ≡ true
-        → reply ≡ left (x + 1) (i + 1)
-    fits-go low i x t s h a b c = t ∙ on low i x true true true s h a b c
+    pub fits-go : {reply : Bool} (low i x : ℕ) → reply ≡ left low i → x ≡ getD es i 0 → i < to → numberFits desk es e r low x ≡ true → reply ≡ left (x + 1) (i + 1)
+    fits-go low i x t s h f = t ∙ on low i x true s h f
 
-    pub fits-no : {reply : Bool} (low i x : ℕ) (A B C : Bool) → reply ≡ left low i → x ≡ getD es i 0 → i < to → leb low x ≡ A → ltb x e ≡ B → eqb (suc (getD es (x * 36) 0)) r ≡ C
-        → (A && B && C) ≡ false → false ≡ reply
-    fits-no low i x A B C t s h a b c f = sym (t ∙ on low i x A B C s h a b c ∙ ap (λ (d : Bool). d && left (x + 1) (i + 1)) f)
+    pub fits-no : {reply : Bool} (low i x : ℕ) → reply ≡ left low i → x ≡ getD es i 0 → i < to → numberFits desk es e r low x ≡ false → false ≡ reply
+    fits-no low i x t s h f = sym (t ∙ on low i x false s h f)
 
     pub fits-end : {reply : Bool} (low i : ℕ) → reply ≡ left low i → to ≤ i → true ≡ reply
     fits-end low i t h =

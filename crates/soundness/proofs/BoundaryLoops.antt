@@ -12,9 +12,12 @@ use lib.Seq.{getD-take, length-take-le, drop-drop, take-take, getD-drop}
 use Rattle.rules.specs.Limits.{noPlane, desk}
 use Rattle.rules.specs.Lists.{if_then_else_, all, rises}
 use Rattle.rules.proofs.Laws.{and-left, and-right, le-test, test-eq, eq-test, not-eq, unlike-eq}
-use Rattle.space.specs.Closed.{closedRaw, Low, LowEnds}
-use Rattle.soundness.specs.Words.{facetWords, recordWords, blank, elementSound, numbersFit, boundaryWords, boundaryIn, EdgesLow}
-use Rattle.soundness.proofs.RowLoops.{record-polytope, drop-take, row-first, row-word}
+use Rattle.rules.proofs.Growing.{all-get}
+use Rattle.space.specs.Closed.{closedRaw, EndsLow}
+use Rattle.soundness.specs.Words.{facetWords, headWords, elementSound, numberFits, numbersFit, faceWords, boundaryWords, boundaryIn, EdgesLow}
+use Rattle.space.proofs.TwiceMet.{closed-one, closed-other}
+use Rattle.soundness.proofs.ReadBack.{and-one, and-zero}
+use Rattle.soundness.proofs.RowLoops.{head-few, drop-take, row-first, row-word}
 use borrow.Author.Tests.{ltb-true}
 
 pub facet-are : (d h r p m : ℕ) (a b c e : Bool) → eqb (suc r) d ≡ a → ltb p h ≡ b → eqb p noPlane ≡ c → not (eqb m 1) ≡ e → (if a then b else (c && e)) ≡ facetWords d h r p m
@@ -51,10 +54,6 @@ module _ (es : List ℕ) (e d h : ℕ) where
   abbrev row : List ℕ
   row = take 36 (drop at es)
 
-  pub list-fits : recordWords desk row ≡ true → (r ≡ 0 → ⊥) → n ≤ 32
-  list-fits w z =
-      le-test n 32 (and-right (leb (getD es (at + 1) 0) 1) (leb n 32) (and-left (leb (getD es (at + 1) 0) 1 && leb n 32) (blank (drop (at + 4 + n) (take (at + 36) es))) (record-polytope at es _ _ _ z refl refl refl ∙ w)))
-
   bound-is : n ≤ 32 → take n (drop 4 row) ≡ b
   bound-is l = take-it ∙ ap (take n) (drop-drop 4 at es) ∙ sym (drop-take (at + 4) n es)
     where
@@ -82,8 +81,8 @@ module _ (es : List ℕ) (at n e r : ℕ) (s : length es ≡ 18432) (f : at + n 
   abbrev there : List ℕ
   there = drop at (take (at + n) es)
 
-  long : length there ≡ n
-  long =
+  pub boundary-long : length there ≡ n
+  boundary-long =
       let k = length-take-le (at + n) es (le-trans f (le-of-eq (sym s))) in
       let j = length-drop at (take (at + n) es) in
       let q : length there ≡ n = omega (arith, k, j) in q
@@ -91,7 +90,7 @@ module _ (es : List ℕ) (at n e r : ℕ) (s : length es ≡ 18432) (f : at + n 
   boundary-are : (G R A K C : Bool) → ltb r n ≡ G → rises there ≡ R → all (λ x. ltb x e) there ≡ A → all (λ x. eqb (suc (getD es (x * 36) 0)) r) there ≡ K → closedRaw es r there ≡ C
       → (G && R && A && K && C) ≡ boundaryWords desk es e r there
   unfolding boundaryWords
-  boundary-are G R A K C p₁ p₂ p₃ p₄ p₅ = shuffle G R A K C ∙ sym ((λ i. p₂ i && p₃ i && p₄ i && ltb r (long i) && p₅ i) ∙ ap (λ (g : Bool). R && A && K && g && C) p₁)
+  boundary-are G R A K C p₁ p₂ p₃ p₄ p₅ = shuffle G R A K C ∙ sym ((λ i. p₂ i && p₃ i && p₄ i && ltb r (boundary-long i) && p₅ i) ∙ ap (λ (g : Bool). R && A && K && g && C) p₁)
     where
       shuffle : (G R A K C : Bool) → (G && R && A && K && C) ≡ (R && A && K && G && C)
       shuffle true true true true C = refl
@@ -111,44 +110,52 @@ module _ (es : List ℕ) (at n e r : ℕ) (s : length es ≡ 18432) (f : at + n 
       regroup true R A K C = refl
       regroup false R A K C = refl
 
-pub numbers-below : (es : List ℕ) (e r : ℕ) (b : List ℕ) → numbersFit desk es e r b ≡ true → all (λ x. ltb x e) b ≡ true
-numbers-below es e r b h =
-    and-right (rises b) (all (λ x. ltb x e) b) (and-left (rises b && all (λ x. ltb x e) b) (all (λ x. eqb (suc (getD es (x * 36) 0)) r) b) h)
+  -- an edge's is closed by its count, and a body's always
+  pub boundary-edge : {x : Bool} → r ≡ 1 → n ≡ 2 → ltb r n ≡ true → x ≡ numbersFit desk es e 1 (drop at (take (at + 2) es)) → x ≡ boundaryWords desk es e r there
+  boundary-edge one two g q =
+      q ∙ (λ i. numbersFit desk es e (sym one i) (drop at (take (at + sym two i) es))) ∙ sym (and-one (numbersFit desk es e r there))
+      ∙ boundary-by true _ true g refl (sym (closed-one es there r n boundary-long one) ∙ test-eq n 2 two)
 
-pub numbers-ranked : (es : List ℕ) (e r : ℕ) (b : List ℕ) → numbersFit desk es e r b ≡ true → all (λ x. eqb (suc (getD es (x * 36) 0)) r) b ≡ true
-numbers-ranked es e r b h = and-right (rises b && all (λ x. ltb x e) b) (all (λ x. eqb (suc (getD es (x * 36) 0)) r) b) h
+  pub boundary-open : r ≡ 1 → (n ≡ 2 → ⊥) → false ≡ boundaryWords desk es e r there
+  boundary-open one more =
+      sym (and-zero (ltb r n && numbersFit desk es e r there)) ∙ boundary-by _ _ false refl refl (sym (closed-one es there r n boundary-long one) ∙ not-eq n 2 more)
 
--- ---- what test 7 asks of a boundary that was tested so far
+  pub boundary-body : {x : Bool} → (r ≡ 1 → ⊥) → (r ≡ 2 → ⊥) → ltb r n ≡ true → x ≡ numbersFit desk es e r there → x ≡ boundaryWords desk es e r there
+  boundary-body no-edge no-face g q = q ∙ sym (and-one (numbersFit desk es e r there)) ∙ boundary-by true _ true g refl (sym (closed-other es there r no-edge no-face))
 
-module _ (es : List ℕ) (at n e r : ℕ) (fit : at + n ≤ length es) (below : all (λ x. ltb x e) (drop at (take (at + n) es)) ≡ true) where
-  below-at : (k : ℕ) → k < n → getD (drop at es) k 0 < e
-  below-at k h =
-      subst (λ (x : ℕ). x < e) (sym (getD-drop at es k 0))
-      (ltb-true (getD es (at + k) 0) e (all-at (λ x. ltb x e) es at (at + n) (at + k) fit below (let z : at ≤ at + k = omega arith in z) (let z : at + k < at + n = omega (arith, h) in z)))
+  -- a face's, both at once
+  pub boundary-face : {x : Bool} → r ≡ 2 → ltb r n ≡ true → x ≡ faceWords desk es e there → x ≡ boundaryWords desk es e r there
+  boundary-face two g q = q ∙ ap (λ (k : ℕ). numbersFit desk es e k there && closedRaw es k there) (sym two) ∙ boundary-by true _ _ g refl refl
 
-  pub numbers-low : e ≤ 512 → Low (drop at es) n
-  numbers-low l = record { at = λ k h. le-trans (below-at k h) l }
+-- ---- the ends of a face's edges
 
-  module _ (ranked : all (λ x. eqb (suc (getD es (x * 36) 0)) r) (drop at (take (at + n) es)) ≡ true) where
-    -- of a face, each is an edge
-    edge-at : r ≡ 2 → (k : ℕ) → k < n → getD es (getD (drop at es) k 0 * 36) 0 ≡ 1
-    edge-at two k h =
-        let q = eq-test (suc (getD es (getD es (at + k) 0 * 36) 0)) r
-        (all-at (λ x. eqb (suc (getD es (x * 36) 0)) r) es at (at + n) (at + k) fit ranked (let z : at ≤ at + k = omega arith in z) (let z : at + k < at + n = omega (arith, h) in z)) in
-        ap (λ (x : ℕ). getD es (x * 36) 0) (getD-drop at es k 0) ∙ (let z : getD es (getD es (at + k) 0 * 36) 0 ≡ 1 = omega (arith, q, two) in z)
+module _ (es : List ℕ) (e : ℕ) (E : EdgesLow es e) where
+  edge-ends : (x : ℕ) → ltb x e ≡ true → eqb (suc (getD es (x * 36) 0)) 2 ≡ true → EndsLow es x
+  edge-ends x b k =
+      let l = ltb-true x e b in
+      let q = eq-test (suc (getD es (x * 36) 0)) 2 k in
+      let one : getD es (x * 36) 0 ≡ 1 = omega (arith, q) in
+      record { first = E .first x l one; second = E .second x l one }
 
-    pub ends-low : EdgesLow es e → r ≡ 2 → LowEnds es (drop at es) n
-    ends-low E two = record {
-      first = λ k h. E .first (getD (drop at es) k 0) (below-at k h) (edge-at two k h);
-      second = λ k h. E .second (getD (drop at es) k 0) (below-at k h) (edge-at two k h);
-    }
+  pub number-ends : (low x : ℕ) → numberFits desk es e 2 low x ≡ true → EndsLow es x
+  number-ends low x f =
+      edge-ends x (and-right (leb low x) (ltb x e) (and-left (leb low x && ltb x e) (eqb (suc (getD es (x * 36) 0)) 2) f)) (and-right (leb low x && ltb x e) (eqb (suc (getD es (x * 36) 0)) 2) f)
+
+  pub numbers-ends : (b : List ℕ) → numbersFit desk es e 2 b ≡ true → (j : ℕ) → j < length b → EndsLow es (getD b j 0)
+  numbers-ends b f j l =
+      edge-ends (getD b j 0)
+      (all-get (λ x. ltb x e) b j 0 l (and-right (rises b) (all (λ x. ltb x e) b) (and-left (rises b && all (λ x. ltb x e) b) (all (λ x. eqb (suc (getD es (x * 36) 0)) 2) b) f)))
+      (all-get (λ x. eqb (suc (getD es (x * 36) 0)) 2) b j 0 l (and-right (rises b && all (λ x. ltb x e) b) (all (λ x. eqb (suc (getD es (x * 36) 0)) 2) b) f))
+
+pub number-low : (es : List ℕ) (e r low x : ℕ) → numberFits desk es e r low x ≡ true → x < e
+number-low es e r low x f = ltb-true x e (and-right (leb low x) (ltb x e) (and-left (leb low x && ltb x e) (eqb (suc (getD es (x * 36) 0)) r) f))
 
 -- ---- the edges among the rows that are tested
 
 pub edges-none : (es : List ℕ) → EdgesLow es 0
 edges-none es = record { first = λ x h q. absurd (not-suc-le-zero h); second = λ x h q. absurd (not-suc-le-zero h) }
 
-module _ (es : List ℕ) (e d h : ℕ) (s : length es ≡ 18432) (u : e < 512) (w : recordWords desk (take 36 (drop (e * 36) es)) ≡ true) (S : elementSound desk es d h e (take 36 (drop (e * 36) es)) ≡ true) where
+module _ (es : List ℕ) (e d h : ℕ) (s : length es ≡ 18432) (u : e < 512) (w : headWords desk (take 36 (drop (e * 36) es)) ≡ true) (S : elementSound desk es d h e (take 36 (drop (e * 36) es)) ≡ true) where
   abbrev size : ℕ
   size = getD es (e * 36 + 3) 0
 
@@ -160,7 +167,7 @@ module _ (es : List ℕ) (e d h : ℕ) (s : length es ≡ 18432) (u : e < 512) (
     some z = (let q : ⊥ = omega (arith, one, z) in q)
 
     size-fits : size ≤ 32
-    size-fits = list-fits es e d h w some
+    size-fits = head-few (e * 36) es w
 
     tested : boundaryWords desk es e (getD es (e * 36) 0) bound ≡ true
     tested =
@@ -212,12 +219,12 @@ module _ (es : List ℕ) (e d h : ℕ) (s : length es ≡ 18432) (u : e < 512) (
 -- ---- the row of an element, with what the code has read of it
 
 module _ (es : List ℕ) (e d h r n : ℕ) (er : r ≡ getD es (e * 36) 0) (en : n ≡ getD es (e * 36 + 3) 0) where
-  pub read-fits : recordWords desk (take 36 (drop (e * 36) es)) ≡ true → (r ≡ 0 → ⊥) → n ≤ 32
-  read-fits w z = le-trans (le-of-eq en) (list-fits es e d h w (λ q. z (er ∙ q)))
+  pub read-fits : headWords desk (take 36 (drop (e * 36) es)) ≡ true → n ≤ 32
+  read-fits w = le-trans (le-of-eq en) (head-few (e * 36) es w)
 
-  pub element-by : (p m : ℕ) (a B F : Bool) → recordWords desk (take 36 (drop (e * 36) es)) ≡ true → (r ≡ 0 → ⊥) → p ≡ getD es (e * 36 + 2) 0 → m ≡ getD es (e * 36 + 1) 0
+  pub element-by : (p m : ℕ) (a B F : Bool) → headWords desk (take 36 (drop (e * 36) es)) ≡ true → (r ≡ 0 → ⊥) → p ≡ getD es (e * 36 + 2) 0 → m ≡ getD es (e * 36 + 1) 0
       → leb r d ≡ a → boundaryWords desk es e r (drop (e * 36 + 4) (take (e * 36 + 4 + n) es)) ≡ B → facetWords d h r p m ≡ F → (a && B && F) ≡ elementSound desk es d h e (take 36 (drop (e * 36) es))
   element-by p m a B F w z ep em p₁ p₂ p₃ =
-      element-are es e d h a B F (list-fits es e d h w (λ q. z (er ∙ q))) (λ q. z (er ∙ q)) ((λ i. leb ((sym er) i) d) ∙ p₁)
+      element-are es e d h a B F (head-few (e * 36) es w) (λ q. z (er ∙ q)) ((λ i. leb ((sym er) i) d) ∙ p₁)
       (ap₂ (λ (j k : ℕ). boundaryWords desk es e j (drop (e * 36 + 4) (take (e * 36 + 4 + k) es))) (sym er) (sym en) ∙ p₂)
       ((λ i. facetWords d h ((sym er) i) ((sym ep) i) ((sym em) i)) ∙ p₃)

@@ -11,3 +11,4 @@ pub mod BoundaryLoops
 pub mod OnePass
 pub mod ElementLoops
 pub mod Distinct
+pub mod FaceLoops

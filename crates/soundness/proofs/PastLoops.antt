@@ -1,17 +1,20 @@
--- The mask, and the loop over all the room of a boundary, in which it leaves out the first n words.
--- Up to n no bit is met; from there on all words past n are blank exactly when no bit has been met and the words that are left are.
-use Prim.Native.Nat.{ℕ, _+_, _-_, _≤_, _<_}
+-- The mask, and the loop over all the room of a boundary, in which it leaves out the first n words: the words past them join
+-- what was seen before, place by place, so nothing is seen afterwards exactly when nothing was before and nothing stands there.
+use Prim.Native.Nat.{ℕ, zero, suc, _+_, _-_, _≤_, _<_}
 use mathlib.Core.Path.{_≡_, refl, sym, ap, ap₂, _∙_}
 use mathlib.Core.Bool.{Bool, true, false, cond, _&&_}
-use mathlib.Core.List.{List}
+use mathlib.Core.List.{List, [], _∷_}
+use native.Mathlib.Nat.{not-suc-le-zero, le-of-suc-le-suc, zero-lt-suc}
 use native.Mathlib.Omega.{arith}
 use lib.Bits.{bitOr}
-use lib.Dec.{eqb, leb, ltb}
-use lib.ListN.{length, getD, take, drop, set, replicate, getD-replicate}
-use lib.Seq.{getD-set-same, getD-set-other}
-use borrow.Author.Tests.{lt-ltb, le-ltb, ltb-true, ltb-false, leb-true, leb-false}
+use lib.Dec.{eqb, ltb}
+use lib.ListN.{length, getD, take, drop, set, replicate, getD-replicate, length-set, length-drop}
+use lib.Seq.{getD-set-same, getD-set-other, getD-take, getD-drop, length-take-le}
+use borrow.Author.Tests.{lt-ltb, le-ltb, ltb-true, ltb-false}
+use Rattle.rules.proofs.Laws.{eq-test, test-eq, unlike-eq, and-left, and-right}
+use Rattle.space.proofs.NoBits.{no-bits}
+use Rattle.space.proofs.SameRows.{bool-both}
 use Rattle.soundness.specs.Words.{blank}
-use Rattle.soundness.proofs.Unseen.{zero-first, unseen-go, unseen-end}
 
 -- ---- the mask, made up to entry k
 
@@ -42,41 +45,101 @@ kept-is m w x k e h = go (ltb k 32) e
 
 -- ---- the room of a boundary
 
-module _ (es : List ℕ) (at n : ℕ) where
-  abbrev pub rest : ℕ → Bool
-  rest j = blank (drop (at + 4 + j) (take (at + 36) es))
+-- the word at place j of it, where it stands past the first n
+abbrev pub pastWord : List ℕ → ℕ → ℕ → ℕ → ℕ
+pastWord es at n j = cond (ltb (32 - n + j) 32) 0 (getD es (at + 4 + j) 0)
 
-  abbrev pub Past : ℕ → ℕ → Type 0
-  Past j seen = (j ≤ n → seen ≡ 0) × (n ≤ j → rest n ≡ (eqb seen 0 && rest j))
+-- up to place j such words have joined what was seen before
+pub record Joining (es : List ℕ) (at n : ℕ) (seen₀ seen : List ℕ) (j : ℕ) : Type 0 where
+  pub long : length seen ≡ 32
+  pub done : (k : ℕ) → k < j → getD seen k 0 ≡ bitOr (getD seen₀ k 0) (pastWord es at n k)
+  pub still : (k : ℕ) → j ≤ k → getD seen k 0 ≡ getD seen₀ k 0
 
-  pub past-start : Past 0 0
-  past-start = (λ h. refl, λ h. ap rest (let q : n ≡ 0 = omega (arith, h) in q))
+blank-at : (l : List ℕ) (k : ℕ) → blank l ≡ true → k < length l → getD l k 0 ≡ 0
+blank-at [] k h l = absurd (not-suc-le-zero l)
+blank-at (x ∷ xs) zero h l = sym (eq-test 0 x (and-left (eqb 0 x) (blank xs) h))
+blank-at (x ∷ xs) (suc k) h l = blank-at xs k (and-right (eqb 0 x) (blank xs) h) (le-of-suc-le-suc l)
 
-  module _ (few : n ≤ 32) (fit : at + 36 ≤ length es) where
-    pub past-go : (j seen x : ℕ) → j < 32 → Past j seen → x ≡ cond (ltb (32 - n + j) 32) 0 (getD es (at + 4 + j) 0) → Past (j + 1) (bitOr seen x)
-    past-go j seen x l p e = (still, λ h. go (leb n j) refl h)
+at-blank : (l : List ℕ) → ((k : ℕ) → k < length l → getD l k 0 ≡ 0) → blank l ≡ true
+at-blank [] h = refl
+at-blank (x ∷ xs) h = ap₂ (λ (a b : Bool). a && b) (test-eq 0 x (sym (h 0 (zero-lt-suc (length xs))))) (at-blank xs (λ k l. h (suc k) (let z : suc k < suc (length xs) = omega (arith, l) in z)))
+
+module _ (es : List ℕ) (at n : ℕ) (seen₀ : List ℕ) where
+  pub joining-start : length seen₀ ≡ 32 → Joining es at n seen₀ seen₀ 0
+  joining-start l = record { long = l; done = λ k h. absurd (not-suc-le-zero h); still = λ k h. refl }
+
+  pub joining-go : (seen : List ℕ) (j x : ℕ) → Joining es at n seen₀ seen j → j < 32 → x ≡ pastWord es at n j → Joining es at n seen₀ (set seen j (bitOr (getD seen j 0) x)) (j + 1)
+  joining-go seen j x J h e = record {
+    long = length-set seen j (bitOr (getD seen j 0) x) ∙ J .long;
+    done = λ k l. go k l (eqb k j) refl;
+    still = λ k l. getD-set-other seen j k (bitOr (getD seen j 0) x) 0 (λ q. let z : ⊥ = omega (arith, q, l) in z) ∙ J .still k (let z : j ≤ k = omega (arith, l) in z);
+  }
+    where
+      fits : j < length seen
+      fits = let m = J .long in let z : j < length seen = omega (arith, m, h) in z
+
+      go : (k : ℕ) → k < j + 1 → (b : Bool) → eqb k j ≡ b → getD (set seen j (bitOr (getD seen j 0) x)) k 0 ≡ bitOr (getD seen₀ k 0) (pastWord es at n k)
+      go k l true t =
+          let q = eq-test k j t in
+          ap (λ (i : ℕ). getD (set seen j (bitOr (getD seen j 0) x)) i 0) q ∙ getD-set-same seen j (bitOr (getD seen j 0) x) 0 fits
+          ∙ ap₂ bitOr (J .still j (let z : j ≤ j = omega arith in z)) e ∙ ap (λ (i : ℕ). bitOr (getD seen₀ i 0) (pastWord es at n i)) (sym q)
+      go k l false t =
+          let q = unlike-eq k j t in
+          getD-set-other seen j k (bitOr (getD seen j 0) x) 0 q ∙ J .done k (let z : k < j = omega (arith, q, l) in z)
+
+  module _ (few : n ≤ 32) (fit : at + 36 ≤ length es) (l₀ : length seen₀ ≡ 32) where
+    abbrev rest : List ℕ
+    rest = drop (at + 4 + n) (take (at + 36) es)
+
+    rest-long : length rest ≡ 32 - n
+    rest-long =
+        let m = length-take-le (at + 36) es fit in
+        let k = length-drop (at + 4 + n) (take (at + 36) es) in
+        let z : length rest ≡ 32 - n = omega (arith, m, k, few) in z
+
+    rest-at : (k : ℕ) → k < 32 - n → getD rest k 0 ≡ getD es (at + 4 + (n + k)) 0
+    rest-at k h =
+        getD-drop (at + 4 + n) (take (at + 36) es) k 0
+        ∙ ap (λ (i : ℕ). getD (take (at + 36) es) i 0) (let z : at + 4 + n + k ≡ at + 4 + (n + k) = omega arith in z)
+        ∙ getD-take (at + 36) es (at + 4 + (n + k)) 0 (let z : at + 4 + (n + k) < at + 36 = omega (arith, h, few) in z)
+
+    -- before place n nothing counts, and from there on the word itself
+    before : (k : ℕ) → k < n → pastWord es at n k ≡ 0
+    before k h = ap (λ (b : Bool). cond b 0 (getD es (at + 4 + k) 0)) (lt-ltb (32 - n + k) 32 (let z : 32 - n + k < 32 = omega (arith, h, few) in z))
+
+    after : (k : ℕ) → n ≤ k → pastWord es at n k ≡ getD es (at + 4 + k) 0
+    after k h = ap (λ (b : Bool). cond b 0 (getD es (at + 4 + k) 0)) (le-ltb (32 - n + k) 32 (let z : 32 ≤ 32 - n + k = omega (arith, h, few) in z))
+
+    pub joining-end : (seen : List ℕ) (j : ℕ) → Joining es at n seen₀ seen j → 32 ≤ j → blank seen ≡ (blank seen₀ && blank rest)
+    joining-end seen j J h = bool-both (blank seen) (blank seen₀ && blank rest) down up
       where
-        word : ℕ
-        word = getD es (at + 4 + j) 0
+        none : (k : ℕ) → blank seen ≡ true → k < 32 → (eqb (getD seen₀ k 0) 0 && eqb (pastWord es at n k) 0) ≡ true
+        none k b l =
+            sym (no-bits (getD seen₀ k 0) (pastWord es at n k))
+            ∙ test-eq _ 0 (sym (J .done k (let z : k < j = omega (arith, h, l) in z)) ∙ blank-at seen k b (let m = J .long in let z : k < length seen = omega (arith, m, l) in z))
 
-        still : j + 1 ≤ n → bitOr seen x ≡ 0
-        still h =
-            ap₂ bitOr (p .0 (let q : j ≤ n = omega (arith, h) in q))
-            (e ∙ ap (λ (b : Bool). cond b 0 word) (lt-ltb (32 - n + j) 32 (let q : 32 - n + j < 32 = omega (arith, h, few) in q)))
+        down : blank seen ≡ true → (blank seen₀ && blank rest) ≡ true
+        down b =
+            ap₂ (λ (p q : Bool). p && q)
+            (at-blank seen₀ (λ k l. eq-test _ 0 (and-left (eqb (getD seen₀ k 0) 0) (eqb (pastWord es at n k) 0) (none k b (let z : k < 32 = omega (arith, l, l₀) in z)))))
+            (at-blank rest (λ k l.
+            let m = rest-long in
+            let u : k < 32 - n = omega (arith, l, m) in
+            rest-at k u ∙ sym (after (n + k) (let z : n ≤ n + k = omega arith in z))
+            ∙ eq-test _ 0 (and-right (eqb (getD seen₀ (n + k) 0) 0) (eqb (pastWord es at n (n + k)) 0) (none (n + k) b (let z : n + k < 32 = omega (arith, u) in z)))))
 
-        met : n ≤ j → x ≡ word
-        met h = e ∙ ap (λ (b : Bool). cond b 0 word) (le-ltb (32 - n + j) 32 (let q : 32 ≤ 32 - n + j = omega (arith, h, few) in q))
+        zero-word : (k : ℕ) → blank rest ≡ true → k < 32 → (b : Bool) → ltb k n ≡ b → pastWord es at n k ≡ 0
+        zero-word k r l true t = before k (ltb-true k n t)
+        zero-word k r l false t =
+            let u = ltb-false k n t in
+            let m = rest-long in
+            let s : n + (k - n) ≡ k = omega (arith, u) in
+            after k u ∙ ap (λ (i : ℕ). getD es (at + 4 + i) 0) (sym s) ∙ sym (rest-at (k - n) (let z : k - n < 32 - n = omega (arith, u, l) in z))
+            ∙ blank-at rest (k - n) r (let z : k - n < length rest = omega (arith, u, l, m) in z)
 
-        go : (b : Bool) → leb n j ≡ b → n ≤ j + 1 → rest n ≡ (eqb (bitOr seen x) 0 && rest (j + 1))
-        go true t h =
-            let u = leb-true n j t in
-            unseen-go (eqb 0) 0 (at + 36) es fit seen x (at + 4 + j) (p .1 u) (let q : at + 4 + j < at + 36 = omega (arith, l) in q) (zero-first word ∙ ap (λ (k : ℕ). eqb k 0) (sym (met u)))
-            ∙ ap (λ (k : ℕ). eqb (bitOr seen x) 0 && blank (drop k (take (at + 36) es))) (let q : at + 4 + j + 1 ≡ at + 4 + (j + 1) = omega arith in q)
-        go false t h =
-            let u = leb-false n j t in
-            let s : n ≡ j + 1 = omega (arith, u, h) in
-            ap rest s ∙ sym (ap (λ (k : ℕ). eqb k 0 && rest (j + 1)) (still (let q : j + 1 ≤ n = omega (arith, u) in q)))
-
-    pub past-end : (j seen : ℕ) → 32 ≤ j → Past j seen → eqb seen 0 ≡ rest n
-    past-end j seen l p =
-        unseen-end (eqb 0) 0 (at + 36) es fit seen (at + 4 + j) (p .1 (let q : n ≤ j = omega (arith, few, l) in q)) (let q : at + 36 ≤ at + 4 + j = omega (arith, l) in q)
+        up : (blank seen₀ && blank rest) ≡ true → blank seen ≡ true
+        up b = at-blank seen (λ k l.
+            let m = J .long in
+            let u : k < 32 = omega (arith, l, m) in
+            J .done k (let z : k < j = omega (arith, u, h) in z)
+            ∙ ap₂ bitOr (blank-at seen₀ k (and-left (blank seen₀) (blank rest) b) (let z : k < length seen₀ = omega (arith, u, l₀) in z)) (zero-word k (and-right (blank seen₀) (blank rest) b) u (ltb k n) refl))

@@ -14,8 +14,9 @@ use Rattle.rules.specs.Limits.{desk, noPlane}
 use Rattle.rules.specs.Lists.{all, rows, if_then_else_}
 use Rattle.rules.specs.Table.{primordials}
 use Rattle.rules.proofs.Indexed.{rows-on}
-use Rattle.rules.proofs.Laws.{test-le, test-eq, not-eq}
-use Rattle.soundness.specs.Words.{countsFit, blankFloats, blank, pointWords, pointsSound, recordWords, cornerNamed}
+use Rattle.rules.proofs.Laws.{test-le, test-eq, not-eq, eq-test, le-test, and-right}
+use Rattle.soundness.specs.Words.{countsFit, blankFloats, blank, pointWords, pointsSound, recordWords, headWords, pastBlank, cornerNamed}
+use Rattle.soundness.proofs.ReadBack.{and-when}
 
 -- ---- counts
 
@@ -81,7 +82,7 @@ points-start d v ps = row-start (pointWords d) 4 v ps (blankFloats (drop (v * 4)
 pub whole-room : {A : Type 0} (p : List A → Bool) (k n : ℕ) (l : List A) → length l ≡ n → p (drop k (take n l)) ≡ p (drop k l)
 whole-room {A} p k n l e = ap (λ (m : List A). p (drop k m)) (take-all n l (le-of-eq e))
 
--- ---- records
+-- ---- heads and records
 
 pub row-word : (at j : ℕ) (es : List ℕ) → j < 36 → getD (take 36 (drop at es)) j 0 ≡ getD es (at + j) 0
 row-word at j es h = getD-take 36 (drop at es) j 0 h ∙ getD-drop at es j 0
@@ -92,30 +93,55 @@ row-first at es = row-word at 0 es (lit≤ tt) ∙ ap (λ (k : ℕ). getD es k 0
 pub row-fifth : (at : ℕ) (es : List ℕ) → getD (take 36 (drop at es)) 4 0 ≡ getD es (at + 4) 0
 row-fifth at es = row-word at 4 es (lit≤ tt)
 
-abbrev recordTests : ℕ → ℕ → ℕ → ℕ → List ℕ → List ℕ → Bool
-recordTests a m p n l k = if eqb a 0 then eqb 0 m && eqb noPlane p && eqb 1 n && blank l else (leb m 1 && leb n 32 && blank k)
+abbrev headTests : ℕ → ℕ → ℕ → ℕ → Bool
+headTests a m p n = if eqb a 0 then eqb 0 m && eqb noPlane p && eqb 1 n else (leb m 1 && leb n 32)
 
-record-are : (at : ℕ) (es : List ℕ) → recordWords desk (take 36 (drop at es))
-    ≡ recordTests (getD es at 0) (getD es (at + 1) 0) (getD es (at + 2) 0) (getD es (at + 3) 0) (drop (at + 5) (take (at + 36) es)) (drop (at + 4 + getD es (at + 3) 0) (take (at + 36) es))
-unfolding recordWords
-record-are at es =
-    let r = take 36 (drop at es) in
-    let w₃ = row-word at 3 es (lit≤ tt) in
-    (λ i. recordTests (row-first at es i) (row-word at 1 es (lit≤ tt) i) (row-word at 2 es (lit≤ tt) i) (w₃ i) (sym (row-part at 5 36 es (lit≤ tt)) i) (drop (w₃ i) (drop 4 r)))
-    ∙ ap (λ (k : List ℕ). recordTests (getD es at 0) (getD es (at + 1) 0) (getD es (at + 2) 0) (getD es (at + 3) 0) (drop (at + 5) (take (at + 36) es)) k)
-    (ap (drop (getD es (at + 3) 0)) (sym (row-part at 4 36 es (lit≤ tt))) ∙ drop-drop (getD es (at + 3) 0) (at + 4) (take (at + 36) es))
+module _ (at : ℕ) (es : List ℕ) where
+  abbrev row : List ℕ
+  row = take 36 (drop at es)
 
-pub record-corner : (at : ℕ) (es : List ℕ) (b c e f : Bool) → getD es at 0 ≡ 0 → eqb 0 (getD es (at + 1) 0) ≡ b → eqb noPlane (getD es (at + 2) 0) ≡ c → eqb 1 (getD es (at + 3) 0) ≡ e
-    → blank (drop (at + 5) (take (at + 36) es)) ≡ f → (b && c && e && f) ≡ recordWords desk (take 36 (drop at es))
-record-corner at es b c e f z p q r s =
-    sym (record-are at es ∙ ap (λ (y : Bool). if y then eqb 0 (getD es (at + 1) 0) && eqb noPlane (getD es (at + 2) 0) && eqb 1 (getD es (at + 3) 0) && blank (drop (at + 5) (take (at + 36) es)) else (leb (getD es (at + 1) 0) 1 && leb (getD es (at + 3) 0) 32 && blank (drop (at + 4 + getD es (at + 3) 0) (take (at + 36) es)))) (test-eq _ 0 z)
-    ∙ (λ i. p i && q i && r i && s i))
+  head-are : headWords desk row ≡ headTests (getD es at 0) (getD es (at + 1) 0) (getD es (at + 2) 0) (getD es (at + 3) 0)
+  unfolding headWords
+  head-are = λ i. headTests (row-first at es i) (row-word at 1 es (lit≤ tt) i) (row-word at 2 es (lit≤ tt) i) (row-word at 3 es (lit≤ tt) i)
 
-pub record-polytope : (at : ℕ) (es : List ℕ) (b c f : Bool) → (getD es at 0 ≡ 0 → ⊥) → leb (getD es (at + 1) 0) 1 ≡ b → leb (getD es (at + 3) 0) 32 ≡ c
-    → blank (drop (at + 4 + getD es (at + 3) 0) (take (at + 36) es)) ≡ f → (b && c && f) ≡ recordWords desk (take 36 (drop at es))
-record-polytope at es b c f z p q s =
-    sym (record-are at es ∙ ap (λ (y : Bool). if y then eqb 0 (getD es (at + 1) 0) && eqb noPlane (getD es (at + 2) 0) && eqb 1 (getD es (at + 3) 0) && blank (drop (at + 5) (take (at + 36) es)) else (leb (getD es (at + 1) 0) 1 && leb (getD es (at + 3) 0) 32 && blank (drop (at + 4 + getD es (at + 3) 0) (take (at + 36) es)))) (not-eq _ 0 z)
-    ∙ (λ i. p i && q i && s i))
+  abbrev byRank : Bool → Bool
+  byRank y = if y then eqb 0 (getD es (at + 1) 0) && eqb noPlane (getD es (at + 2) 0) && eqb 1 (getD es (at + 3) 0) else (leb (getD es (at + 1) 0) 1 && leb (getD es (at + 3) 0) 32)
+
+  pub head-corner : (b c e : Bool) → getD es at 0 ≡ 0 → eqb 0 (getD es (at + 1) 0) ≡ b → eqb noPlane (getD es (at + 2) 0) ≡ c → eqb 1 (getD es (at + 3) 0) ≡ e
+      → (b && c && e) ≡ headWords desk row
+  head-corner b c e z p q r = sym (head-are ∙ ap byRank (test-eq _ 0 z) ∙ (λ i. p i && q i && r i))
+
+  pub head-polytope : (b c : Bool) → (getD es at 0 ≡ 0 → ⊥) → leb (getD es (at + 1) 0) 1 ≡ b → leb (getD es (at + 3) 0) 32 ≡ c → (b && c) ≡ headWords desk row
+  head-polytope b c z p q = sym (head-are ∙ ap byRank (not-eq _ 0 z) ∙ (λ i. p i && q i))
+
+  -- the count of a row whose head is sound fits the room
+  pub head-few : headWords desk row ≡ true → getD es (at + 3) 0 ≤ 32
+  head-few w = go (eqb (getD es at 0) 0) (sym head-are ∙ w)
+    where
+      go : (y : Bool) → byRank y ≡ true → getD es (at + 3) 0 ≤ 32
+      go true t =
+          let q = eq-test 1 (getD es (at + 3) 0) (and-right (eqb 0 (getD es (at + 1) 0) && eqb noPlane (getD es (at + 2) 0)) (eqb 1 (getD es (at + 3) 0)) t) in
+          let z : getD es (at + 3) 0 ≤ 32 = omega (arith, q) in z
+      go false t = le-test (getD es (at + 3) 0) 32 (and-right (leb (getD es (at + 1) 0) 1) (leb (getD es (at + 3) 0) 32) t)
+
+  -- past the boundary, in the row and in the memory
+  pub past-is : pastBlank row ≡ blank (drop (at + 4 + getD es (at + 3) 0) (take (at + 36) es))
+  unfolding pastBlank
+  past-is =
+      ap (λ (k : ℕ). blank (drop k (drop 4 row))) (row-word at 3 es (lit≤ tt))
+      ∙ ap blank (ap (drop (getD es (at + 3) 0)) (sym (row-part at 4 36 es (lit≤ tt))) ∙ drop-drop (getD es (at + 3) 0) (at + 4) (take (at + 36) es))
+
+-- a record is its head, and nothing past its boundary
+pub record-parts : (r : List ℕ) → recordWords desk r ≡ (headWords desk r && pastBlank r)
+unfolding recordWords headWords pastBlank
+record-parts r = go (eqb (getD r 0 0) 0)
+  where
+    go : (y : Bool) → (if y then eqb 0 (getD r 1 0) && eqb noPlane (getD r 2 0) && eqb 1 (getD r 3 0) && blank (drop 5 r) else (leb (getD r 1 0) 1 && leb (getD r 3 0) 32 && blank (drop (getD r 3 0) (drop 4 r))))
+        ≡ ((if y then eqb 0 (getD r 1 0) && eqb noPlane (getD r 2 0) && eqb 1 (getD r 3 0) else (leb (getD r 1 0) 1 && leb (getD r 3 0) 32)) && blank (drop (getD r 3 0) (drop 4 r)))
+    go true =
+        and-when (eqb 0 (getD r 1 0) && eqb noPlane (getD r 2 0) && eqb 1 (getD r 3 0)) (blank (drop 5 r)) (blank (drop (getD r 3 0) (drop 4 r)))
+        (λ t. sym (ap (λ (k : ℕ). blank (drop k (drop 4 r))) (sym (eq-test 1 (getD r 3 0) (and-right (eqb 0 (getD r 1 0) && eqb noPlane (getD r 2 0)) (eqb 1 (getD r 3 0)) t))) ∙ ap blank (drop-drop 1 4 r)))
+    go false = refl
 
 -- ---- corners
 

@@ -1,19 +1,20 @@
 -- Loops that go over a whole part of a list and keep only the bits that they have met, where an entry passes its test when it has none.
 -- The invariant says that all entries pass exactly when no bit has been met yet and those that are left pass.
-use Prim.Native.Nat.{ℕ, zero, suc, _+_, _≤_, _<_}
-use mathlib.Core.Path.{_≡_, refl, sym, ap, _∙_}
+use Prim.Native.Nat.{ℕ, _+_, _≤_, _<_}
+use mathlib.Core.Path.{_≡_, sym, ap, _∙_}
 use mathlib.Core.Bool.{Bool, true, false, _&&_}
 use mathlib.Core.List.{List}
 use lib.Bits.{bitOr}
-use lib.Dec.{eqb, eqb·zero-suc, eqb·suc-zero}
+use lib.Dec.{eqb}
 use lib.ListN.{length, getD, take, drop}
 use Rattle.rules.specs.Lists.{all}
 use Rattle.rules.proofs.Indexed.{all-front-no, all-front-go, all-front-end}
+use Rattle.rules.proofs.Laws.{eq-test, test-eq}
 use Rattle.space.proofs.NoBits.{no-bits}
+use Rattle.space.proofs.SameRows.{bool-both}
 
-pub zero-first : (x : ℕ) → eqb 0 x ≡ eqb x 0
-zero-first zero = refl
-zero-first (suc x) = eqb·zero-suc x ∙ sym (eqb·suc-zero x)
+pub eq-turned : (x y : ℕ) → eqb x y ≡ eqb y x
+eq-turned x y = bool-both (eqb x y) (eqb y x) (λ h. test-eq y x (sym (eq-test x y h))) (λ h. test-eq x y (sym (eq-test y x h)))
 
 module _ {A : Type 0} (p : A → Bool) (z : A) (n : ℕ) (l : List A) (fit : n ≤ length l) where
   step : {b : Bool} (clear passed : Bool) (i : ℕ) → b ≡ (clear && all p (drop i (take n l))) → i < n → p (getD l i z) ≡ passed

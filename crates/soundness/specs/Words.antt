@@ -1,5 +1,5 @@
 -- The soundness of the lent memory, told by its words and rows alone: nothing is read into a table. Definitions only.
-use Prim.Native.Nat.{ℕ, _+_, _*_, _<_, suc}
+use Prim.Native.Nat.{ℕ, _+_, _*_, _%_, _<_, suc}
 use mathlib.Core.Path.{_≡_}
 use mathlib.Core.Bool.{Bool, _&&_, true, not, cond}
 use mathlib.Core.List.{List, [], _∷_}
@@ -47,6 +47,16 @@ recordWords L row =
     if eqb (getD row 0 0) 0 then eqb 0 (getD row 1 0) && eqb noPlane (getD row 2 0) && eqb 1 (getD row 3 0) && blank (drop 5 row)
     else (leb (getD row 1 0) 1 && leb (getD row 3 0) (L .boundary) && blank (drop (getD row 3 0) (drop 4 row)))
 
+-- its first words are those of some element: a vertex has one fixed form
+unfoldable pub headWords : Limits → List ℕ → Bool
+headWords L row =
+    if eqb (getD row 0 0) 0 then eqb 0 (getD row 1 0) && eqb noPlane (getD row 2 0) && eqb 1 (getD row 3 0)
+    else (leb (getD row 1 0) 1 && leb (getD row 3 0) (L .boundary))
+
+-- and nothing stands past its boundary
+unfoldable pub pastBlank : List ℕ → Bool
+pastBlank row = blank (drop (getD row 3 0) (drop 4 row))
+
 -- corners name vertices from k up to v, in order
 abbrev pub inOrder : ℕ → ℕ → List (List ℕ) → Bool
 inOrder k v [] = eqb k v
@@ -59,6 +69,10 @@ cornerNamed k r = if eqb (getD r 0 0) 0 then eqb (getD r 4 0) k else true
 abbrev pub boundaryIn : List ℕ → List ℕ
 boundaryIn row = take (getD row 3 0) (drop 4 row)
 
+-- a number is no lower than the least that it may be, below the element's own, and of rank one less
+abbrev pub numberFits : Limits → List ℕ → ℕ → ℕ → ℕ → ℕ → Bool
+numberFits L es e r low x = leb low x && ltb x e && eqb (suc (getD es (x * elementWidth L) 0)) r
+
 -- the numbers rise, are below the element's own, and are of rank one less
 abbrev pub numbersFit : Limits → List ℕ → ℕ → ℕ → List ℕ → Bool
 numbersFit L es e r b = rises b && all (λ x. ltb x e) b && all (λ x. eqb (suc (getD es (x * elementWidth L) 0)) r) b
@@ -66,6 +80,14 @@ numbersFit L es e r b = rises b && all (λ x. ltb x e) b && all (λ x. eqb (suc 
 unfoldable pub boundaryWords : Limits → List ℕ → ℕ → ℕ → List ℕ → Bool
 boundaryWords L es e r b =
     rises b && all (λ x. ltb x e) b && all (λ x. eqb (suc (getD es (x * elementWidth L) 0)) r) b && ltb r (length b) && closedRaw es r b
+
+-- the boundary of a face: its numbers fit, and its edges go round
+abbrev pub faceWords : Limits → List ℕ → ℕ → List ℕ → Bool
+faceWords L es e b = numbersFit L es e 2 b && closedRaw es 2 b
+
+-- the stamp of an element, two above the one before it, from 1 on again every 64 elements
+abbrev pub stampOf : ℕ → ℕ
+stampOf e = 2 * (e % 64) + 1
 
 unfoldable pub facetWords : ℕ → ℕ → ℕ → ℕ → ℕ → Bool
 facetWords d h r plane mark = if eqb (suc r) d then ltb plane h else (eqb plane noPlane && not (eqb mark 1))
@@ -81,9 +103,9 @@ elementSound L es d h e row =
     if eqb (getD row 0 0) 0 then true
     else (leb (getD row 0 0) d && boundaryWords L es e (getD row 0 0) (boundaryIn row) && facetWords d h (getD row 0 0) (getD row 2 0) (getD row 1 0))
 
--- the row of element e, where vertex k is the next to be named
+-- the row of element e, where vertex k is the next to be named, but for what stands past its boundary
 abbrev pub rowSound : Limits → List ℕ → ℕ → ℕ → ℕ → ℕ → List ℕ → Bool
-rowSound L es d h k e row = recordWords L row && cornerNamed k row && elementSound L es d h e row
+rowSound L es d h k e row = headWords L row && cornerNamed k row && elementSound L es d h e row
 
 -- ---- the whole
 

@@ -1,8 +1,9 @@
 // Document 01, "A table is sound when", over the words of the lent memory: one function for each of its lines.
+use crate::boundaries::boundary_sound;
+use crate::boundaries::pass_on;
 use crate::chains::row_new;
 use crate::floats::floats_sound;
 use space::chains::INDEX;
-use space::closed::closed_at;
 use space::words::AXES;
 use space::words::ELEMENT_WORDS;
 use space::words::ELEMENTS;
@@ -22,7 +23,8 @@ ghost use Rattle.rules.specs.Memory.{soundMemory};
 ghost use Rattle.rules.specs.Held.{memoryOf};
 ghost use Rattle.rules.specs.Replies.{isSoundReply};
 ghost use Rattle.space.specs.Chains.{Indexed};
-ghost use Rattle.soundness.specs.Words.{blank, countsFit, Mask, recordWords, cornerNamed, numbersFit, boundaryWords, facetWords, EdgesLow, elementSound, rowSound, rowsInUse, rowsDistinct, rowsSound};
+ghost use Rattle.space.specs.Closed.{Unmet};
+ghost use Rattle.soundness.specs.Words.{blank, countsFit, Mask, headWords, pastBlank, cornerNamed, stampOf, facetWords, EdgesLow, elementSound, rowSound, rowsInUse, rowsDistinct, rowsSound};
 
 // How many words stand before a boundary: rank, mark, hyperplane, count.
 const HEAD: usize = 4;
@@ -85,22 +87,21 @@ fn kept(x: u16, mask: u16) -> u16
     x & mask
 }
 
-// Nothing stands past the first n numbers of a boundary. All of its room is read, so that the loop has one length and no test.
-fn past_blank(elements: &[u16], at: usize, n: usize, past: &[u16; 64]) -> bool
-    requires { ⌜ (n ≤ 32) × (at + 36 ≤ length (now elements)) × Mask (now past) ⌝ }
-    ensures { λ r. ⌜ r ≡ blank (drop (at + 4 + n) (take (at + 36) (now (elements .entry)))) ⌝ }
+// What stands past the boundary of a row joins what was seen there in the rows before. All of its room is read, so that the loop has one length and no test; whether anything was seen is asked once, after the last row.
+fn gather_past(elements: &[u16], at: usize, past: &[u16; 64], seen: &mut [u16; 32])
+    requires { ⌜ (at + 36 ≤ length (now elements)) × (getD (now elements) (at + 3) 0 ≤ 32) × Mask (now past) × (length (now seen) ≡ 32) ⌝ }
+    ensures { λ _. ⌜ (blank (now (seen .exit)) ≡ (blank (now (seen .entry)) && pastBlank (take 36 (drop at (now (elements .entry)))))) × (length (now (seen .exit)) ≡ 32) ⌝ }
 {
-    let mut seen = 0u16;
+    let n = wide(elements[at + 3]);
     for j in 0..32 {
-        seen = seen | kept(elements[at + HEAD + j], past[32 - n + j]);
+        seen[j] = seen[j] | kept(elements[at + HEAD + j], past[32 - n + j]);
     }
-    seen == 0
 }
 
-// A row is what is written of some element: a vertex has one fixed form, and nothing stands past a boundary.
-fn record_sound(elements: &[u16], at: usize, past: &[u16; 64]) -> bool
-    requires { ⌜ (at + 36 ≤ length (now elements)) × Mask (now past) ⌝ }
-    ensures { λ r. ⌜ r ≡ recordWords desk (take 36 (drop at (now (elements .entry)))) ⌝ }
+// The first words of a row are those of some element: a vertex has one fixed form.
+fn head_sound(elements: &[u16], at: usize) -> bool
+    requires { ⌜ at + 36 ≤ length (now elements) ⌝ }
+    ensures { λ r. ⌜ r ≡ headWords desk (take 36 (drop at (now (elements .entry)))) ⌝ }
 {
     if elements[at] == 0 {
         if elements[at + 1] != 0 {
@@ -109,19 +110,12 @@ fn record_sound(elements: &[u16], at: usize, past: &[u16; 64]) -> bool
         if elements[at + 2] != NO_PLANE {
             return false;
         }
-        if elements[at + 3] != 1 {
-            return false;
-        }
-        return past_blank(elements, at, 1, past);
+        return elements[at + 3] == 1;
     }
     if 1 < elements[at + 1] {
         return false;
     }
-    if BOUNDARY < elements[at + 3] {
-        return false;
-    }
-    let n = wide(elements[at + 3]);
-    past_blank(elements, at, n, past)
+    elements[at + 3] <= BOUNDARY
 }
 
 // The row is no vertex element's, or it names vertex k.
@@ -143,29 +137,6 @@ fn one_if_corner(elements: &[u16], at: usize) -> usize
     if elements[at] == 0 { 1 } else { 0 }
 }
 
-// The boundary numbers rise strictly, are below the element's own, and are of rank one less: only a number below is one whose rank can be read.
-fn numbers_fit(elements: &[u16], from: usize, to: usize, e: usize, rank: usize) -> bool
-    requires { ⌜ (from ≤ to) × (to ≤ length (now elements)) × (length (now elements) ≡ 18432) × (e ≤ 512) ⌝ }
-    ensures { λ r. ⌜ r ≡ numbersFit desk (now (elements .entry)) e rank (drop from (take to (now (elements .entry)))) ⌝ }
-{
-    let mut low = 0usize;
-    for i in from..to {
-        let x = wide(elements[i]);
-        if x < low {
-            return false;
-        }
-        if e <= x {
-            return false;
-        }
-        let below = wide(elements[x * WIDTH]);
-        if below + 1 != rank {
-            return false;
-        }
-        low = x + 1;
-    }
-    true
-}
-
 // It names a hyperplane in use exactly when rank + 1 is the dimension, and has a primordial mark only then.
 fn facet_sound(d: usize, h: usize, rank: usize, plane: usize, mark: usize) -> bool
     requires { ⌜ rank ≤ d ⌝ }
@@ -180,24 +151,10 @@ fn facet_sound(d: usize, h: usize, rank: usize, plane: usize, mark: usize) -> bo
     false
 }
 
-// More of them than the rank, rising, earlier, of rank one less, and closed.
-fn boundary_sound(elements: &[u16], at: usize, n: usize, e: usize, rank: usize) -> bool
-    requires { ⌜ (length (now elements) ≡ 18432) × (at + n ≤ 18432) × (n ≤ 32) × (e ≤ 512) × EdgesLow (now elements) e ⌝ }
-    ensures { λ r. ⌜ r ≡ boundaryWords desk (now (elements .entry)) e rank (drop at (take (at + n) (now (elements .entry)))) ⌝ }
-{
-    if n <= rank {
-        return false;
-    }
-    if !numbers_fit(elements, at, at + n, e, rank) {
-        return false;
-    }
-    closed_at(elements, rank, elements, at, n)
-}
-
-// A polytope's rank, boundary and hyperplane; a vertex element is tested by its record.
-fn element_sound(elements: &[u16], e: usize, d: usize, h: usize) -> bool
-    requires { ⌜ (length (now elements) ≡ 18432) × (e < 512) × (recordWords desk (take 36 (drop (e * 36) (now elements))) ≡ true) × EdgesLow (now elements) e ⌝ }
-    ensures { λ r. ⌜ r ≡ elementSound desk (now (elements .entry)) d h e (take 36 (drop (e * 36) (now (elements .entry)))) ⌝ }
+// A polytope's rank, boundary and hyperplane; a vertex element is tested by its head.
+fn element_sound(elements: &[u16], e: usize, d: usize, h: usize, met: &mut [u8; 512]) -> bool
+    requires { ⌜ (length (now elements) ≡ 18432) × (e < 512) × (headWords desk (take 36 (drop (e * 36) (now elements))) ≡ true) × EdgesLow (now elements) e × Unmet (stampOf e) (now met) ⌝ }
+    ensures { λ r. ⌜ (r ≡ elementSound desk (now (elements .entry)) d h e (take 36 (drop (e * 36) (now (elements .entry))))) × (r ≡ true → Unmet (stampOf e + 2) (now (met .exit))) ⌝ }
 {
     let at = e * WIDTH;
     let rank = wide(elements[at]);
@@ -208,7 +165,7 @@ fn element_sound(elements: &[u16], e: usize, d: usize, h: usize) -> bool
         return false;
     }
     let n = wide(elements[at + 3]);
-    if !boundary_sound(elements, at + HEAD, n, e, rank) {
+    if !boundary_sound(elements, at + HEAD, n, e, rank, met) {
         return false;
     }
     let plane = wide(elements[at + 2]);
@@ -216,18 +173,18 @@ fn element_sound(elements: &[u16], e: usize, d: usize, h: usize) -> bool
     facet_sound(d, h, rank, plane, mark)
 }
 
-// One row, where vertex k is the next to be named: what is read past its record is read only once the record is sound.
-fn row_sound(elements: &[u16], e: usize, d: usize, h: usize, k: usize, past: &[u16; 64]) -> bool
-    requires { ⌜ (length (now elements) ≡ 18432) × (e < 512) × Mask (now past) × EdgesLow (now elements) e ⌝ }
-    ensures { λ r. ⌜ r ≡ rowSound desk (now (elements .entry)) d h k e (take 36 (drop (e * 36) (now (elements .entry)))) ⌝ }
+// One row, where vertex k is the next to be named: its boundary is read only once its count is known to fit.
+fn row_sound(elements: &[u16], e: usize, d: usize, h: usize, k: usize, met: &mut [u8; 512]) -> bool
+    requires { ⌜ (length (now elements) ≡ 18432) × (e < 512) × EdgesLow (now elements) e × Unmet (stampOf e) (now met) ⌝ }
+    ensures { λ r. ⌜ (r ≡ rowSound desk (now (elements .entry)) d h k e (take 36 (drop (e * 36) (now (elements .entry))))) × (r ≡ true → Unmet (stampOf e + 2) (now (met .exit))) ⌝ }
 {
-    if !record_sound(elements, e * WIDTH, past) {
+    if !head_sound(elements, e * WIDTH) {
         return false;
     }
     if !corner_named(elements, e * WIDTH, k) {
         return false;
     }
-    element_sound(elements, e, d, h)
+    element_sound(elements, e, d, h, met)
 }
 
 // The rows in use, in one pass: each is sound and equal to no earlier one, and vertex elements name vertices 0, 1, 2 .. in order, each once. From an empty index to that of all of them.
@@ -236,17 +193,24 @@ fn rows_in_use(elements: &[u16], d: usize, n: usize, v: usize, h: usize, index: 
     ensures { λ r. ⌜ (r ≡ (rowsInUse desk d n v h (now (elements .entry)) && rowsDistinct desk n (now (elements .entry)))) × (r ≡ true → Indexed (now (elements .entry)) n (now (index .exit))) ⌝ }
 {
     let past = past_mask();
+    let mut met = [0u8; 512];
+    let mut seen = [0u16; 32];
     let mut k = 0usize;
     for i in 0..n {
-        if !row_sound(elements, i, d, h, k, &past) {
+        if !row_sound(elements, i, d, h, k, &mut met) {
             return false;
         }
+        pass_on(&mut met, i);
+        gather_past(elements, i * WIDTH, &past, &mut seen);
         if !row_new(elements, i, index) {
             return false;
         }
         k = k + one_if_corner(elements, i * WIDTH);
     }
-    k == v
+    if k != v {
+        return false;
+    }
+    blank_words(&seen, 0, 32)
 }
 
 // The slice of elements: the rows in use, and zeros past them.

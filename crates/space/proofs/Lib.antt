@@ -12,5 +12,7 @@ pub mod RowMade
 pub mod VertexMemo
 pub mod HyperplaneMemo
 pub mod Sizes
+pub mod Sums
 pub mod TwiceMet
+pub mod EndsMet
 pub mod PolytopeMemo

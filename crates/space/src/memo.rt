@@ -1,5 +1,5 @@
 // What is found again, and what is new: a vertex with its element, a hyperplane, and a polytope.
-use crate::closed::closed_at;
+use crate::closed::is_closed;
 use crate::rows;
 use crate::rows::Placed;
 use crate::words::AXES;
@@ -208,7 +208,7 @@ pub fn add_polytope(
     if BOUNDARY < n {
         return Added::Refused(11);
     }
-    if !closed_at(elements, rank, list, 0, n) {
+    if !is_closed(elements, rank, list, n) {
         return Added::Refused(7);
     }
     let row = rows::polytope_row(rank, list, n, plane, mark);

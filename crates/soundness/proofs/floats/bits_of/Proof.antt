@@ -5,7 +5,7 @@ use lib.Dec.{eqb}
 use lib.Ieee.{Float, binary64, ne, isNan, toBits, fits}
 use Rattle.rules.specs.Floats.{plusZero, sameBits}
 use Rattle.hypermath.proofs.Bits.{differs, number, nan-second, bits-tell}
-use Rattle.soundness.proofs.Unseen.{zero-first}
+use Rattle.soundness.proofs.Unseen.{eq-turned}
 use Rattle.soundness.proofs.floats.bits_of.Statement.{statement}
 use Rattle.soundness.proofs.floats.bits_of.Tie as tie
 
@@ -18,7 +18,7 @@ unfolding fits
 zero-fits = refl
 
 bits-are : (x : Float) → fits binary64 x ≡ true → eqb (toBits binary64 x) 0 ≡ sameBits plusZero x
-bits-are x f = sym (zero-first (toBits binary64 x)) ∙ ap (λ k. eqb k (toBits binary64 x)) (sym zero-bits) ∙ bits-tell plusZero x zero-fits f
+bits-are x f = sym (eq-turned 0 (toBits binary64 x)) ∙ ap (λ k. eqb k (toBits binary64 x)) (sym zero-bits) ∙ bits-tell plusZero x zero-fits f
 
 zero-number : ne plusZero plusZero ≡ false
 unfolding isNan

@@ -5,7 +5,7 @@ use mathlib.Core.Bool.{_&&_}
 use lib.Dec.{eqb}
 use lib.ListN.{getD, drop, take}
 use Rattle.soundness.specs.Words.{blank}
-use Rattle.soundness.proofs.Unseen.{zero-first, unseen-go, unseen-end}
+use Rattle.soundness.proofs.Unseen.{eq-turned, unseen-go, unseen-end}
 use borrow.Author.Needs.{needs}
 use Rattle.soundness.proofs.sound.blank_words.Statement.{statement}
 use Rattle.soundness.proofs.sound.blank_words.Tie as tie
@@ -36,7 +36,7 @@ loop-again c =
     let a = c .before .before .before .args in
     let at = c .before .before .loop in (
       search needs,
-      unseen-go (eqb 0) 0 (a .to) (a .list .now) (c .before .before .before .pre .1) (at .seen) _ (at .i) (at .inv .1) (search needs) (zero-first (getD (a .list .now) (at .i) 0)),
+      unseen-go (eqb 0) 0 (a .to) (a .list .now) (c .before .before .before .pre .1) (at .seen) _ (at .i) (at .inv .1) (search needs) (eq-turned 0 (getD (a .list .now) (at .i) 0)),
     )
 
 returns : tie.Need-returns Inv-loop μ-loop

@@ -1,11 +1,14 @@
--- The answer is read off the tests that were taken; the record says that the boundary fits its room.
-use mathlib.Core.Bool.{false, true}
-use mathlib.Core.Path.{sym, _∙_, refl}
-use native.Mathlib.Omega.{arith}
-use Rattle.rules.proofs.Laws.{test-le, not-true, not-false}
-use Rattle.soundness.proofs.BoundaryLoops.{element-zero, element-by, read-fits}
-use borrow.Author.Needs.{needs}
 use borrow.Author.Tests.{lt-leb}
+use Rattle.soundness.proofs.FaceLoops.{unmet-above}
+use Rattle.soundness.proofs.BoundaryLoops.{element-zero, element-by, read-fits}
+use Rattle.soundness.specs.Words.{stampOf}
+use Rattle.rules.proofs.Laws.{test-le, not-true, not-false}
+use native.Mathlib.Omega.{arith}
+use mathlib.Core.Path.{sym, _∙_, refl}
+use mathlib.Core.Bool.{false, true, false≢true}
+use Prim.Native.Nat.{_+_}
+-- The answer is read off the tests that were taken; the head says that the boundary fits its room.
+use borrow.Author.Needs.{needs}
 use Rattle.soundness.proofs.sound.element_sound.Statement.{statement}
 use Rattle.soundness.proofs.sound.element_sound.Tie as tie
 
@@ -24,13 +27,12 @@ wide-requires c κs = search needs
 returns : tie.Need-returns
 returns c =
     let a = c .before .before .before .before .args in
-    element-zero (a .elements .now) (a .e) (a .d) (a .h) (sym (c .before .wide .ensures .0) ∙ c .if1 .taken)
+    (element-zero (a .elements .now) (a .e) (a .d) (a .h) (sym (c .before .wide .ensures .0) ∙ c .if1 .taken), λ t. unmet-above (stampOf (a .e)) (stampOf (a .e) + 2) (a .met .now) (omega arith) (c .before .before .before .before .pre .4))
 
 returns-2 : tie.Need-returns-2
 returns-2 c =
     let a = c .before .before .before .before .before .args in
-    element-by (a .elements .now) (a .e) (a .d) (a .h) _ _ (c .before .before .wide .ensures .0) refl _ _ false _ _ (c .before .before .before .before .before .pre .2)
-    (c .before .if1 .left) refl refl (lt-leb _ (a .d) (c .if2 .taken)) refl refl
+    (element-by (a .elements .now) (a .e) (a .d) (a .h) _ _ (c .before .before .wide .ensures .0) refl _ _ false _ _ (c .before .before .before .before .before .pre .2) (c .before .if1 .left) refl refl (lt-leb _ (a .d) (c .if2 .taken)) refl refl, λ t. absurd (false≢true t))
 
 add-wide : tie.Need-add-wide
 add-wide c = search needs
@@ -49,21 +51,20 @@ add-boundary-sound c = search needs
 
 boundary-sound-requires : tie.Need-boundary-sound-requires
 boundary-sound-requires c κs =
-    let a = c .before .before .before .before .before .before .before .args in
-    let p = c .before .before .before .before .before .before .before .pre in
+    let a = c .before .before .before .before .before .before .before .before .args in
+    let p = c .before .before .before .before .before .before .before .before .pre in
     let l = p .0 in
     let u = p .1 in
-    let fit = read-fits (a .elements .now) (a .e) (a .d) (a .h) _ _ (c .before .before .before .before .wide .ensures .0) (c .wide2 .ensures .0) (p .2)
-    (c .before .before .before .if1 .left) in
-    (l, omega (arith, fit, u), fit, omega (arith, u), p .3)
+    let fit = read-fits (a .elements .now) (a .e) (a .d) (a .h) _ _ (c .before .before .before .before .before .wide .ensures .0) (c .before .wide2 .ensures .0) (p .2) in
+    (l, omega (arith, fit, u), fit, u, p .3, p .4)
 
 returns-3 : tie.Need-returns-3
 returns-3 c =
-    let a = c .before .before .before .before .before .before .before .before .before .args in
-    element-by (a .elements .now) (a .e) (a .d) (a .h) _ _ (c .before .before .before .before .before .before .wide .ensures .0) (c .before .before .wide2 .ensures .0) _ _ true false _
-    (c .before .before .before .before .before .before .before .before .before .pre .2)
-    (c .before .before .before .before .before .if1 .left) refl refl (test-le _ (a .d) (c .before .before .before .before .if2 .left))
-    (sym (c .before .boundary-sound .ensures) ∙ not-true _ (c .if3 .taken)) refl
+    let a = c .before .before .before .before .before .before .before .before .before .before .args in (
+      element-by (a .elements .now) (a .e) (a .d) (a .h) _ _ (c .before .before .before .before .before .before .before .wide .ensures .0) (c .before .before .before .wide2 .ensures .0) _ _ true false _ (c .before .before .before .before .before .before .before .before .before .before .pre .2) (c .before .before .before .before .before .before .if1 .left) refl refl (test-le _ (a .d) (c .before .before .before .before .before .if2 .left))
+          (sym (c .before .boundary-sound .ensures .0) ∙ not-true _ (c .if3 .taken)) refl,
+      λ t. absurd (false≢true t),
+    )
 
 add-wide-2 : tie.Need-add-wide-2
 add-wide-2 c = search needs
@@ -90,19 +91,16 @@ wide-requires-4 : tie.Need-wide-requires-4
 wide-requires-4 c κs = search needs
 
 facet-sound-requires : tie.Need-facet-sound-requires
-facet-sound-requires c κs = c .before .before .before .before .before .before .before .before .if2 .left
+facet-sound-requires c κs = c .before .before .before .before .before .before .before .before .before .if2 .left
 
 returns-4 : tie.Need-returns-4
 returns-4 c =
-    let a = c .before .before .before .before .before .before .before .before .before .before .before .before .before .before .args in
-    element-by (a .elements .now) (a .e) (a .d) (a .h) _ _ (c .before .before .before .before .before .before .before .before .before .before .before .wide .ensures .0)
-    (c .before .before .before .before .before .before .before .wide2 .ensures .0) _ _ true true _
-    (c .before .before .before .before .before .before .before .before .before .before .before .before .before .before .pre .2)
-    (c .before .before .before .before .before .before .before .before .before .before .if1 .left) (c .before .before .before .wide3 .ensures .0)
-    (c .before .wide4 .ensures .0)
-    (test-le _ (a .d) (c .before .before .before .before .before .before .before .before .before .if2 .left))
-    (sym (c .before .before .before .before .before .before .boundary-sound .ensures) ∙ not-false _ (c .before .before .before .before .before .if3 .left))
-    (sym (c .facet-sound .ensures))
+    let a = c .before .before .before .before .before .before .before .before .before .before .before .before .before .before .before .args in
+    let yes = not-false _ (c .before .before .before .before .before .if3 .left) in (
+      element-by (a .elements .now) (a .e) (a .d) (a .h) _ _ (c .before .before .before .before .before .before .before .before .before .before .before .before .wide .ensures .0) (c .before .before .before .before .before .before .before .before .wide2 .ensures .0) _ _ true true _ (c .before .before .before .before .before .before .before .before .before .before .before .before .before .before .before .pre .2) (c .before .before .before .before .before .before .before .before .before .before .before .if1 .left) (c .before .before .before .wide3 .ensures .0) (c .before .wide4 .ensures .0)
+          (test-le _ (a .d) (c .before .before .before .before .before .before .before .before .before .before .if2 .left)) (sym (c .before .before .before .before .before .before .boundary-sound .ensures .0) ∙ yes) (sym (c .facet-sound .ensures)),
+      λ t. c .before .before .before .before .before .before .boundary-sound .ensures .1 yes,
+    )
 
 pub element-sound-spec : {M : Type 1} → statement M
 element-sound-spec =

@@ -1,62 +1,88 @@
--- What is asked of the rows that are left, with `k` as the vertex that is to be named next, is what is asked of all; and the rows so far are in the index, no two of them equal.
-use Prim.Native.Nat.{_-_, _≤_}
-use mathlib.Core.Path.{_≡_, refl, sym, ap, _∙_}
-use mathlib.Core.Bool.{true, false≢true}
-use native.Mathlib.Omega.{arith}
-use Rattle.rules.specs.Limits.{desk}
-use Rattle.rules.proofs.Laws.{not-true, not-false}
-use Rattle.space.specs.Chains.{Indexed}
-use Rattle.space.proofs.Indexing.{index-count}
-use Rattle.soundness.specs.Words.{EdgesLow, Mask, rowsInUse}
-use Rattle.soundness.proofs.BoundaryLoops.{edges-none, edges-on}
+use Rattle.soundness.proofs.OnePass.{left, pass-start, pass-go, pass-no, pass-short, pass-end, row-head, row-element, no-first, no-second, both}
+use Rattle.soundness.proofs.RowLoops.{head-few, whole-room}
 use Rattle.soundness.proofs.Distinct.{apart, apart-go, apart-no, apart-is}
-use Rattle.soundness.proofs.OnePass.{left, pass-start, pass-go, pass-no, pass-end, row-record, row-element, no-first, no-second, both}
+use Rattle.soundness.proofs.BoundaryLoops.{edges-none, edges-on}
+use Rattle.soundness.specs.Words.{blank, Mask, stampOf, rowsInUse, EdgesLow}
+use Rattle.space.proofs.Indexing.{index-count}
+use Rattle.space.proofs.EndsMet.{unmet-new}
+use Rattle.space.specs.Closed.{Unmet}
+use Rattle.space.specs.Chains.{Indexed}
+use Rattle.rules.proofs.Laws.{not-true, not-false}
+use Rattle.rules.specs.Limits.{desk}
+use lib.ListN.{length}
+use native.Mathlib.Omega.{arith}
+use mathlib.Core.Path.{_≡_, refl, sym, ap, _∙_}
+use mathlib.Core.Bool.{true, _&&_, false≢true}
+use Prim.Native.Nat.{_-_, _≤_, _*_}
+-- What is asked of the rows that are left, with `k` as the vertex that is to be named next, is what is asked of all, where nothing is seen past a boundary so far; and the rows so far are in the index, no two of them equal.
 use borrow.Author.Needs.{needs}
 use Rattle.soundness.proofs.sound.rows_in_use.Statement.{statement}
 use Rattle.soundness.proofs.sound.rows_in_use.Tie as tie
 
 abbrev Inv-loop : tie.InvT-loop
-Inv-loop elements d n v h index₀ past k₀ i₀ index k i =
-    (i ≤ n) × (k ≤ i) × Mask past × (rowsInUse desk d n v h elements ≡ left elements d n v h k i) × EdgesLow elements i × (apart elements i ≡ true) × Indexed elements i index
+Inv-loop elements d n v h index₀ past met₀ seen₀ k₀ i₀ index met seen k i = (i ≤ n) × (k ≤ i) × Mask past × (rowsInUse desk d n v h elements ≡ (blank seen && left elements d n v h k i)) × EdgesLow elements i × Unmet (stampOf i) met × (length seen ≡ 32) × (apart elements i ≡ true)
+    × Indexed elements i index
 
 abbrev μ-loop : tie.MeasureT-loop
-μ-loop elements d n v h index₀ past k₀ i₀ index k i = n - i
+μ-loop elements d n v h index₀ past met₀ seen₀ k₀ i₀ index met seen k i = n - i
 
 past-mask-requires : tie.Need-past-mask-requires Inv-loop μ-loop
 past-mask-requires c κs = search needs
 
 loop-holds : tie.Need-loop-holds Inv-loop μ-loop
 loop-holds c =
-    let a = c .before .before .before .args in
-    (search needs, search needs, c .past-mask .ensures, pass-start (a .elements .now) (a .d) (a .n) (a .v) (a .h), edges-none (a .elements .now), refl, c .before .before .before .pre .2)
+    let a = c .before .before .before .args in (
+      search needs,
+      search needs,
+      c .past-mask .ensures,
+      pass-start (a .elements .now) (a .d) (a .n) (a .v) (a .h),
+      edges-none (a .elements .now),
+      unmet-new,
+      refl,
+      refl,
+      c .before .before .before .pre .2,
+    )
 
 row-sound-requires : tie.Need-row-sound-requires Inv-loop μ-loop
 row-sound-requires c κs =
     let p = c .before .before .before .before .before .before .pre in
-    (p .1, omega (arith, p .0, c .before .loop-test .taken), c .before .before .loop .inv .2, c .before .before .loop .inv .4)
+    (p .1, omega (arith, p .0, c .before .loop-test .taken), c .before .before .loop .inv .4, c .before .before .loop .inv .5)
 
 same-length : tie.Need-same-length Inv-loop μ-loop
-same-length c = c .before .before .before .before .loop .inv .6 .long ∙ sym (c .before .before .before .before .before .before .before .before .pre .2 .long)
+same-length c = c .before .before .before .before .loop .inv .8 .long ∙ sym (c .before .before .before .before .before .before .before .before .pre .2 .long)
 
 returns : tie.Need-returns Inv-loop μ-loop
 returns c =
     let a = c .before .before .before .before .before .before .before .before .args in
     let at = c .before .before .before .before .loop in
-    (no-first _ _ (pass-no (a .elements .now) (a .d) (a .n) (a .v) (a .h) (at .k) (at .i) (at .inv .3) (c .before .before .before .loop-test .taken) (sym (c .before .row-sound .ensures) ∙ not-true _ (c .if1 .taken))), λ e. absurd (false≢true e))
+    (no-first _ _ (pass-no (a .elements .now) (a .d) (a .n) (a .v) (a .h) (blank (at .seen)) (at .k) (at .i) (at .inv .3) (c .before .before .before .loop-test .taken) (sym (c .before .row-sound .ensures .0) ∙ not-true _ (c .if1 .taken))), λ e. absurd (false≢true e))
+
+pass-on-requires : tie.Need-pass-on-requires Inv-loop μ-loop
+pass-on-requires c κs = c .before .before .row-sound .ensures .1 (not-false _ (c .before .if1 .left))
+
+mul-gather-past : tie.Need-mul-gather-past Inv-loop μ-loop
+mul-gather-past c = search needs
+
+gather-past-requires : tie.Need-gather-past-requires Inv-loop μ-loop
+gather-past-requires c κs =
+    let a = c .before .before .before .before .before .before .before .before .before .before .before .before .args in
+    let p = c .before .before .before .before .before .before .before .before .before .before .before .before .pre in
+    let at = c .before .before .before .before .before .before .before .before .loop in
+    (omega (arith, p .0, p .1, c .before .before .before .before .before .before .before .loop-test .taken), head-few (at .i * 36) (a .elements .now) (row-head (a .elements .now) (a .d) (a .h) (at .k) (at .i) _ (sym (c .before .before .before .before .before .row-sound .ensures .0) ∙ not-false _ (c .before .before .before .before .if1 .left))), at .inv .2, at .inv .6)
 
 row-new-requires : tie.Need-row-new-requires Inv-loop μ-loop
 row-new-requires c κs =
-    let p = c .before .before .before .before .before .before .before .before .before .pre in
-    (omega (arith, p .0, c .before .before .before .before .loop-test .taken), p .1, c .before .before .before .before .before .loop .inv .6)
+    let p = c .before .before .before .before .before .before .before .before .before .before .before .before .before .before .pre in
+    (omega (arith, p .0, c .before .before .before .before .before .before .before .before .before .loop-test .taken), p .1, c .before .before .before .before .before .before .before .before .before .before .loop .inv .8)
 
 same-length-2 : tie.Need-same-length-2 Inv-loop μ-loop
 same-length-2 c = search needs
 
 returns-2 : tie.Need-returns-2 Inv-loop μ-loop
 returns-2 c =
-    let a = c .before .before .before .before .before .before .before .before .before .before .before .before .before .args in
-    let at = c .before .before .before .before .before .before .before .before .before .loop in
-    (no-second (rowsInUse desk (a .d) (a .n) (a .v) (a .h) (a .elements .now)) _ (sym (apart-is (a .elements .now) (a .n)) ∙ apart-no (a .elements .now) (a .n) (at .i) (c .before .before .before .before .before .before .before .before .loop-test .taken) (sym (c .before .before .before .row-new .ensures .0) ∙ not-true _ (c .if2 .taken))), λ e. absurd (false≢true e))
+    let a = c .before .before .before .before .before .before .before .before .before .before .before .before .before .before .before .before .before .before .args in
+    let at = c .before .before .before .before .before .before .before .before .before .before .before .before .before .before .loop in
+    (no-second (rowsInUse desk (a .d) (a .n) (a .v) (a .h) (a .elements .now)) _ (sym (apart-is (a .elements .now) (a .n)) ∙ apart-no (a .elements .now) (a .n) (at .i) (c .before .before .before .before .before .before .before .before .before .before .before .before .before .loop-test .taken) (sym (c .before .before .before .row-new .ensures .0) ∙ not-true _ (c .if2 .taken))), λ e. absurd (false≢true e))
 
 mul-one-if-corner : tie.Need-mul-one-if-corner Inv-loop μ-loop
 mul-one-if-corner c = search needs
@@ -75,29 +101,47 @@ loop-less c = search needs
 
 loop-again : tie.Need-loop-again Inv-loop μ-loop
 loop-again c =
-    let a = c .before .before .before .before .before .before .before .before .before .before .before .before .before .before .args in
-    let at = c .before .before .before .before .before .before .before .before .before .before .loop in
-    let p = c .before .before .before .before .before .before .before .before .before .before .before .before .before .before .pre in
-    let sound = sym (c .before .before .before .before .before .before .before .row-sound .ensures) ∙ not-false _ (c .before .before .before .before .before .before .if1 .left) in (
+    let a = c .before .before .before .before .before .before .before .before .before .before .before .before .before .before .before .before .before .before .before .args in
+    let at = c .before .before .before .before .before .before .before .before .before .before .before .before .before .before .before .loop in
+    let p = c .before .before .before .before .before .before .before .before .before .before .before .before .before .before .before .before .before .before .before .pre in
+    let sound = sym (c .before .before .before .before .before .before .before .before .before .before .before .before .row-sound .ensures .0) ∙ not-false _ (c .before .before .before .before .before .before .before .before .before .before .before .if1 .left) in (
       search needs,
       search needs,
       at .inv .2,
-      pass-go (a .elements .now) (a .d) (a .n) (a .v) (a .h) (at .k) (at .i) _ (at .inv .3) (c .before .before .before .before .before .before .before .before .before .loop-test .taken) sound (c .one-if-corner .ensures .0),
-      edges-on (a .elements .now) (at .i) (a .d) (a .h) (p .1) (omega (arith, p .0, c .before .before .before .before .before .before .before .before .before .loop-test .taken)) (row-record (a .elements .now) (a .d) (a .h) (at .k) (at .i) _ sound) (row-element (a .elements .now) (a .d) (a .h) (at .k) (at .i) _ sound) (at .inv .4),
-      apart-go (a .elements .now) (at .i) (at .inv .5) (sym (c .before .before .before .before .row-new .ensures .0) ∙ not-false _ (c .before .if2 .left)),
+      pass-go (a .elements .now) (a .d) (a .n) (a .v) (a .h) (blank (at .seen)) _ (at .k) (at .i) _ (at .inv .3) (c .before .before .before .before .before .before .before .before .before .before .before .before .before .before .loop-test .taken) sound (c .before .before .before .before .before .before .gather-past .ensures .0) (c .one-if-corner .ensures .0),
+      edges-on (a .elements .now) (at .i) (a .d) (a .h) (p .1) (omega (arith, p .0, c .before .before .before .before .before .before .before .before .before .before .before .before .before .before .loop-test .taken)) (row-head (a .elements .now) (a .d) (a .h) (at .k) (at .i) _ sound) (row-element (a .elements .now) (a .d) (a .h) (at .k) (at .i) _ sound) (at .inv .4),
+      c .before .before .before .before .before .before .before .before .before .pass-on .ensures,
+      c .before .before .before .before .before .before .gather-past .ensures .1,
+      apart-go (a .elements .now) (at .i) (at .inv .7) (sym (c .before .before .before .before .row-new .ensures .0) ∙ not-false _ (c .before .if2 .left)),
       c .before .before .before .before .row-new .ensures .1 (not-false _ (c .before .if2 .left)),
     )
 
 same-length-3 : tie.Need-same-length-3 Inv-loop μ-loop
-same-length-3 c = c .before .loop .inv .6 .long ∙ sym (c .before .before .before .before .before .pre .2 .long)
+same-length-3 c = c .before .before .loop .inv .8 .long ∙ sym (c .before .before .before .before .before .before .pre .2 .long)
 
 returns-3 : tie.Need-returns-3 Inv-loop μ-loop
 returns-3 c =
-    let a = c .before .before .before .before .before .args in
-    let at = c .before .loop in
-    let e : at .i ≡ a .n = omega (arith, at .inv .0, c .loop-test .left) in (
-      both _ _ (pass-end (a .elements .now) (a .d) (a .n) (a .v) (a .h) (at .k) (at .i) (at .inv .3) (c .loop-test .left)) (sym (apart-is (a .elements .now) (a .n)) ∙ ap (apart (a .elements .now)) (sym e) ∙ at .inv .5),
-      λ t. index-count _ _ _ _ e (at .inv .6),
+    let a = c .before .before .before .before .before .before .args in
+    let at = c .before .before .loop in
+    (no-first _ _ (pass-short (a .elements .now) (a .d) (a .n) (a .v) (a .h) (blank (at .seen)) (at .k) (at .i) (at .inv .3) (c .before .loop-test .left) (c .if3 .taken)), λ e. absurd (false≢true e))
+
+slice-aggregate-blank-words : tie.Need-slice-aggregate-blank-words Inv-loop μ-loop
+slice-aggregate-blank-words c = search needs
+
+blank-words-requires : tie.Need-blank-words-requires Inv-loop μ-loop
+blank-words-requires c κs = search (needs, c .before .before .before .loop .inv .6)
+
+same-length-4 : tie.Need-same-length-4 Inv-loop μ-loop
+same-length-4 c = c .before .before .before .before .loop .inv .8 .long ∙ sym (c .before .before .before .before .before .before .before .before .pre .2 .long)
+
+returns-4 : tie.Need-returns-4 Inv-loop μ-loop
+returns-4 c =
+    let a = c .before .before .before .before .before .before .before .before .args in
+    let at = c .before .before .before .before .loop in
+    let e : at .i ≡ a .n = omega (arith, at .inv .0, c .before .before .before .loop-test .left) in (
+      both _ _ (c .blank-words .ensures ∙ whole-room blank 0 32 (at .seen) (at .inv .6) ∙ pass-end (a .elements .now) (a .d) (a .n) (a .v) (a .h) (blank (at .seen)) (at .k) (at .i) (at .inv .3) (c .before .before .before .loop-test .left) (c .before .before .if3 .left))
+          (sym (apart-is (a .elements .now) (a .n)) ∙ ap (apart (a .elements .now)) (sym e) ∙ at .inv .7),
+      λ t. index-count _ _ _ _ e (at .inv .8),
     )
 
 pub rows-in-use-spec : {M : Type 1} → statement M
@@ -111,6 +155,9 @@ rows-in-use-spec =
     row-sound-requires
     same-length
     returns
+    pass-on-requires
+    mul-gather-past
+    gather-past-requires
     row-new-requires
     same-length-2
     returns-2
@@ -121,4 +168,8 @@ rows-in-use-spec =
     loop-less
     loop-again
     same-length-3
-    returns-3)
+    returns-3
+    slice-aggregate-blank-words
+    blank-words-requires
+    same-length-4
+    returns-4)

@@ -1,90 +1,50 @@
--- The ends that are counted so far and those that are left make up the whole; the test then reads the counts.
-use Prim.Native.Nat.{_-_, _≤_}
-use mathlib.Core.Path.{_∙_}
+-- The ends that are met so far and those that are left make up the whole; n second meetings mean that each end is met twice.
+use Prim.Native.Nat.{_-_, _<_, _≤_}
+use mathlib.Core.Path.{ap, sym, _∙_}
+use lib.Dec.{eqb}
+use lib.ListN.{take, replicate}
 use native.Mathlib.Omega.{arith}
-use Rattle.space.proofs.TwiceMet.{Counting, edge-low, first-low, second-low, count-start, room-one, room-two, count-go, count-end}
 use borrow.Author.Needs.{needs}
+use Rattle.space.proofs.TwiceMet.{edges-long, edges-low, edge-at, edge-low, ends-low}
+use Rattle.space.proofs.EndsMet.{Round, unmet-new, round-start, round-met, round-few, round-end}
 use Rattle.space.proofs.closed.each_twice.Statement.{statement}
 use Rattle.space.proofs.closed.each_twice.Tie as tie
 
 abbrev Inv-loop : tie.InvT-loop
-Inv-loop elements list at n met₀ k₀ met k = (k ≤ n) × Counting elements list at n met k
+Inv-loop elements list n met₀ twice₀ k₀ met twice k = (k ≤ n) × Round elements (take n list) 1 met twice k
 
 abbrev μ-loop : tie.MeasureT-loop
-μ-loop elements list at n met₀ k₀ met k = n - k
+μ-loop elements list n met₀ twice₀ k₀ met twice k = n - k
 
 loop-holds : tie.Need-loop-holds Inv-loop μ-loop
-loop-holds c = let a = c .before .before .args in (search needs, count-start (a .elements .now) (a .list .now) (a .at) (a .n) (c .before .before .pre .1))
+loop-holds c =
+    let a = c .before .before .args in
+    (search needs, round-start (a .elements .now) (take (a .n) (a .list .now)) 1 (replicate 512 0) unmet-new)
 
-add-e : tie.Need-add-e Inv-loop μ-loop
-add-e c = search needs
+mul-wide : tie.Need-mul-wide Inv-loop μ-loop
+mul-wide c = search needs
 
-mul-e : tie.Need-mul-e Inv-loop μ-loop
-mul-e c = search needs
-
-shared-slice-read-e : tie.Need-shared-slice-read-e Inv-loop μ-loop
-shared-slice-read-e c = search needs
-
-end-of-requires : tie.Need-end-of-requires Inv-loop μ-loop
-end-of-requires c κs =
-    let a = c .before .before .before .before .before .args in
-    let p = c .before .before .before .before .before .pre in
-    (search needs, edge-low (a .elements .now) (a .list .now) (a .at) (a .n) (p .1) (c .before .before .loop .k) (p .3) (search needs), search needs)
+shared-slice-read-wide : tie.Need-shared-slice-read-wide Inv-loop μ-loop
+shared-slice-read-wide c = search needs
 
 wide-requires : tie.Need-wide-requires Inv-loop μ-loop
 wide-requires c κs = search needs
 
-array-read-met : tie.Need-array-read-met Inv-loop μ-loop
-array-read-met c =
+meet-ends-requires : tie.Need-meet-ends-requires Inv-loop μ-loop
+meet-ends-requires c κs =
     let a = c .before .before .before .before .before .before .before .args in
     let p = c .before .before .before .before .before .before .before .pre in
-    first-low (a .elements .now) (a .list .now) (a .at) (a .n) (p .1) (c .before .before .before .before .loop .k) _ (p .4) (search needs) (c .wide .ensures .0 ∙ c .before .end-of .ensures)
+    let k = c .before .before .before .before .loop .k in
+    let h : k < a .n = search needs in
+    let e = c .before .wide .ensures .0 in
+    (p .0, edge-low (a .list .now) (a .n) (p .1) k _ h e (p .3), ends-low (a .list .now) (a .n) (p .1) k _ h e (a .elements .now) (p .4), search needs)
 
-add-met : tie.Need-add-met Inv-loop μ-loop
-add-met c =
-    let a = c .before .before .before .before .before .before .before .args in
-    let p = c .before .before .before .before .before .before .before .pre in
-    let at = c .before .before .before .before .loop in
-    let r = room-one (a .elements .now) (a .list .now) (a .at) (a .n) (p .1) (at .met) (at .k) _ (at .inv .1) (search needs) (p .2)
-    (first-low (a .elements .now) (a .list .now) (a .at) (a .n) (p .1) (at .k) _ (p .4) (search needs) (c .wide .ensures .0 ∙ c .before .end-of .ensures)) in
+add-twice : tie.Need-add-twice Inv-loop μ-loop
+add-twice c =
+    let a = c .before .before .before .before .before .before .before .before .args in
+    let at = c .before .before .before .before .before .loop in
+    let f = round-few (a .elements .now) (take (a .n) (a .list .now)) 1 (at .met) (at .twice) (at .k) (at .inv .1) in
     search needs
-
-array-write-met : tie.Need-array-write-met Inv-loop μ-loop
-array-write-met c =
-    let a = c .before .before .before .before .before .before .before .args in
-    let p = c .before .before .before .before .before .before .before .pre in
-    first-low (a .elements .now) (a .list .now) (a .at) (a .n) (p .1) (c .before .before .before .before .loop .k) _ (p .4) (search needs) (c .wide .ensures .0 ∙ c .before .end-of .ensures)
-
-end-of-requires-2 : tie.Need-end-of-requires-2 Inv-loop μ-loop
-end-of-requires-2 c κs =
-    let a = c .before .before .before .before .before .before .before .args in
-    let p = c .before .before .before .before .before .before .before .pre in
-    (search needs, edge-low (a .elements .now) (a .list .now) (a .at) (a .n) (p .1) (c .before .before .before .before .loop .k) (p .3) (search needs), search needs)
-
-wide-requires-2 : tie.Need-wide-requires-2 Inv-loop μ-loop
-wide-requires-2 c κs = search needs
-
-array-read-met-2 : tie.Need-array-read-met-2 Inv-loop μ-loop
-array-read-met-2 c =
-    let a = c .before .before .before .before .before .before .before .before .before .args in
-    let p = c .before .before .before .before .before .before .before .before .before .pre in
-    second-low (a .elements .now) (a .list .now) (a .at) (a .n) (p .1) (c .before .before .before .before .before .before .loop .k) _ (p .4) (search needs) (c .wide2 .ensures .0 ∙ c .before .end-of2 .ensures)
-
-add-met-2 : tie.Need-add-met-2 Inv-loop μ-loop
-add-met-2 c =
-    let a = c .before .before .before .before .before .before .before .before .before .args in
-    let p = c .before .before .before .before .before .before .before .before .before .pre in
-    let at = c .before .before .before .before .before .before .loop in
-    let r = room-two (a .elements .now) (a .list .now) (a .at) (a .n) (p .1) (at .met) (at .k) _ (at .inv .1) (search needs) (p .2)
-    (first-low (a .elements .now) (a .list .now) (a .at) (a .n) (p .1) (at .k) _ (p .4) (search needs) (c .before .before .wide .ensures .0 ∙ c .before .before .before .end-of .ensures)) _
-    (second-low (a .elements .now) (a .list .now) (a .at) (a .n) (p .1) (at .k) _ (p .4) (search needs) (c .wide2 .ensures .0 ∙ c .before .end-of2 .ensures)) in
-    search needs
-
-array-write-met-2 : tie.Need-array-write-met-2 Inv-loop μ-loop
-array-write-met-2 c =
-    let a = c .before .before .before .before .before .before .before .before .before .args in
-    let p = c .before .before .before .before .before .before .before .before .before .pre in
-    second-low (a .elements .now) (a .list .now) (a .at) (a .n) (p .1) (c .before .before .before .before .before .before .loop .k) _ (p .4) (search needs) (c .wide2 .ensures .0 ∙ c .before .end-of2 .ensures)
 
 add-k : tie.Need-add-k Inv-loop μ-loop
 add-k c = search needs
@@ -94,26 +54,26 @@ loop-less c = search needs
 
 loop-again : tie.Need-loop-again Inv-loop μ-loop
 loop-again c =
-    let a = c .before .before .before .before .before .before .before .before .before .args in
-    let p = c .before .before .before .before .before .before .before .before .before .pre in
-    let at = c .before .before .before .before .before .before .loop in
-    let e = c .before .before .wide .ensures .0 ∙ c .before .before .before .end-of .ensures in
-    let f = c .wide2 .ensures .0 ∙ c .before .end-of2 .ensures in (
+    let a = c .before .before .before .before .before .before .before .before .args in
+    let p = c .before .before .before .before .before .before .before .before .pre in
+    let at = c .before .before .before .before .before .loop in
+    let h : at .k < a .n = search needs in
+    let e = c .before .before .wide .ensures .0 in
+    let l = edges-long (a .list .now) (a .n) (p .1) in (
       search needs,
-      count-go (a .elements .now) (a .list .now) (a .at) (a .n) (p .1) (at .met) (at .k) _ (at .inv .1) (search needs) (p .2)
-          (first-low (a .elements .now) (a .list .now) (a .at) (a .n) (p .1) (at .k) _ (p .4) (search needs) e) _
-          (second-low (a .elements .now) (a .list .now) (a .at) (a .n) (p .1) (at .k) _ (p .4) (search needs) f) e f,
+      round-met (a .elements .now) (take (a .n) (a .list .now)) 1 (at .met) _ (at .twice) (at .k) (c .before .before .wide .result) _ (at .inv .1) (omega (arith, l, h))
+          (edge-at (a .list .now) (a .n) (p .1) (at .k) _ h e)
+          (ends-low (a .list .now) (a .n) (p .1) (at .k) _ h e (a .elements .now) (p .4))
+          (c .meet-ends .ensures .0) (c .meet-ends .ensures .1),
     )
 
-all-twice-requires : tie.Need-all-twice-requires Inv-loop μ-loop
-all-twice-requires c κs =
-    let a = c .before .before .before .before .before .args in
-    let p = c .before .before .before .before .before .pre in
-    let at = c .before .before .loop in
-    (p .0, p .1, p .3, p .4, count-end (a .elements .now) (a .list .now) (a .at) (a .n) (p .1) (at .met) (at .k) (at .inv .1) (omega arith))
-
 returns : tie.Need-returns Inv-loop μ-loop
-returns c = search needs
+returns c =
+    let a = c .before .before .before .before .args in
+    let p = c .before .before .before .before .pre in
+    let at = c .before .loop in
+    let l = edges-long (a .list .now) (a .n) (p .1) in
+    ap (eqb (at .twice)) (sym l) ∙ round-end (a .elements .now) (take (a .n) (a .list .now)) 1 (at .met) (at .twice) (at .k) (at .inv .1) (omega (arith, l)) (edges-low (a .list .now) (a .n) (p .1) (a .elements .now) (p .4))
 
 pub each-twice-spec : {M : Type 1} → statement M
 each-twice-spec =
@@ -122,21 +82,12 @@ each-twice-spec =
     Inv-loop
     μ-loop
     loop-holds
-    add-e
-    mul-e
-    shared-slice-read-e
-    end-of-requires
+    mul-wide
+    shared-slice-read-wide
     wide-requires
-    array-read-met
-    add-met
-    array-write-met
-    end-of-requires-2
-    wide-requires-2
-    array-read-met-2
-    add-met-2
-    array-write-met-2
+    meet-ends-requires
+    add-twice
     add-k
     loop-less
     loop-again
-    all-twice-requires
     returns)

@@ -19,8 +19,8 @@ returns-2 c =
     let p = c .before .before .before .before .before .pre in
     (poly-many _ _ _ _ _ _ (a .n) (taken (a .list .now) (a .n) (p .3) (p .4)) (c .before .if1 .left) (c .if2 .taken), p .8)
 
-closed-at-requires : tie.Need-closed-at-requires
-closed-at-requires c κs = search needs
+is-closed-requires : tie.Need-is-closed-requires
+is-closed-requires c κs = search needs
 
 same-length : tie.Need-same-length
 same-length c = search needs
@@ -29,7 +29,7 @@ returns-3 : tie.Need-returns-3
 returns-3 c =
     let a = c .before .before .before .before .before .before .before .before .before .args in
     let p = c .before .before .before .before .before .before .before .before .before .pre in
-    (poly-open _ _ _ _ _ _ (a .n) (taken (a .list .now) (a .n) (p .3) (p .4)) (c .before .before .before .before .before .if1 .left) (c .before .before .before .before .if2 .left) (sym (c .before .closed-at .ensures) ∙ not-true _ (c .if3 .taken)), p .8)
+    (poly-open _ _ _ _ _ _ (a .n) (taken (a .list .now) (a .n) (p .3) (p .4)) (c .before .before .before .before .before .if1 .left) (c .before .before .before .before .if2 .left) (sym (c .before .is-closed .ensures) ∙ not-true _ (c .if3 .taken)), p .8)
 
 polytope-row-requires : tie.Need-polytope-row-requires
 polytope-row-requires c κs = search needs
@@ -61,7 +61,7 @@ returns-4 : tie.Need-returns-4
 returns-4 c =
     let a = c .before .before .before .before .before .before .before .before .before .before .before .before .before .before .before .before .before .before .before .before .before .before .before .before .args in
     let p = c .before .before .before .before .before .before .before .before .before .before .before .before .before .before .before .before .before .before .before .before .before .before .before .before .pre in
-    (poly-refused _ _ _ _ _ _ (a .n) (taken (a .list .now) (a .n) (p .3) (p .4)) (c .before .before .before .before .before .before .before .before .before .before .before .before .before .before .before .before .before .before .before .before .if1 .left) (c .before .before .before .before .before .before .before .before .before .before .before .before .before .before .before .before .before .before .before .if2 .left) (sym (c .before .before .before .before .before .before .before .before .before .before .before .before .before .before .before .before .closed-at .ensures) ∙ not-false _ (c .before .before .before .before .before .before .before .before .before .before .before .before .before .before .before .if3 .left)) _ _ _ _ (c .before .before .before .before .before .before .before .before .before .before .before .before .before .before .polytope-row .ensures) (c .before .before .before .before .before .before .before .before .before .add-row .ensures .0) _ (c .before .placed .given .1), c .before .before .before .before .before .before .before .before .before .add-row .ensures .1)
+    (poly-refused _ _ _ _ _ _ (a .n) (taken (a .list .now) (a .n) (p .3) (p .4)) (c .before .before .before .before .before .before .before .before .before .before .before .before .before .before .before .before .before .before .before .before .if1 .left) (c .before .before .before .before .before .before .before .before .before .before .before .before .before .before .before .before .before .before .before .if2 .left) (sym (c .before .before .before .before .before .before .before .before .before .before .before .before .before .before .before .before .is-closed .ensures) ∙ not-false _ (c .before .before .before .before .before .before .before .before .before .before .before .before .before .before .before .if3 .left)) _ _ _ _ (c .before .before .before .before .before .before .before .before .before .before .before .before .before .before .polytope-row .ensures) (c .before .before .before .before .before .before .before .before .before .add-row .ensures .0) _ (c .before .placed .given .1), c .before .before .before .before .before .before .before .before .before .add-row .ensures .1)
 
 same-length-5 : tie.Need-same-length-5
 same-length-5 c = search needs
@@ -76,7 +76,7 @@ returns-5 : tie.Need-returns-5
 returns-5 c =
     let a = c .before .before .before .before .before .before .before .before .before .before .before .before .before .before .before .before .before .before .before .before .before .before .before .before .args in
     let p = c .before .before .before .before .before .before .before .before .before .before .before .before .before .before .before .before .before .before .before .before .before .before .before .before .pre in
-    (poly-made _ _ _ _ _ _ (a .n) (taken (a .list .now) (a .n) (p .3) (p .4)) (c .before .before .before .before .before .before .before .before .before .before .before .before .before .before .before .before .before .before .before .before .if1 .left) (c .before .before .before .before .before .before .before .before .before .before .before .before .before .before .before .before .before .before .before .if2 .left) (sym (c .before .before .before .before .before .before .before .before .before .before .before .before .before .before .before .before .closed-at .ensures) ∙ not-false _ (c .before .before .before .before .before .before .before .before .before .before .before .before .before .before .before .if3 .left)) _ _ _ _ (c .before .before .before .before .before .before .before .before .before .before .before .before .before .before .polytope-row .ensures) (c .before .before .before .before .before .before .before .before .before .add-row .ensures .0) _ (c .before .placed2 .given .1), c .before .before .before .before .before .before .before .before .before .add-row .ensures .1)
+    (poly-made _ _ _ _ _ _ (a .n) (taken (a .list .now) (a .n) (p .3) (p .4)) (c .before .before .before .before .before .before .before .before .before .before .before .before .before .before .before .before .before .before .before .before .if1 .left) (c .before .before .before .before .before .before .before .before .before .before .before .before .before .before .before .before .before .before .before .if2 .left) (sym (c .before .before .before .before .before .before .before .before .before .before .before .before .before .before .before .before .is-closed .ensures) ∙ not-false _ (c .before .before .before .before .before .before .before .before .before .before .before .before .before .before .before .if3 .left)) _ _ _ _ (c .before .before .before .before .before .before .before .before .before .before .before .before .before .before .polytope-row .ensures) (c .before .before .before .before .before .before .before .before .before .add-row .ensures .0) _ (c .before .placed2 .given .1), c .before .before .before .before .before .before .before .before .before .add-row .ensures .1)
 
 pub add-polytope-spec : {M : Type 1} → statement M
 add-polytope-spec =
@@ -84,7 +84,7 @@ add-polytope-spec =
     (tie.spec
     returns
     returns-2
-    closed-at-requires
+    is-closed-requires
     same-length
     returns-3
     polytope-row-requires

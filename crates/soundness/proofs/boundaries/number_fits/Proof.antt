@@ -1,0 +1,59 @@
+use Rattle.soundness.proofs.BoundaryFits.{number-is}
+use borrow.Author.Tests.{le-leb, lt-leb, le-ltb, lt-ltb}
+use lib.Dec.{eqb}
+use native.Mathlib.Omega.{arith}
+use native.Mathlib.Numerals.{add-one}
+use mathlib.Core.Bool.{true, false}
+use mathlib.Core.Path.{sym, ap, refl, _∙_}
+use Prim.Native.Nat.{ℕ, _+_}
+-- The answer is read off the tests that were taken.
+use borrow.Author.Needs.{needs}
+use Rattle.soundness.proofs.boundaries.number_fits.Statement.{statement}
+use Rattle.soundness.proofs.boundaries.number_fits.Tie as tie
+
+returns : tie.Need-returns
+returns c =
+    let a = c .before .before .args in
+    number-is (a .elements .now) (a .e) (a .rank) (a .low) (a .x) false _ _ (lt-leb _ _ (c .if1 .taken)) refl refl
+
+returns-2 : tie.Need-returns-2
+returns-2 c =
+    let a = c .before .before .before .args in
+    number-is (a .elements .now) (a .e) (a .rank) (a .low) (a .x) true false _ (le-leb _ _ (c .before .if1 .left)) (le-ltb _ _ (c .if2 .taken)) refl
+
+mul-wide : tie.Need-mul-wide
+mul-wide c = search needs
+
+mul-wide-2 : tie.Need-mul-wide-2
+mul-wide-2 c = search needs
+
+shared-slice-read-wide : tie.Need-shared-slice-read-wide
+shared-slice-read-wide c =
+    let p = c .before .before .before .before .pre in
+    let q = c .before .if2 .left in
+    omega (arith, q, p .0, p .1)
+
+wide-requires : tie.Need-wide-requires
+wide-requires c κs = search needs
+
+add-result : tie.Need-add-result
+add-result c = search needs
+
+returns-3 : tie.Need-returns-3
+returns-3 c =
+    let a = c .before .before .before .before .before .args in
+    number-is (a .elements .now) (a .e) (a .rank) (a .low) (a .x) true true _ (le-leb _ _ (c .before .before .before .if1 .left)) (lt-ltb _ _ (c .before .before .if2 .left))
+    (ap (λ (y : ℕ). eqb y (a .rank)) (sym (ap (λ (y : ℕ). y + 1) (c .wide .ensures .0) ∙ add-one _)))
+
+pub number-fits-spec : {M : Type 1} → statement M
+number-fits-spec =
+    tie.close
+    (tie.spec
+    returns
+    returns-2
+    mul-wide
+    mul-wide-2
+    shared-slice-read-wide
+    wide-requires
+    add-result
+    returns-3)

@@ -1,0 +1,118 @@
+// A boundary that is sound: its numbers, and test 7 in the same pass. The ends of a face's edges are met each at its own place.
+use space::closed::meet_ends;
+use space::words::ELEMENTS;
+use space::words::WIDTH;
+use space::words::wide;
+ghost use Prim.Native.Nat.{_+_, _*_, _<_, _≤_};
+ghost use mathlib.Core.Path.{_≡_};
+ghost use mathlib.Core.Bool.{true};
+ghost use lib.ListN.{length, take, drop};
+ghost use Rattle.rules.specs.Limits.{desk};
+ghost use Rattle.space.specs.Closed.{Unmet};
+ghost use Rattle.soundness.specs.Words.{numberFits, numbersFit, faceWords, stampOf, boundaryWords, EdgesLow};
+
+// After so many elements the places of ends are cleared, so that a stamp fits a byte.
+const STAMPS: usize = 64;
+
+// An element's stamp is two above the one before it, so that the ends met for a face are told from those met for an earlier one.
+fn stamp_of(e: usize) -> u8
+    ensures { λ r. ⌜ (r ≡ stampOf e) × (r < 255) ⌝ }
+{
+    (2 * (e % STAMPS) + 1) as u8
+}
+
+fn clear(met: &mut [u8; 512])
+    requires { ⌜ length (now met) ≡ 512 ⌝ }
+    ensures { λ _. ⌜ Unmet 1 (now (met .exit)) ⌝ }
+{
+    for v in 0..ELEMENTS {
+        met[v] = 0;
+    }
+}
+
+// The places are ready for the element after e.
+pub fn pass_on(met: &mut [u8; 512], e: usize)
+    requires { ⌜ Unmet (stampOf e + 2) (now met) ⌝ }
+    ensures { λ _. ⌜ Unmet (stampOf (e + 1)) (now (met .exit)) ⌝ }
+{
+    if e % STAMPS == STAMPS - 1 {
+        clear(met);
+    }
+}
+
+// A boundary number is no lower than the least that it may be, below the element's own, and of rank one less: only a number below is one whose rank can be read.
+fn number_fits(elements: &[u16], x: usize, low: usize, e: usize, rank: usize) -> bool
+    requires { ⌜ (length (now elements) ≡ 18432) × (e ≤ 512) ⌝ }
+    ensures { λ r. ⌜ r ≡ numberFits desk (now (elements .entry)) e rank low x ⌝ }
+{
+    if x < low {
+        return false;
+    }
+    if e <= x {
+        return false;
+    }
+    wide(elements[x * WIDTH]) + 1 == rank
+}
+
+// The boundary numbers rise strictly, and each fits.
+fn numbers_fit(elements: &[u16], from: usize, to: usize, e: usize, rank: usize) -> bool
+    requires { ⌜ (from ≤ to) × (to ≤ length (now elements)) × (length (now elements) ≡ 18432) × (e ≤ 512) ⌝ }
+    ensures { λ r. ⌜ r ≡ numbersFit desk (now (elements .entry)) e rank (drop from (take to (now (elements .entry)))) ⌝ }
+{
+    let mut low = 0usize;
+    for i in from..to {
+        let x = wide(elements[i]);
+        if !number_fits(elements, x, low, e, rank) {
+            return false;
+        }
+        low = x + 1;
+    }
+    true
+}
+
+// The numbers of a face, whose edges are to go round: the ends of each are met in the same pass.
+fn face_fits(elements: &[u16], from: usize, to: usize, e: usize, met: &mut [u8; 512]) -> bool
+    requires { ⌜ (from ≤ to) × (to ≤ from + 32) × (to ≤ length (now elements)) × (length (now elements) ≡ 18432) × (e < 512) × EdgesLow (now elements) e × Unmet (stampOf e) (now met) ⌝ }
+    ensures { λ r. ⌜ (r ≡ faceWords desk (now (elements .entry)) e (drop from (take to (now (elements .entry))))) × (r ≡ true → Unmet (stampOf e + 2) (now (met .exit))) ⌝ }
+{
+    let stamp = stamp_of(e);
+    let mut low = 0usize;
+    let mut twice = 0usize;
+    for i in from..to {
+        let x = wide(elements[i]);
+        if !number_fits(elements, x, low, e, 2) {
+            return false;
+        }
+        twice = twice + meet_ends(elements, x, met, stamp);
+        low = x + 1;
+    }
+    twice == to - from
+}
+
+// More of them than the rank, rising, earlier, of rank one less, and closed.
+pub fn boundary_sound(
+    elements: &[u16],
+    at: usize,
+    n: usize,
+    e: usize,
+    rank: usize,
+    met: &mut [u8; 512],
+) -> bool
+    requires { ⌜ (length (now elements) ≡ 18432) × (at + n ≤ 18432) × (n ≤ 32) × (e < 512) × EdgesLow (now elements) e × Unmet (stampOf e) (now met) ⌝ }
+    ensures { λ r. ⌜ (r ≡ boundaryWords desk (now (elements .entry)) e rank (drop at (take (at + n) (now (elements .entry))))) × (r ≡ true → Unmet (stampOf e + 2) (now (met .exit))) ⌝ }
+{
+    if n <= rank {
+        return false;
+    }
+    if rank == 2 {
+        return face_fits(elements, at, at + n, e, met);
+    }
+    if rank == 1 {
+        // with the count as a number the loop is two tests and no loop
+        if n != 2 {
+            return false;
+        }
+        return numbers_fit(elements, at, at + 2, e, 1);
+    }
+    numbers_fit(elements, at, at + n, e, rank)
+}
