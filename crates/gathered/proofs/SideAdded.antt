@@ -1,35 +1,38 @@
 -- A side's set with the intersection, added with the old rank, hyperplane and mark: the call of rule 8 is the step of the rules.
+-- A side that is the element's own boundary needs no call: the step gives the element itself.
 use Prim.Native.Nat.{ℕ, _+_, _*_, _≤_, _<_}
 use mathlib.Core.Path.{_≡_, refl, sym, ap, _∙_, subst}
 use mathlib.Core.Bool.{Bool, true, false, not, _&&_, cond}
 use mathlib.Core.List.{List}
 use native.Mathlib.Nat.{le-trans}
 use native.Mathlib.Omega.{arith}
-use lib.Dec.{leb, eqb}
+use lib.Dec.{leb, eqb, lit≤}
 use lib.ListN.{length, getD, take}
+use lib.Seq.{getD-take, length-take-le, ext-getD}
 use lib.Ieee.{Float}
 use Rattle.rules.specs.Limits.{desk, noPlane}
-use Rattle.rules.specs.Table.{Element, corner, polytope, Table, planeOf, isPrimordial, element}
+use Rattle.rules.specs.Table.{Element, corner, polytope, Table, rankOf, planeOf, isPrimordial, element}
 use Rattle.rules.specs.Sound.{namesNone}
 use Rattle.rules.specs.Memory.{planeNumber, planeNamed}
 use Rattle.rules.specs.Held.{Holds, Came, went, SetOf, Ranked, AllOf, fitting}
-use Rattle.rules.specs.Cut.{Outcome, addPolytope, including, sideOfCut}
+use Rattle.rules.specs.Cut.{Outcome, done, given, addPolytope, including, sideOfCut}
 use Rattle.rules.specs.declared.ElementOrNone.{ElementOrNone}
 use Rattle.rules.specs.declared.ElementOrNone.the-variants.{None}
 use Rattle.rules.proofs.Good.{sound-good}
 use Rattle.rules.proofs.Growing.{all-get}
-use Rattle.rules.proofs.Laws.{le-test, and-right}
+use Rattle.rules.proofs.Laws.{le-test, and-left, and-right}
+use Rattle.rules.proofs.Missed.{own-polytope}
 use Rattle.rules.proofs.Ranked.{set-including}
 use Rattle.rules.proofs.RoundTrip.{plane-back}
 use Rattle.space.specs.Closed.{Low, LowEnds, Edges}
 use Rattle.space.specs.Shared.{PolytopeAdded}
 use Rattle.space.specs.declared.memo.Added.{Added}
 use Rattle.space.specs.declared.memo.Added.the-variants as added
-use Rattle.space.proofs.Room.{plane-word, mark-word}
+use Rattle.space.proofs.Room.{sizeOf, listOf, plane-word, mark-word, size-word, list-word}
 use Rattle.space.proofs.RowAdds.{readable-desk}
 use Rattle.space.proofs.Slices.{slices}
 use Rattle.gathered.specs.Sets.{sizeIn, members, SizedSet, InRoom, Included}
-use Rattle.gathered.specs.Cutting.{SideFit, SideReady, SideMade}
+use Rattle.gathered.specs.Cutting.{OwnBoundary, SideFit, SideReady, SideMade}
 use Rattle.gathered.proofs.Fitting.{some-fits, low-of, edges-of, ends-low, rank-low}
 
 marked : (b : Bool) → eqb (cond b 1 0) 1 ≡ b
@@ -40,6 +43,15 @@ marked false = refl
 plane-named : (z : Element) → fitting desk z ≡ true → planeNamed (planeNumber (planeOf z)) ≡ planeOf z
 plane-named (corner v) f = refl
 plane-named (polytope a b h c) f = plane-back desk readable-desk h (and-right (leb 1 a && leb (length b) 32) (not (eqb (planeNumber h) noPlane && not (namesNone h))) f)
+
+-- and has no more numbers than a row has places
+row-short : (z : Element) → fitting desk z ≡ true → sizeOf z ≤ 32
+row-short (corner v) f = lit≤ tt
+row-short (polytope a b h c) f = le-test (length b) 32 (and-right (leb 1 a) (leb (length b) 32) (and-left (leb 1 a && leb (length b) 32) _ f))
+
+list-size : (z : Element) → length (listOf z) ≡ sizeOf z
+list-size (corner v) = refl
+list-size (polytope a b h c) = refl
 
 module _ {cs es : List ℕ} {r e : ℕ} {set : List ℕ} {x : ElementOrNone} where
   -- what the calls ask for
@@ -81,10 +93,16 @@ module _ {cs es : List ℕ} {r e : ℕ} {set : List ℕ} {x : ElementOrNone} whe
   side-removed q = record { of = λ ps hs t F. went None t (ap (λ (b : Bool). sideOfCut desk b (element t e) x (members set) t) q) refl (F .holds) }
 
   module _ {ps hs : List Float} {t : Table} (F : SideFit cs ps hs es r e set x t) where
+    own-fits : fitting desk (element t e) ≡ true
+    own-fits = all-get (fitting desk) (t .elements) e (corner 0) (F .used) (F .holds .fits .kinds)
+
+    own-size : getD es (e * 36 + 3) 0 ≡ sizeOf (element t e)
+    own-size = ap (λ (l : List ℕ). getD l (e * 36 + 3) 0) (F .holds .elements) ∙ size-word desk t (F .holds .fits) e (F .used)
+
     own-plane : (plane : ℕ) → plane ≡ getD es (e * 36 + 2) 0 → planeNamed plane ≡ planeOf (element t e)
     own-plane plane p =
         ap planeNamed (p ∙ ap (λ (l : List ℕ). getD l (e * 36 + 2) 0) (F .holds .elements) ∙ plane-word desk t (F .holds .fits) e (F .used))
-        ∙ plane-named (element t e) (all-get (fitting desk) (t .elements) e (corner 0) (F .used) (F .holds .fits .kinds))
+        ∙ plane-named (element t e) own-fits
 
     own-mark : (mark : Bool) → mark ≡ eqb (getD es (e * 36 + 1) 0) 1 → mark ≡ isPrimordial (element t e)
     own-mark mark m =
@@ -95,6 +113,45 @@ module _ {cs es : List ℕ} {r e : ℕ} {set : List ℕ} {x : ElementOrNone} whe
     side-edges b q two =
         subst (Edges t) (sym q)
         (edges-of t (sound-good desk t (F .sound)) (including x (members set)) (subst (λ (n : ℕ). AllOf (Ranked t n) (including x (members set))) two (side-set F .ranked)))
+
+    -- the set's numbers are those of the row, so the search would find the element itself
+    module _ (all : List ℕ) (n : ℕ) (size : n ≡ sizeIn all) (I : Included set x all) (O : OwnBoundary es e all n) where
+      own-list : members all ≡ listOf (element t e)
+      own-list =
+          let most = I .sized 32 (F .sized) .most in
+          let long = I .sized 32 (F .sized) .long in
+          let taken = length-take-le (sizeIn all) all (let q : sizeIn all ≤ length all = omega (arith, most, long) in q) in
+          let count = sym (O .size) ∙ own-size ∙ sym (list-size (element t e)) in
+          let short = row-short (element t e) own-fits in
+          let listed = list-size (element t e) in
+          ext-getD 0 (members all) (listOf (element t e)) (taken ∙ sym size ∙ count)
+          (λ i l.
+          getD-take (sizeIn all) all i 0 (let q : i < sizeIn all = omega (arith, l, taken) in q)
+          ∙ O .same i (let q : i < n = omega (arith, l, taken, size) in q)
+          ∙ ap (λ (w : List ℕ). getD w (e * 36 + (4 + i)) 0) (F .holds .elements)
+          ∙ list-word desk t (F .holds .fits) e (F .used) i
+          (let q : i < length (listOf (element t e)) = omega (arith, l, taken, size, count) in q)
+          (let q : 4 + i < 36 = omega (arith, l, taken, size, count, listed, short) in q))
+
+      own-found : sideOfCut desk true (element t e) x (members set) t ≡ done (given e) t
+      own-found = go (element t e) refl (F .ranked)
+        where
+          go : (y : Element) → element t e ≡ y → rankOf y ≡ r → sideOfCut desk true y x (members set) t ≡ done (given e) t
+          go (corner v) own k = absurd (let some = F .some in let z : ⊥ = omega (arith, k, some) in z)
+          go (polytope a b h m) own k =
+              ap (λ (l : List ℕ). addPolytope desk a l h m t) (sym (I .of) ∙ own-list ∙ ap listOf own)
+              ∙ own-polytope desk t (sound-good desk t (F .sound)) e a b h m (F .used) own
+
+  -- what the look at the element's own row asks for
+  pub own-asks : SideReady cs es r e set x → (length es ≡ 18432) × (e < 512) × (getD es (e * 36 + 3) 0 ≤ 32)
+  own-asks R = (reads-ask R .0, reads-ask R .1, subst (λ (n : ℕ). n ≤ 32) (sym (own-size (R .fit))) (row-short (element (R .table) e) (own-fits (R .fit))))
+
+  pub side-own : {keep : Bool} (all : List ℕ) (n : ℕ) → n ≡ sizeIn all → keep ≡ true → Included set x all → OwnBoundary es e all n
+      → SideMade cs es r e keep set x (added.Made (given e)) cs es
+  side-own all n size q I O = record {
+    of = λ ps hs t F.
+        went (given e) t (ap (λ (b : Bool). sideOfCut desk b (element t e) x (members set) t) q ∙ own-found F all n size I O) refl (F .holds);
+  }
 
   pub side-kept : {keep : Bool} {y : Added} {cs′ es′ : List ℕ} (plane : ℕ) (mark : Bool) (all : List ℕ) (n : ℕ) → n ≡ sizeIn all → keep ≡ true
       → plane ≡ getD es (e * 36 + 2) 0 → mark ≡ eqb (getD es (e * 36 + 1) 0) 1 → Included set x all

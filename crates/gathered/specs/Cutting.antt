@@ -1,9 +1,9 @@
 -- When an element whose boundary has answered may go on, and what rules 6 to 8 then give: the steps of the rules. Definitions only.
-use Prim.Native.Nat.{ℕ, _-_, _≤_, _<_}
+use Prim.Native.Nat.{ℕ, _+_, _-_, _*_, _≤_, _<_}
 use mathlib.Core.Path.{_≡_}
 use mathlib.Core.Bool.{Bool, true}
 use mathlib.Core.List.{List}
-use lib.ListN.{length, take}
+use lib.ListN.{length, getD, take}
 use lib.Ieee.{Float}
 use Rattle.rules.specs.Limits.{desk}
 use Rattle.rules.specs.Table.{Table, elementCount, rank, element}
@@ -80,6 +80,11 @@ pub record SideReady (cs es : List ℕ) (r e : ℕ) (set : List ℕ) (x : Elemen
   pub planes : List Float
   pub table : Table
   pub fit : SideFit cs points planes es r e set x table
+
+-- the first n numbers of a list are the boundary that the row of element e has
+pub record OwnBoundary (es : List ℕ) (e : ℕ) (list : List ℕ) (n : ℕ) : Type 0 where
+  pub size : getD es (e * 36 + 3) 0 ≡ n
+  pub same : (j : ℕ) → j < n → getD list j 0 ≡ getD es (e * 36 + (4 + j)) 0
 
 -- whatever such table the memory holds: the side's step
 pub record SideMade (cs es : List ℕ) (r e : ℕ) (keep : Bool) (set : List ℕ) (x : ElementOrNone) (y : Added) (cs′ es′ : List ℕ) : Type 0 where

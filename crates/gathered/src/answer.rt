@@ -14,7 +14,8 @@ use space::words::NO_PLANE;
 use space::words::SET;
 use space::words::SIZE;
 use space::words::wide;
-ghost use Prim.Native.Nat.{_<_};
+ghost use Prim.Native.Nat.{_+_, _*_, _≤_, _<_};
+ghost use mathlib.Core.Bool.{true};
 ghost use mathlib.Core.Path.{_≡_};
 ghost use lib.Dec.{eqb};
 ghost use lib.ListN.{length, getD};
@@ -22,7 +23,7 @@ ghost use Rattle.rules.specs.Limits.{noPlane};
 ghost use Rattle.rules.specs.Lists.{if_then_else_};
 ghost use Rattle.space.specs.Chains.{Indexed};
 ghost use Rattle.gathered.specs.Sets.{answersIn};
-ghost use Rattle.gathered.specs.Cutting.{IntersectionReady, IntersectionMade, SideReady, SideMade, Rule7Ready, Rule7Done, Rule6Ready, Rule6Done};
+ghost use Rattle.gathered.specs.Cutting.{IntersectionReady, IntersectionMade, OwnBoundary, SideReady, SideMade, Rule7Ready, Rule7Done, Rule6Ready, Rule6Done};
 
 // The divider as given, its hyperplane's number, and which sides are kept.
 pub struct Cutter {
@@ -62,6 +63,22 @@ fn new_intersection(
     memo::add_polytope(counts, elements, index, rank - 1, set, n, plane, false)
 }
 
+// Whether the first n numbers of a set are the boundary that element e has already.
+fn is_own(elements: &[u16], e: ElementId, set: &[u16; SET], n: usize) -> bool
+    requires { ⌜ (length (now elements) ≡ 18432) × (e .0 < 512) × (getD (now elements) (e .0 * 36 + 3) 0 ≤ 32) ⌝ }
+    ensures { λ r. ⌜ (r ≡ true → OwnBoundary (now (elements .entry)) (e .0) (now (set .entry)) n) × (OwnBoundary (now (elements .entry)) (e .0) (now (set .entry)) n → r ≡ true) ⌝ }
+{
+    if rows::size_of(elements, e) != n {
+        return false;
+    }
+    for j in 0..n {
+        if rows::boundary_at(elements, e, j) != set[j] {
+            return false;
+        }
+    }
+    true
+}
+
 // A side's set and the intersection, with the old rank, hyperplane and mark; a removed side is none.
 fn side_of_cut(
     counts: &mut [u16],
@@ -83,6 +100,10 @@ fn side_of_cut(
     let mark = rows::is_primordial(elements, e);
     include(set, x);
     let n = wide(set[SIZE]);
+    // a side that lost nothing is the element itself, with no search for its row
+    if is_own(elements, e, set, n) {
+        return Added::Made(ElementOrNone::Some(e));
+    }
     memo::add_polytope(counts, elements, index, rank, set, n, plane, mark)
 }
 

@@ -129,16 +129,7 @@ clear-all t h side r (b ∷ bs) u k = (
 
 -- ---- an element that is missed
 
-module _ (L : Limits) (t : Table) (good : Good L t) (c : Cutting) where
-  -- an empty boundary gives none
-  empty-polytope : (r : ℕ) (h : Option ℕ) (m : Bool) → addPolytope L r [] h m t ≡ done None t
-  unfolding addPolytope
-  empty-polytope r h m = if-true (leb 0 r) _ _ (leb·zero r)
-
-  empty-side : (k : Bool) (y : Element) → sideOfCut L k y None [] t ≡ done None t
-  empty-side true y = empty-polytope (rankOf y) (planeOf y) (isPrimordial y)
-  empty-side false y = refl
-
+module _ (L : Limits) (t : Table) (good : Good L t) where
   module _ (e r : ℕ) (b : List ℕ) (h : Option ℕ) (m : Bool) (used : e < elementCount t) (own : element t e ≡ polytope r b h m) where
     found : find (sameElement (polytope r b h m)) (t .elements) ≡ some e
     found =
@@ -146,7 +137,7 @@ module _ (L : Limits) (t : Table) (good : Good L t) (c : Cutting) where
         (find-own sameElement element-self 0 e (t .elements) (corner 0) used (good .apart) ∙ ap {B = Option ℕ} some (zero-add e))
 
     -- its own boundary gives the element itself
-    own-polytope : addPolytope L r b h m t ≡ done (given e) t
+    pub own-polytope : addPolytope L r b h m t ≡ done (given e) t
     unfolding addPolytope addElement
     own-polytope =
         let w = whole-at L t e r b h m good used own .bound in
@@ -158,8 +149,19 @@ module _ (L : Limits) (t : Table) (good : Good L t) (c : Cutting) where
         ∙ if-false (not (closed t r b)) _ _ (ap not (w .tight))
         ∙ ap (λ (o : Option ℕ). next (shareElement L (polytope r b h m) o t) (λ i. give (given i))) found
 
+module _ (L : Limits) (t : Table) (good : Good L t) (c : Cutting) where
+  -- an empty boundary gives none
+  empty-polytope : (r : ℕ) (h : Option ℕ) (m : Bool) → addPolytope L r [] h m t ≡ done None t
+  unfolding addPolytope
+  empty-polytope r h m = if-true (leb 0 r) _ _ (leb·zero r)
+
+  empty-side : (k : Bool) (y : Element) → sideOfCut L k y None [] t ≡ done None t
+  empty-side true y = empty-polytope (rankOf y) (planeOf y) (isPrimordial y)
+  empty-side false y = refl
+
+  module _ (e r : ℕ) (b : List ℕ) (h : Option ℕ) (m : Bool) (used : e < elementCount t) (own : element t e ≡ polytope r b h m) where
     own-side : (k : Bool) → k ≡ true → sideOfCut L k (polytope r b h m) None b t ≡ done (given e) t
-    own-side true z = own-polytope
+    own-side true z = own-polytope L t good e r b h m used own
     own-side false z = absurd (false≢true z)
 
     own-rule7 : (inside : Bool) → keeps c inside ≡ true → rule7 L c (polytope r b h m) (gatheredBy inside b) None t ≡ done (cornerAnswer e (sideBy inside)) t

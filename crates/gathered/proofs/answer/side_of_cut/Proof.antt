@@ -1,5 +1,5 @@
--- A removed side is none; a kept one is a call of rule 8.
-use Rattle.gathered.proofs.SideAdded.{reads-ask, including-asks, side-asks, side-removed, side-kept}
+-- A removed side is none; a kept one that is the element's own boundary is the element, and any other is a call of rule 8.
+use Rattle.gathered.proofs.SideAdded.{reads-ask, including-asks, side-asks, own-asks, side-removed, side-own, side-kept}
 use borrow.Author.Tests.{not-true, not-false}
 use native.Mathlib.Omega.{arith}
 use borrow.Author.Needs.{needs}
@@ -24,13 +24,27 @@ element-copy-out-wide c = omega (arith, c .include .ensures .sized 32 (c .before
 wide-requires : tie.Need-wide-requires
 wide-requires c κs = search needs
 
-add-polytope-requires : tie.Need-add-polytope-requires
-add-polytope-requires c κs =
-    let asked = side-asks (c .before .before .before .before .before .before .before .before .before .before .before .before .before .before .before .before .pre .0) _ (c .before .before .before .before .before .before .include .ensures) _ (c .before .before .before .before .wide .ensures .0) in
-    (asked .0, asked .1, asked .2, asked .3, asked .4, asked .5, asked .6, asked .7, c .before .before .before .before .before .before .before .before .before .before .before .before .before .before .before .before .pre .1)
+is-own-requires : tie.Need-is-own-requires
+is-own-requires c κs = own-asks (c .before .before .before .before .before .before .before .before .before .before .before .before .before .before .pre .0)
 
 same-length : tie.Need-same-length
 same-length c = search needs
+
+returns-2 : tie.Need-returns-2
+returns-2 c =
+    let own = c .before in
+    let read = own .before .before .before in
+    let with = read .before .before in
+    let kept = with .before .before .before .before .before .before in
+    (side-own _ _ (read .wide .ensures .0) (not-false _ (kept .if1 .left)) (with .include .ensures) (own .is-own .ensures .0 (c .if2 .taken)), kept .before .before .before .before .pre .1)
+
+add-polytope-requires : tie.Need-add-polytope-requires
+add-polytope-requires c κs =
+    let read = c .before .before .before .before .before .before .before .before in
+    let with = read .before .before in
+    let start = with .before .before .before .before .before .before .before .before .before .before in
+    let asked = side-asks (start .pre .0) _ (with .include .ensures) _ (read .wide .ensures .0) in
+    (asked .0, asked .1, asked .2, asked .3, asked .4, asked .5, asked .6, asked .7, start .pre .1)
 
 same-length-2 : tie.Need-same-length-2
 same-length-2 c = search needs
@@ -38,8 +52,21 @@ same-length-2 c = search needs
 same-length-3 : tie.Need-same-length-3
 same-length-3 c = search needs
 
-returns-2 : tie.Need-returns-2
-returns-2 c = (side-kept _ _ _ _ (c .before .before .before .before .before .before .before .before .before .before .before .wide .ensures .0) (not-false _ (c .before .before .before .before .before .before .before .before .before .before .before .before .before .before .before .before .before .before .before .if1 .left)) (c .before .before .before .before .before .before .before .before .before .before .before .before .before .before .before .before .before .plane-of .ensures) (c .before .before .before .before .before .before .before .before .before .before .before .before .before .before .before .is-primordial .ensures) (c .before .before .before .before .before .before .before .before .before .before .before .before .before .include .ensures) (c .before .before .before .before .before .before .add-polytope .ensures .0), c .before .before .before .before .before .before .add-polytope .ensures .1)
+same-length-4 : tie.Need-same-length-4
+same-length-4 c = search needs
+
+returns-3 : tie.Need-returns-3
+returns-3 c =
+    let made = c .before .before .before .before .before .before in
+    let read = made .before .before .before .before .before .before .before .before .before in
+    let with = read .before .before in
+    let mark = with .before .before in
+    let plane = mark .before .before in
+    let kept = plane .before .before in (
+      side-kept _ _ _ _ (read .wide .ensures .0) (not-false _ (kept .if1 .left)) (plane .plane-of .ensures) (mark .is-primordial .ensures) (with .include .ensures)
+          (made .add-polytope .ensures .0),
+      made .add-polytope .ensures .1,
+    )
 
 pub side-of-cut-spec : {M : Type 1} → statement M
 side-of-cut-spec =
@@ -51,8 +78,11 @@ side-of-cut-spec =
     include-requires
     element-copy-out-wide
     wide-requires
-    add-polytope-requires
+    is-own-requires
     same-length
+    returns-2
+    add-polytope-requires
     same-length-2
     same-length-3
-    returns-2)
+    same-length-4
+    returns-3)
