@@ -4,18 +4,17 @@ use mathlib.Core.Bool.{Bool, not, _&&_, true, false}
 use mathlib.Core.List.{List, [], _∷_}
 use mathlib.Core.Path.{_≡_, sym, subst, refl, ap, ap₂, _∙_}
 use native.Mathlib.Nat.{not-suc-le-zero, le-of-suc-le-suc, le-trans, le-of-eq}
-use native.Mathlib.Numerals.{add-one}
 use native.Mathlib.Omega.{arith}
 use lib.Dec.{eqb, ltb, leb, lit≤}
 use lib.ListN.{length, drop, take, getD, length-drop}
-use lib.Seq.{getD-take, length-take-le, drop-drop, take-take, getD-drop}
+use lib.Seq.{getD-take, length-take-le, drop-drop, take-take}
 use Rattle.rules.specs.Limits.{noPlane, desk}
 use Rattle.rules.specs.Lists.{if_then_else_, all, rises}
-use Rattle.rules.proofs.Laws.{and-left, and-right, le-test, test-eq, eq-test, not-eq, unlike-eq}
+use Rattle.rules.proofs.Laws.{and-left, and-right, test-eq, eq-test, not-eq, unlike-eq}
 use Rattle.rules.proofs.Growing.{all-get}
 use Rattle.space.specs.Closed.{closedRaw, EndsLow}
-use Rattle.soundness.specs.Words.{facetWords, headWords, elementSound, numberFits, numbersFit, faceWords, boundaryWords, boundaryIn, EdgesLow}
 use Rattle.space.proofs.TwiceMet.{closed-one, closed-other}
+use Rattle.soundness.specs.Words.{facetWords, headWords, elementSound, numberFits, numbersFit, faceWords, boundaryWords, boundaryIn, EdgesLow}
 use Rattle.soundness.proofs.ReadBack.{and-one, and-zero}
 use Rattle.soundness.proofs.RowLoops.{head-few, drop-take, row-first, row-word}
 use borrow.Author.Tests.{ltb-true}

@@ -18,8 +18,8 @@ use Rattle.soundness.proofs.BoundaryLoops.{numbers-ends}
 
 -- ---- edge after edge
 
-module _ (es : List ℕ) (from to e : ℕ) (low : from ≤ to) (fit : to ≤ length es) where
-  abbrev pub edges : List ℕ
+module _ (es : List ℕ) (from to e : ℕ) (fit : to ≤ length es) where
+  abbrev edges : List ℕ
   edges = drop from (take to es)
 
   edges-long : length edges ≡ to - from

@@ -2,7 +2,7 @@
 use crate::rows::boundary_at;
 use crate::words::wide;
 use rules::ElementId;
-ghost use Prim.Native.Nat.{_+_, _*_, _<_, _≤_};
+ghost use Prim.Native.Nat.{_<_, _≤_};
 ghost use mathlib.Core.Path.{_≡_};
 ghost use lib.ListN.{length, take};
 ghost use Rattle.space.specs.Closed.{Low, LowEnds, EndsLow, metNext, meeting, isSecond, bothMet, seconds, closedRaw};

@@ -10,7 +10,7 @@ use lib.ListN.{drop, take}
 use native.Mathlib.Omega.{arith}
 use mathlib.Core.Path.{_≡_, sym, subst, _∙_}
 use mathlib.Core.Bool.{false≢true}
-use Prim.Native.Nat.{ℕ, _-_, _+_, _≤_}
+use Prim.Native.Nat.{ℕ, _-_, _≤_}
 -- The numbers that are left fit exactly when all do, until one does not; the ends of those before are met.
 use borrow.Author.Needs.{needs}
 use Rattle.soundness.proofs.boundaries.face_fits.Statement.{statement}
@@ -90,7 +90,7 @@ loop-again c =
       search needs,
       at .inv .2,
       fits-go (a .elements .now) (a .to) (a .e) 2 (p .2) (at .low) (at .i) _ (at .inv .3) (c .before .before .before .before .wide .ensures .0) (c .before .before .before .before .before .before .loop-test .taken) fits,
-      face-go (a .elements .now) (a .from) (a .to) (a .e) (p .0) (p .2) (at .met) _ (at .twice) (at .i) _ _ (stampOf (a .e)) _ (at .inv .4) (at .inv .0) (c .before .before .before .before .before .before .loop-test .taken) (c .before .before .before .before .wide .ensures .0)
+      face-go (a .elements .now) (a .from) (a .to) (a .e) (p .2) (at .met) _ (at .twice) (at .i) _ _ (stampOf (a .e)) _ (at .inv .4) (at .inv .0) (c .before .before .before .before .before .before .loop-test .taken) (c .before .before .before .before .wide .ensures .0)
           (number-ends (a .elements .now) (a .e) (p .5) (at .low) _ fits) (at .inv .2) (c .meet-ends .ensures .0) (c .meet-ends .ensures .1),
     )
 
@@ -103,7 +103,7 @@ returns-2 c =
     let p = c .before .before .before .before .pre in
     let at = c .before .loop in
     let e : at .i ≡ a .to = omega (arith, at .inv .1, c .loop-test .left) in (
-      face-end (a .elements .now) (a .from) (a .to) (a .e) (p .0) (p .2) (at .met) (at .twice) (at .i) (stampOf (a .e)) (at .inv .4) e (p .5)
+      face-end (a .elements .now) (a .from) (a .to) (a .e) (p .2) (at .met) (at .twice) (at .i) (stampOf (a .e)) (at .inv .4) e (p .5)
           (fits-end (a .elements .now) (a .to) (a .e) 2 (p .2) (at .low) (at .i) (at .inv .3) (c .loop-test .left)),
       λ t. round-out _ _ (stampOf (a .e)) (at .met) _ _ (at .inv .4),
     )

@@ -5,7 +5,7 @@ use Rattle.rules.proofs.Laws.{not-eq, test-eq, test-le}
 use lib.ListN.{getD}
 use mathlib.Core.Path.{sym, refl}
 use mathlib.Core.Bool.{false, true}
-use Prim.Native.Nat.{_+_, ℕ}
+use Prim.Native.Nat.{_+_}
 -- The answer is read off the tests that were taken, those of a vertex element or those of a polytope.
 use borrow.Author.Needs.{needs}
 use Rattle.soundness.proofs.sound.head_sound.Statement.{statement}
