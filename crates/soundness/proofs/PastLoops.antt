@@ -1,16 +1,17 @@
 -- The mask, and the loop over all the room of a boundary, in which it leaves out the first n words: the words past them join
 -- what was seen before, place by place, so nothing is seen afterwards exactly when nothing was before and nothing stands there.
-use Prim.Native.Nat.{ℕ, zero, suc, _+_, _-_, _≤_, _<_}
+use Prim.Native.Nat.{ℕ, suc, _+_, _-_, _≤_, _<_}
 use mathlib.Core.Path.{_≡_, refl, sym, ap, ap₂, _∙_}
 use mathlib.Core.Bool.{Bool, true, false, cond, _&&_}
 use mathlib.Core.List.{List, [], _∷_}
-use native.Mathlib.Nat.{not-suc-le-zero, le-of-suc-le-suc, zero-lt-suc}
+use native.Mathlib.Nat.{not-suc-le-zero, zero-lt-suc}
 use native.Mathlib.Omega.{arith}
 use lib.Bits.{bitOr}
 use lib.Dec.{eqb, ltb}
 use lib.ListN.{length, getD, take, drop, set, replicate, getD-replicate, length-set, length-drop}
 use lib.Seq.{getD-set-same, getD-set-other, getD-take, getD-drop, length-take-le}
 use borrow.Author.Tests.{lt-ltb, le-ltb, ltb-true, ltb-false}
+use Rattle.rules.proofs.Growing.{all-get}
 use Rattle.rules.proofs.Laws.{eq-test, test-eq, unlike-eq, and-left, and-right}
 use Rattle.space.proofs.NoBits.{no-bits}
 use Rattle.space.proofs.SameRows.{bool-both}
@@ -56,9 +57,7 @@ pub record Joining (es : List ℕ) (at n : ℕ) (seen₀ seen : List ℕ) (j : �
   pub still : (k : ℕ) → j ≤ k → getD seen k 0 ≡ getD seen₀ k 0
 
 blank-at : (l : List ℕ) (k : ℕ) → blank l ≡ true → k < length l → getD l k 0 ≡ 0
-blank-at [] k h l = absurd (not-suc-le-zero l)
-blank-at (x ∷ xs) zero h l = sym (eq-test 0 x (and-left (eqb 0 x) (blank xs) h))
-blank-at (x ∷ xs) (suc k) h l = blank-at xs k (and-right (eqb 0 x) (blank xs) h) (le-of-suc-le-suc l)
+blank-at l k h i = sym (eq-test 0 (getD l k 0) (all-get (eqb 0) l k 0 i h))
 
 at-blank : (l : List ℕ) → ((k : ℕ) → k < length l → getD l k 0 ≡ 0) → blank l ≡ true
 at-blank [] h = refl
