@@ -1,11 +1,16 @@
 -- Equal bits: as data there is one NaN, and of the others the bits tell the value, since a value of the format is what its bits stand for.
 use mathlib.Core.Path.{_≡_, refl, sym, ap, _∙_, subst}
-use mathlib.Core.Bool.{Bool, true, false, not, _||_, true≢false, false≢true}
-use lib.Dec.{T, eqb}
-use lib.Ieee.{Float, nan, inf, fin, binary64, sub, ne, isNan, fits, toBits, ofBits}
+use Prim.Native.Nat.{ℕ, _*_, _-_, _<_}
+use mathlib.Core.Bool.{Bool, true, false, not, cond, _&&_, _||_, true≢false, false≢true}
+use native.Mathlib.Nat.{lt-irrefl, mul-pos}
+use native.Mathlib.Omega.{arith}
+use lib.Dec.{T, eqb, ltb, ltb→lt}
+use lib.Ieee.{Float, nan, inf, fin, binary64, up, down, round, sum, add, neg, sub, le, ne, isNan, fits, toBits, ofBits}
 use lib.Ieee.Bits.{ofBits-toBits}
 use lib.Ieee.Compare.{differs-from-itself, nan-differs}
-use Rattle.rules.specs.Floats.{tolerance, within, sameBits, matches}
+use lib.Ieee.Fits.{down-pos}
+use lib.Ieee.Scale.{round-same}
+use Rattle.rules.specs.Floats.{plusZero, tolerance, within, sameBits, matches}
 use Rattle.rules.proofs.Laws.{truly, falsely, eq-test, eqb-self, refute}
 use Rattle.rules.proofs.Selves.{bits-self, same-float}
 
@@ -76,3 +81,42 @@ match-bits a b h = sym (first (sameBits a b) (within tolerance (sub binary64 a b
     first : (p q : Bool) → q ≡ false → (p || q) ≡ p
     first true q e = refl
     first false q e = e
+
+rounded-zero : round binary64 false 0 1 ≡ plusZero
+unfolding round
+rounded-zero = refl
+
+zero-near : within tolerance plusZero ≡ true
+unfolding within le neg
+zero-near = refl
+
+-- a number less itself is +0
+nothing-left : (s : Bool) (a c : ℕ) → 0 < c → sum binary64 s a (not s) a c ≡ plusZero
+unfolding sum
+nothing-left s a c p = go s
+  where
+    rounded : round binary64 false (a - a) c ≡ plusZero
+    rounded = round-same binary64 false (a - a) c 0 1 p (omega arith) (let z : (a - a) * 1 ≡ 0 * c = omega arith in z) ∙ rounded-zero
+
+    no-less : ltb a a ≡ false
+    no-less = refute (ltb a a) (λ q. lt-irrefl a (ltb→lt a a (truly _ q)))
+
+    go : (b : Bool) → sum binary64 b a (not b) a c ≡ plusZero
+    go true = ap (λ (q : Bool). cond q (round binary64 false (a - a) c) (round binary64 (true && q) (a - a) c)) no-less ∙ rounded
+    go false = ap (λ (q : Bool). cond q (round binary64 true (a - a) c) (round binary64 (false && q) (a - a) c)) no-less ∙ rounded
+
+-- numbers with equal bits have no gap: only an infinity or a NaN is too far from itself, by a gap that is no number
+gap-of-same : (x : Float) → within tolerance (sub binary64 x x) ≡ false → isNan (sub binary64 x x) ≡ true
+unfolding sub add neg isNan
+gap-of-same nan h = refl
+gap-of-same (inf true) h = refl
+gap-of-same (inf false) h = refl
+gap-of-same (fin s m e) h =
+    absurd (true≢false (sym (ap (within tolerance) (nothing-left s (m * up e * down e) (down e * down e) (mul-pos (down-pos e) (down-pos e))) ∙ zero-near) ∙ h))
+
+pub match-far : (a b : Float) → within tolerance (sub binary64 a b) ≡ false → ne (sub binary64 a b) (sub binary64 a b) ≡ false → false ≡ matches a b
+match-far a b h k =
+    sym (refute (sameBits a b) (λ q.
+        true≢false (sym (gap-of-same a (ap (λ (y : Float). within tolerance (sub binary64 a y)) (same-float a b q) ∙ h))
+        ∙ ap (λ (y : Float). isNan (sub binary64 a y)) (same-float a b q) ∙ sym (differs (sub binary64 a b)) ∙ k)))
+    ∙ match-bits a b h

@@ -306,10 +306,15 @@ pub fn is_zero_bits(x: f64) -> bool
 pub fn coordinates_match(earlier: f64, later: f64) -> bool
     ensures { λ r. ⌜ r ≡ floats.matches earlier later ⌝ }
 {
-    if is_within(TOLERANCE, earlier - later) {
+    let gap = earlier - later;
+    if is_within(TOLERANCE, gap) {
         return true;
     }
-    same_bits(earlier, later)
+    // numbers with equal bits have no gap, so the bits are asked only where the gap is no number
+    if gap != gap {
+        return same_bits(earlier, later);
+    }
+    false
 }
 
 // Whether two points match on every axis of the dimension.

@@ -9,9 +9,9 @@ use lib.ListN.{length, getD, take, drop, set}
 abbrev pub rowAt : List ℕ → ℕ → List ℕ
 rowAt es j = take 36 (drop (j * 36) es)
 
--- equal rows have equal keys
+-- a row's first two boundary numbers, mixed: equal rows have equal keys, and other rows seldom do
 unfoldable pub keyOf : List ℕ → ℕ
-keyOf row = getD row 4 0 % 512
+keyOf row = (getD row 4 0 * 37 + getD row 5 0) % 1024
 
 -- the row that a number of the index names: one less than it, or none
 abbrev pub numberOf : ℕ → Option ℕ
@@ -25,10 +25,10 @@ pub record Last (es : List ℕ) (m k x : ℕ) : Type 0 where
 
 -- the index of the first n rows: a chain's start for each key, and a link for each row
 pub record Indexed (es : List ℕ) (n : ℕ) (ix : List ℕ) : Type 0 where
-  pub long : length ix ≡ 1024
-  pub starts : (k : ℕ) → k < 512 → Last es n k (getD ix k 0)
-  pub links : (j : ℕ) → j < n → Last es j (keyOf (rowAt es j)) (getD ix (512 + j) 0)
+  pub long : length ix ≡ 1536
+  pub starts : (k : ℕ) → k < 1024 → Last es n k (getD ix k 0)
+  pub links : (j : ℕ) → j < n → Last es j (keyOf (rowAt es j)) (getD ix (1024 + j) 0)
 
 -- the index with row n as the start of the chain of key k
 abbrev pub joined : List ℕ → ℕ → ℕ → List ℕ
-joined ix k n = set (set ix (512 + n) (getD ix k 0)) k (n + 1)
+joined ix k n = set (set ix (1024 + n) (getD ix k 0)) k (n + 1)

@@ -12,10 +12,13 @@ ghost use Rattle.space.specs.Chains.{keyOf, Indexed, numberOf, joined};
 ghost use Rattle.space.specs.Found.{elementNumber};
 
 // Room for a chain's start for each key, and for a link for each row behind them.
-const KEYS: usize = 512;
+const KEYS: usize = 1024;
+
+// A first number is spread so far over the keys, so that rows that share it stand on other chains.
+const SPREAD: usize = 37;
 
 // The words of the index.
-pub const INDEX: usize = 1024;
+pub const INDEX: usize = 1536;
 
 // The lowest element whose row is the given one, or none.
 pub enum FoundElement {
@@ -23,12 +26,14 @@ pub enum FoundElement {
     At(ElementId),
 }
 
-// The row's first boundary number, which equal rows share; a remainder, so that any word is a place in the index.
+// The row's first two boundary numbers, mixed: equal rows share it. A remainder, so that any words are a place in the index.
 pub fn key_of(words: &[u16], at: usize) -> usize
     requires { ⌜ at + 36 ≤ length (now words) ⌝ }
-    ensures { λ r. ⌜ (r ≡ keyOf (take 36 (drop at (now (words .entry))))) × (r < 512) ⌝ }
+    ensures { λ r. ⌜ (r ≡ keyOf (take 36 (drop at (now (words .entry))))) × (r < 1024) ⌝ }
 {
-    wide(words[at + 4]) % KEYS
+    let first = wide(words[at + 4]);
+    let second = wide(words[at + 5]);
+    (first * SPREAD + second) % KEYS
 }
 
 // The row that stands at a place of some words is the table's row.
@@ -36,8 +41,8 @@ fn same_row(elements: &[u16], at: usize, words: &[u16], from: usize) -> bool
     requires { ⌜ (at + 36 ≤ length (now elements)) × (from + 36 ≤ length (now words)) ⌝ }
     ensures { λ r. ⌜ r ≡ alike eqb (take 36 (drop from (now (words .entry)))) (take 36 (drop at (now (elements .entry)))) ⌝ }
 {
-    // rows on one chain share their first boundary number, and nearly always differ in the second
-    if words[from + 5] != elements[at + 5] {
+    // rows on one chain nearly always are told apart by their first boundary number
+    if words[from + 4] != elements[at + 4] {
         return false;
     }
     // no exit here, so that many words are compared at once
@@ -83,7 +88,7 @@ pub fn find_row(
 
 // Row n is the new start of its key's chain.
 pub fn join(index: &mut [u16], key: usize, n: usize)
-    requires { ⌜ (length (now index) ≡ 1024) × (key < 512) × (n < 512) ⌝ }
+    requires { ⌜ (length (now index) ≡ 1536) × (key < 1024) × (n < 512) ⌝ }
     ensures { λ r. ⌜ now (index .exit) ≡ joined (now (index .entry)) key n ⌝ }
 {
     index[KEYS + n] = index[key];

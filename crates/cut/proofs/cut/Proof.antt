@@ -1,11 +1,9 @@
 -- 3, 4, 5, rule 1 and the rules from 2 on: each way the code goes is a case of the reply. `four`: a normal by value has four components.
 use mathlib.Core.Bool.{true}
-use mathlib.Core.Path.{refl, sym, _∙_}
-use native.Mathlib.Nat.{le-trans}
+use mathlib.Core.Path.{sym, _∙_}
 use native.Mathlib.Omega.{arith}
-use lib.ListN.{length-map, replicate, getD-replicate}
-use lib.Dec.{lit≤}
-use Rattle.space.proofs.Indexing.{index-none}
+use lib.ListN.{length-map}
+use Rattle.space.proofs.Indexing.{index-blank}
 use Rattle.cut.proofs.Replies.{unsound, counts-four, unused, not-unit, cut-ready, unfit, all-inside, all-outside, replied-as}
 use borrow.Author.Tests.{not-true, not-false}
 use borrow.Author.Needs.{needs}
@@ -16,7 +14,7 @@ slice-aggregate-memory-indexed : tie.Need-slice-aggregate-memory-indexed
 slice-aggregate-memory-indexed c = search needs
 
 memory-indexed-requires : tie.Need-memory-indexed-requires
-memory-indexed-requires c κs = index-none _ (replicate 1024 0) refl (λ k h. getD-replicate 1024 k 0 0 (le-trans h (lit≤ tt)))
+memory-indexed-requires c κs = index-blank _
 
 same-length : tie.Need-same-length
 same-length c = search needs

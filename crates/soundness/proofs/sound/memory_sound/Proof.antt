@@ -1,9 +1,5 @@
 -- The index starts empty.
-use mathlib.Core.Path.{refl}
-use native.Mathlib.Nat.{le-trans}
-use lib.Dec.{lit≤}
-use lib.ListN.{getD-replicate, replicate}
-use Rattle.space.proofs.Indexing.{index-none}
+use Rattle.space.proofs.Indexing.{index-blank}
 use borrow.Author.Needs.{needs}
 use Rattle.soundness.proofs.sound.memory_sound.Statement.{statement}
 use Rattle.soundness.proofs.sound.memory_sound.Tie as tie
@@ -12,7 +8,7 @@ slice-aggregate-memory-indexed : tie.Need-slice-aggregate-memory-indexed
 slice-aggregate-memory-indexed c = search needs
 
 memory-indexed-requires : tie.Need-memory-indexed-requires
-memory-indexed-requires c κs = index-none _ (replicate 1024 0) refl (λ k h. getD-replicate 1024 k 0 0 (le-trans h (lit≤ tt)))
+memory-indexed-requires c κs = index-blank _
 
 returns : tie.Need-returns
 returns c = c .before .memory-indexed .ensures .0

@@ -1,8 +1,8 @@
--- The fifth word of the row.
-use Prim.Native.Nat.{ℕ, _%_}
-use mathlib.Core.Path.{ap, _∙_}
+-- The fifth and the sixth word of the row, mixed.
+use Prim.Native.Nat.{ℕ, _+_, _*_, _%_}
+use mathlib.Core.Path.{ap₂, _∙_}
 use native.Mathlib.Omega.{arith}
-use Rattle.space.proofs.Indexing.{key-word}
+use Rattle.space.proofs.Indexing.{key-words}
 use borrow.Author.Needs.{needs}
 use Rattle.space.proofs.chains.key_of.Statement.{statement}
 use Rattle.space.proofs.chains.key_of.Tie as tie
@@ -19,8 +19,41 @@ shared-slice-read-wide c = search needs
 wide-requires : tie.Need-wide-requires
 wide-requires c κs = search needs
 
+add-wide-2 : tie.Need-add-wide-2
+add-wide-2 c = search needs
+
+mul-wide-2 : tie.Need-mul-wide-2
+mul-wide-2 c = search needs
+
+shared-slice-read-wide-2 : tie.Need-shared-slice-read-wide-2
+shared-slice-read-wide-2 c = search needs
+
+wide-requires-2 : tie.Need-wide-requires-2
+wide-requires-2 c κs = search needs
+
+mul-result : tie.Need-mul-result
+mul-result c = search needs
+
+add-result : tie.Need-add-result
+add-result c = search needs
+
 returns : tie.Need-returns
-returns c = (ap (λ (w : ℕ). w % 512) (c .wide .ensures .0) ∙ key-word (c .before .before .before .args .words .now) (c .before .before .before .args .at), omega arith)
+returns c =
+    let a = c .before .before .before .before .before .args in
+    (ap₂ (λ (v w : ℕ). (v * 37 + w) % 1024) (c .before .before .wide .ensures .0) (c .wide2 .ensures .0) ∙ key-words (a .words .now) (a .at), omega arith)
 
 pub key-of-spec : {M : Type 1} → statement M
-key-of-spec = tie.close (tie.spec add-wide mul-wide shared-slice-read-wide wide-requires returns)
+key-of-spec =
+    tie.close
+    (tie.spec
+    add-wide
+    mul-wide
+    shared-slice-read-wide
+    wide-requires
+    add-wide-2
+    mul-wide-2
+    shared-slice-read-wide-2
+    wide-requires-2
+    mul-result
+    add-result
+    returns)

@@ -41,7 +41,7 @@ returns : tie.Need-returns Inv-loop μ-loop
 returns c =
     let a = c .before .before .before .args in
     let p = c .before .before .before .pre in
-    unlike-at (a .elements .now) (a .words .now) (a .at) (a .from) (p .1) (p .0) 5 (omega arith) (ne-eqb _ _ (c .if1 .taken))
+    unlike-at (a .elements .now) (a .words .now) (a .at) (a .from) (p .1) (p .0) 4 (omega arith) (ne-eqb _ _ (c .if1 .taken))
 
 loop-holds : tie.Need-loop-holds Inv-loop μ-loop
 loop-holds c = (search needs, refl)
