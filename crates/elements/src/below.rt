@@ -3,7 +3,6 @@ use crate::marks::Marks;
 use crate::marks::down_to;
 use crate::marks::mark;
 use crate::marks::marked;
-use crate::marks::no_marks;
 use rules::ElementId;
 use space::rows::boundary_at;
 use space::rows::rank_of;
@@ -13,31 +12,29 @@ ghost use mathlib.Core.Path.{_≡_};
 ghost use Rattle.elements.specs.Marks.{markingAll};
 ghost use Rattle.elements.specs.Below.{boundaryWords, BoundaryReady, Used, Onward, Below};
 
-fn mark_boundary(elements: &[u16], e: ElementId, s: Marks) -> Marks
+fn mark_boundary(elements: &[u16], e: ElementId, words: &mut [u64; 8])
     requires { ⌜ BoundaryReady (now elements) (e .0) ⌝ }
-    ensures { λ r. ⌜ r .words ≡ markingAll (s .words) (boundaryWords (now (elements .entry)) (e .0)) ⌝ }
+    ensures { λ _. ⌜ now (words .exit) ≡ markingAll (now (words .entry)) (boundaryWords (now (elements .entry)) (e .0)) ⌝ }
 {
     let n = size_of(elements, e);
-    let mut out = s;
     for i in 0..n {
         let x = wide(boundary_at(elements, e, i));
-        out = mark(out, x);
+        mark(words, x);
     }
-    out
 }
 
 // A vertex has no boundary: its row has its vertex's number there, which is no element's.
-fn onward(elements: &[u16], e: ElementId, s: Marks) -> Marks
+fn onward(elements: &[u16], e: ElementId, words: &mut [u64; 8])
     requires { ⌜ Used (now elements) (e .0) ⌝ }
-    ensures { λ r. ⌜ Onward (now (elements .entry)) (e .0) (s .words) (r .words) ⌝ }
+    ensures { λ _. ⌜ Onward (now (elements .entry)) (e .0) (now (words .entry)) (now (words .exit)) ⌝ }
 {
-    if !marked(s, e.0) {
-        return s;
+    if !marked(words, e.0) {
+        return;
     }
     if rank_of(elements, e) == 0 {
-        return s;
+        return;
     }
-    mark_boundary(elements, e, s)
+    mark_boundary(elements, e, words);
 }
 
 // The root and all below it.
@@ -45,12 +42,13 @@ pub fn below(elements: &[u16], root: ElementId) -> Marks
     requires { ⌜ Used (now elements) (root .0) ⌝ }
     ensures { λ r. ⌜ Below (now (elements .entry)) (root .0) (r .words) ⌝ }
 {
-    let mut s = mark(no_marks(), root.0);
+    let mut words = [0u64; 8];
+    mark(&mut words, root.0);
     let mut left = root.0 + 1;
     while 0 < left {
-        let e = down_to(s, left - 1);
-        s = onward(elements, ElementId(e), s);
+        let e = down_to(&words, left - 1);
+        onward(elements, ElementId(e), &mut words);
         left = e;
     }
-    s
+    Marks { words }
 }

@@ -23,22 +23,20 @@ pub fn no_marks() -> Marks
     Marks { words }
 }
 
-pub fn mark(s: Marks, i: usize) -> Marks
+// The words are lent, so that a mark writes one of them and copies none.
+pub fn mark(words: &mut [u64; 8], i: usize)
     requires { ⌜ i < 512 ⌝ }
-    ensures { λ r. ⌜ r .words ≡ marking (s .words) i ⌝ }
+    ensures { λ _. ⌜ now (words .exit) ≡ marking (now (words .entry)) i ⌝ }
 {
-    let mut words = s.words;
     let w = i / BITS;
     let b = i % BITS;
     words[w] = words[w] | (1u64 << b);
-    Marks { words }
 }
 
-pub fn marked(s: Marks, i: usize) -> bool
+pub fn marked(words: &[u64; 8], i: usize) -> bool
     requires { ⌜ i < 512 ⌝ }
-    ensures { λ r. ⌜ r ≡ isMarked (s .words) i ⌝ }
+    ensures { λ r. ⌜ r ≡ isMarked (now (words .entry)) i ⌝ }
 {
-    let words = s.words;
     let w = i / BITS;
     let b = i % BITS;
     (words[w] >> b) & 1 == 1
@@ -75,11 +73,10 @@ fn zeros_above(x: u64) -> usize
 }
 
 // From a number down to the next mark, or to its word's first number: what lies between is not marked.
-pub fn down_to(s: Marks, i: usize) -> usize
+pub fn down_to(words: &[u64; 8], i: usize) -> usize
     requires { ⌜ i < 512 ⌝ }
-    ensures { λ r. ⌜ DownTo (s .words) i r ⌝ }
+    ensures { λ r. ⌜ DownTo (now (words .entry)) i r ⌝ }
 {
-    let words = s.words;
     let b = i % BITS;
     let z = zeros_above(words[i / BITS] << (63 - b));
     if z < b { i - z } else { i - b }

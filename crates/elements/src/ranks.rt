@@ -13,31 +13,32 @@ ghost use mathlib.Core.Path.{_≡_};
 ghost use lib.ListN.{length};
 ghost use Rattle.elements.specs.Ranks.{oneMore, OfRank, Greatest};
 
-fn add_ranked(elements: &[u16], s: Marks, rank: usize, e: ElementId, out: Marks) -> Marks
+fn add_ranked(elements: &[u16], set: &[u64; 8], rank: usize, e: ElementId, out: &mut [u64; 8])
     requires { ⌜ (length (now elements) ≡ 18432) × (e .0 < 512) ⌝ }
-    ensures { λ r. ⌜ r .words ≡ oneMore (now (elements .entry)) (s .words) rank (e .0) (out .words) ⌝ }
+    ensures { λ _. ⌜ now (out .exit) ≡ oneMore (now (elements .entry)) (now (set .entry)) rank (e .0) (now (out .entry)) ⌝ }
 {
-    if !marked(s, e.0) {
-        return out;
+    if !marked(set, e.0) {
+        return;
     }
     if rank_of(elements, e) != rank {
-        return out;
+        return;
     }
-    mark(out, e.0)
+    mark(out, e.0);
 }
 
 pub fn with_rank(elements: &[u16], s: Marks, rank: usize) -> Marks
     requires { ⌜ length (now elements) ≡ 18432 ⌝ }
     ensures { λ r. ⌜ OfRank (now (elements .entry)) (s .words) rank (r .words) ⌝ }
 {
-    let mut out = no_marks();
+    let set = s.words;
+    let mut words = [0u64; 8];
     let mut left = ELEMENTS;
     while 0 < left {
-        let e = down_to(s, left - 1);
-        out = add_ranked(elements, s, rank, ElementId(e), out);
+        let e = down_to(&set, left - 1);
+        add_ranked(elements, &set, rank, ElementId(e), &mut words);
         left = e;
     }
-    out
+    Marks { words }
 }
 
 // Down rank by rank until some are marked; rank 0 is never looked at.

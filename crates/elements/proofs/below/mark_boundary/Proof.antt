@@ -10,10 +10,10 @@ use Rattle.elements.proofs.below.mark_boundary.Statement.{statement}
 use Rattle.elements.proofs.below.mark_boundary.Tie as tie
 
 abbrev Inv-loop : tie.InvT-loop
-Inv-loop elements e n out₀ i₀ out i = (i ≤ n) × (n ≡ getD elements (e .0 * 36 + 3) 0) × BoundaryReady elements (e .0) × Marking elements (e .0) n (out₀ .words) (out .words) i
+Inv-loop elements e words₀ n i₀ words i = (i ≤ n) × (n ≡ getD elements (e .0 * 36 + 3) 0) × BoundaryReady elements (e .0) × Marking elements (e .0) n words₀ words i
 
 abbrev μ-loop : tie.MeasureT-loop
-μ-loop elements e n out₀ i₀ out i = n - i
+μ-loop elements e words₀ n i₀ words i = n - i
 
 size-of-requires : tie.Need-size-of-requires Inv-loop μ-loop
 size-of-requires c κs = (c .before .pre .long, c .before .pre .inRoom)
@@ -32,9 +32,9 @@ wide-requires c κs = search needs
 
 mark-requires : tie.Need-mark-requires Inv-loop μ-loop
 mark-requires c κs =
-    let at = c .before .before .before .loop in
+    let at = c .before .before .before .before .loop in
     let q = at .inv .2 .low (at .i) (let l = at .inv .1 in search (needs, l)) in
-    let e = c .wide .ensures .0 ∙ c .before .boundary-at .ensures in
+    let e = c .before .wide .ensures .0 ∙ c .before .before .boundary-at .ensures in
     omega (arith, q, e)
 
 add-i : tie.Need-add-i Inv-loop μ-loop
@@ -45,8 +45,8 @@ loop-less c = search needs
 
 loop-again : tie.Need-loop-again Inv-loop μ-loop
 loop-again c =
-    let at = c .before .before .before .before .loop in
-    (search needs, at .inv .1, at .inv .2, marking-next _ _ _ _ _ _ (at .inv .3) _ _ (search needs) (c .before .wide .ensures .0 ∙ c .before .before .boundary-at .ensures) (c .mark .ensures))
+    let at = c .before .before .before .before .before .loop in
+    (search needs, at .inv .1, at .inv .2, marking-next _ _ _ _ _ _ (at .inv .3) _ _ (search needs) (c .before .before .wide .ensures .0 ∙ c .before .before .before .boundary-at .ensures) (c .mark .ensures))
 
 returns : tie.Need-returns Inv-loop μ-loop
 returns c = marking-end _ _ _ _ _ _ (c .before .loop .inv .3) (omega arith)

@@ -13,21 +13,23 @@ returns : tie.Need-returns
 returns c = record { of = λ t l u root P. not-below _ t l _ u root _ P (sym (c .before .marked .ensures) ∙ not-true _ (c .if1 .taken)) }
 
 rank-of-requires : tie.Need-rank-of-requires
-rank-of-requires c κs = (lent-long _ _ (c .before .before .before .pre .lent), in-room _ _ (c .before .before .before .pre .lent) _ (c .before .before .before .pre .used))
+rank-of-requires c κs =
+    let p = c .before .before .before .before .pre in
+    (lent-long _ _ (p .lent), in-room _ _ (p .lent) _ (p .used))
 
 returns-2 : tie.Need-returns-2
 returns-2 c = record { of = λ t l u root P. a-vertex _ t l _ u root _ P (sym (c .before .rank-of .ensures) ∙ c .if2 .taken) }
 
 mark-boundary-requires : tie.Need-mark-boundary-requires
 mark-boundary-requires c κs =
-    let p = c .before .before .before .before .before .pre in
-    boundary-ready _ _ (p .lent) _ (p .used) (polytope-ranked _ _ (p .lent) _ (p .used) (λ q. c .if2 .left (c .before .rank-of .ensures ∙ q)))
+    let p = c .before .before .before .before .before .before .before .pre in
+    boundary-ready _ _ (p .lent) _ (p .used) (polytope-ranked _ _ (p .lent) _ (p .used) (λ q. c .before .if2 .left (c .before .before .rank-of .ensures ∙ q)))
 
 returns-3 : tie.Need-returns-3
 returns-3 c =
-    let m = sym (c .before .before .before .before .marked .ensures) ∙ not-false _ (c .before .before .before .if1 .left) in
-    let rank-of = c .before .before .rank-of .ensures in
-    record { of = λ t l u root P. go-on _ t l _ u root _ P m (λ q. c .before .if2 .left (rank-of ∙ q)) _ (c .mark-boundary .ensures) }
+    let m = sym (c .before .before .before .before .before .marked .ensures) ∙ not-false _ (c .before .before .before .before .if1 .left) in
+    let rank-of = c .before .before .before .rank-of .ensures in
+    record { of = λ t l u root P. go-on _ t l _ u root _ P m (λ q. c .before .before .if2 .left (rank-of ∙ q)) _ (c .mark-boundary .ensures) }
 
 pub onward-spec : {M : Type 1} → statement M
 onward-spec =

@@ -8,8 +8,8 @@ use Rattle.elements.proofs.marks.down_to.Tie as tie
 mul-zeros-above : tie.Need-mul-zeros-above
 mul-zeros-above c = search needs
 
-array-read-zeros-above : tie.Need-array-read-zeros-above
-array-read-zeros-above c = search needs
+element-copy-out-zeros-above : tie.Need-element-copy-out-zeros-above
+element-copy-out-zeros-above c = search needs
 
 sub-zeros-above : tie.Need-sub-zeros-above
 sub-zeros-above c = search needs
@@ -37,7 +37,7 @@ down-to-spec =
     tie.close
     (tie.spec
     mul-zeros-above
-    array-read-zeros-above
+    element-copy-out-zeros-above
     sub-zeros-above
     shl-zeros-above
     zeros-above-requires

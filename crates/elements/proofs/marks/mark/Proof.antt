@@ -11,8 +11,8 @@ use Rattle.elements.proofs.marks.mark.Tie as tie
 mul-words : tie.Need-mul-words
 mul-words c = search needs
 
-array-read-words : tie.Need-array-read-words
-array-read-words c = search needs
+element-copy-out-words : tie.Need-element-copy-out-words
+element-copy-out-words c = search needs
 
 shl-words : tie.Need-shl-words
 shl-words c = search needs
@@ -20,8 +20,8 @@ shl-words c = search needs
 mul-words-2 : tie.Need-mul-words-2
 mul-words-2 c = search needs
 
-array-write-words : tie.Need-array-write-words
-array-write-words c = search needs
+element-write-words : tie.Need-element-write-words
+element-write-words c = search needs
 
 returns : tie.Need-returns
 unfolding marking
@@ -29,4 +29,4 @@ returns c = rw (shifted (c .before .args .i % 64) (mod-lt (c .before .args .i) (
 
 pub mark-spec : {M : Type 1} → statement M
 mark-spec =
-    tie.close (tie.spec mul-words array-read-words shl-words mul-words-2 array-write-words returns)
+    tie.close (tie.spec mul-words element-copy-out-words shl-words mul-words-2 element-write-words returns)

@@ -8,8 +8,8 @@ use Rattle.elements.proofs.marks.marked.Tie as tie
 mul-result : tie.Need-mul-result
 mul-result c = search needs
 
-array-read-result : tie.Need-array-read-result
-array-read-result c = search needs
+element-copy-out-result : tie.Need-element-copy-out-result
+element-copy-out-result c = search needs
 
 shr-result : tie.Need-shr-result
 shr-result c = search needs
@@ -19,4 +19,4 @@ unfolding isMarked
 returns c = rw low-digit
 
 pub marked-spec : {M : Type 1} → statement M
-marked-spec = tie.close (tie.spec mul-result array-read-result shr-result returns)
+marked-spec = tie.close (tie.spec mul-result element-copy-out-result shr-result returns)

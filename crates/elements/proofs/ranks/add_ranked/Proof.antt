@@ -23,8 +23,8 @@ mark-requires c κs = search needs
 
 returns-3 : tie.Need-returns-3
 returns-3 c =
-    let m = sym (c .before .before .before .before .marked .ensures) ∙ not-false _ (c .before .before .before .if1 .left) in
-    c .mark .ensures ∙ this-rank _ _ _ _ _ m (sym (c .before .before .rank-of .ensures) ∙ c .before .if2 .left)
+    let m = sym (c .before .before .before .before .before .marked .ensures) ∙ not-false _ (c .before .before .before .before .if1 .left) in
+    c .mark .ensures ∙ this-rank _ _ _ _ _ m (sym (c .before .before .before .rank-of .ensures) ∙ c .before .before .if2 .left)
 
 pub add-ranked-spec : {M : Type 1} → statement M
 add-ranked-spec =
