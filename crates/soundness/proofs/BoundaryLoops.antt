@@ -2,7 +2,7 @@
 use Prim.Native.Nat.{ℕ, suc, _≤_, _<_, zero, _+_, _*_}
 use mathlib.Core.Bool.{Bool, not, _&&_, true, false}
 use mathlib.Core.List.{List, [], _∷_}
-use mathlib.Core.Path.{_≡_, sym, subst, refl, ap, ap₂, _∙_}
+use mathlib.Core.Path.{_≡_, sym, subst, refl, ap, _∙_}
 use native.Mathlib.Nat.{not-suc-le-zero, le-of-suc-le-suc, le-trans, le-of-eq}
 use native.Mathlib.Omega.{arith}
 use lib.Dec.{eqb, ltb, leb, lit≤}
@@ -17,7 +17,7 @@ use Rattle.space.proofs.TwiceMet.{closed-one, closed-other}
 use Rattle.soundness.specs.Words.{facetWords, headWords, elementSound, numberFits, numbersFit, faceWords, boundaryWords, boundaryIn, EdgesLow}
 use Rattle.soundness.proofs.ReadBack.{and-one, and-zero}
 use Rattle.soundness.proofs.RowLoops.{head-few, drop-take, row-first, row-word}
-use borrow.Author.Tests.{ltb-true}
+use borrow.Author.Tests.{ltb-true, lt-ltb}
 
 pub facet-are : (d h r p m : ℕ) (a b c e : Bool) → eqb (suc r) d ≡ a → ltb p h ≡ b → eqb p noPlane ≡ c → not (eqb m 1) ≡ e → (if a then b else (c && e)) ≡ facetWords d h r p m
 unfolding facetWords
@@ -37,42 +37,36 @@ all-at p l from to i fit h a b =
 
 -- ---- the row of an element
 
-module _ (es : List ℕ) (e d h : ℕ) where
-  abbrev at : ℕ
-  at = e * 36
+-- its boundary, in the row and in the memory
+pub bound-is : (es : List ℕ) (at n : ℕ) → n ≡ getD es (at + 3) 0 → n ≤ 32 → boundaryIn (take 36 (drop at es)) ≡ drop (at + 4) (take (at + 4 + n) es)
+bound-is es at n en l =
+    ap (λ (k : ℕ). take k (drop 4 (take 36 (drop at es)))) (row-word at 3 es (lit≤ tt) ∙ sym en) ∙ take-it
+    ∙ ap (take n) (drop-drop 4 at es) ∙ sym (drop-take (at + 4) n es)
+  where
+    take-it : take n (drop 4 (take (4 + 32) (drop at es))) ≡ take n (drop 4 (drop at es))
+    take-it = ap (take n) (drop-take 4 32 (drop at es)) ∙ take-take n 32 (drop 4 (drop at es)) l
 
-  abbrev r : ℕ
-  r = getD es at 0
-
-  abbrev n : ℕ
-  n = getD es (at + 3) 0
-
-  abbrev b : List ℕ
-  b = drop (at + 4) (take (at + 4 + n) es)
-
+module _ (es : List ℕ) (e d h r : ℕ) (er : r ≡ getD es (e * 36) 0) where
   abbrev row : List ℕ
-  row = take 36 (drop at es)
+  row = take 36 (drop (e * 36) es)
 
-  bound-is : n ≤ 32 → take n (drop 4 row) ≡ b
-  bound-is l = take-it ∙ ap (take n) (drop-drop 4 at es) ∙ sym (drop-take (at + 4) n es)
-    where
-      take-it : take n (drop 4 (take (4 + 32) (drop at es))) ≡ take n (drop 4 (drop at es))
-      take-it = ap (take n) (drop-take 4 32 (drop at es)) ∙ take-take n 32 (drop 4 (drop at es)) l
+  -- by whether it is a vertex
+  abbrev byKind : Bool → Bool
+  byKind c = if c then true else (leb (getD row 0 0) d && boundaryWords desk es e (getD row 0 0) (boundaryIn row) && facetWords d h (getD row 0 0) (getD row 2 0) (getD row 1 0))
 
-  pub element-zero : r ≡ 0 → true ≡ elementSound desk es d h e row
+  pub element-zero : r ≡ 0 → elementSound desk es d h e row ≡ true
   unfolding elementSound
-  element-zero z = sym (ap (λ (c : Bool). if c then true else (leb (getD row 0 0) d && boundaryWords desk es e (getD row 0 0) (boundaryIn row) && facetWords d h (getD row 0 0) (getD row 2 0) (getD row 1 0))) (test-eq (getD row 0 0) 0 (row-first at es ∙ z)))
+  element-zero z = ap byKind (test-eq (getD row 0 0) 0 (row-first (e * 36) es ∙ sym er ∙ z))
 
-  pub element-are : (a B F : Bool) → n ≤ 32 → (r ≡ 0 → ⊥) → leb r d ≡ a → boundaryWords desk es e r b ≡ B → facetWords d h r (getD es (at + 2) 0) (getD es (at + 1) 0) ≡ F
-      → (a && B && F) ≡ elementSound desk es d h e row
+  pub element-more : (p m : ℕ) → p ≡ getD es (e * 36 + 2) 0 → m ≡ getD es (e * 36 + 1) 0 → (r ≡ 0 → ⊥)
+      → elementSound desk es d h e row ≡ (leb r d && boundaryWords desk es e r (boundaryIn row) && facetWords d h r p m)
   unfolding elementSound
-  element-are a B F l z p₁ p₂ p₃ =
-      sym (ap (λ (c : Bool). if c then true else (leb (getD row 0 0) d && boundaryWords desk es e (getD row 0 0) (boundaryIn row) && facetWords d h (getD row 0 0) (getD row 2 0) (getD row 1 0)))
-      (not-eq (getD row 0 0) 0 (λ q. z (sym (row-first at es) ∙ q)))
-      ∙ (λ i. leb (row-first at es i) d && boundaryWords desk es e (row-first at es i) (take (row-word at 3 es (lit≤ tt) i) (drop 4 row))
-      && facetWords d h (row-first at es i) (row-word at 2 es (lit≤ tt) i) (row-word at 1 es (lit≤ tt) i))
-      ∙ ap (λ (x : List ℕ). leb r d && boundaryWords desk es e r x && facetWords d h r (getD es (at + 2) 0) (getD es (at + 1) 0)) (bound-is l)
-      ∙ (λ i. p₁ i && p₂ i && p₃ i))
+  element-more p m ep em z =
+      let first = row-first (e * 36) es ∙ sym er in
+      let second = row-word (e * 36) 1 es (lit≤ tt) ∙ sym em in
+      let third = row-word (e * 36) 2 es (lit≤ tt) ∙ sym ep in
+      ap byKind (not-eq (getD row 0 0) 0 (λ q. z (sym first ∙ q)))
+      ∙ (λ i. leb (first i) d && boundaryWords desk es e (first i) (boundaryIn row) && facetWords d h (first i) (third i) (second i))
 
 -- ---- a boundary, test by test
 
@@ -110,10 +104,10 @@ module _ (es : List ℕ) (at n e r : ℕ) (s : length es ≡ 18432) (f : at + n 
       regroup false R A K C = refl
 
   -- an edge's is closed by its count, and a body's always
-  pub boundary-edge : {x : Bool} → r ≡ 1 → n ≡ 2 → ltb r n ≡ true → x ≡ numbersFit desk es e 1 (drop at (take (at + 2) es)) → x ≡ boundaryWords desk es e r there
-  boundary-edge one two g q =
+  pub boundary-edge : {x : Bool} → r ≡ 1 → n ≡ 2 → x ≡ numbersFit desk es e 1 (drop at (take (at + 2) es)) → x ≡ boundaryWords desk es e r there
+  boundary-edge one two q =
       q ∙ (λ i. numbersFit desk es e (sym one i) (drop at (take (at + sym two i) es))) ∙ sym (and-one (numbersFit desk es e r there))
-      ∙ boundary-by true _ true g refl (sym (closed-one es there r n boundary-long one) ∙ test-eq n 2 two)
+      ∙ boundary-by true _ true (lt-ltb r n (let z : r < n = omega (arith, one, two) in z)) refl (sym (closed-one es there r n boundary-long one) ∙ test-eq n 2 two)
 
   pub boundary-open : r ≡ 1 → (n ≡ 2 → ⊥) → false ≡ boundaryWords desk es e r there
   boundary-open one more =
@@ -171,8 +165,9 @@ module _ (es : List ℕ) (e d h : ℕ) (s : length es ≡ 18432) (u : e < 512) (
     tested : boundaryWords desk es e (getD es (e * 36) 0) bound ≡ true
     tested =
         let F = facetWords d h (getD es (e * 36) 0) (getD es (e * 36 + 2) 0) (getD es (e * 36 + 1) 0) in
-        let B = boundaryWords desk es e (getD es (e * 36) 0) bound in
-        and-right (leb (getD es (e * 36) 0) d) B (and-left (leb (getD es (e * 36) 0) d && B) F (element-are es e d h _ _ _ size-fits some refl refl refl ∙ S))
+        let B = boundaryWords desk es e (getD es (e * 36) 0) (boundaryIn (take 36 (drop (e * 36) es))) in
+        ap (boundaryWords desk es e (getD es (e * 36) 0)) (sym (bound-is es (e * 36) size refl size-fits))
+        ∙ and-right (leb (getD es (e * 36) 0) d) B (and-left (leb (getD es (e * 36) 0) d && B) F (sym (element-more es e d h _ refl _ _ refl refl some) ∙ S))
 
     parts : (ltb (getD es (e * 36) 0) size && rises bound && all (λ x. ltb x e) bound) ≡ true
     parts =
@@ -214,16 +209,3 @@ module _ (es : List ℕ) (e d h : ℕ) (s : length es ≡ 18432) (u : e < 512) (
           let z = two-ends q′ in
           subst (λ (y : ℕ). getD es (y * 36 + 5) 0 < 512) (sym m) (end-low q′ (e * 36 + 5) (let p : e * 36 + 4 ≤ e * 36 + 5 = omega arith in p) (let p : e * 36 + 5 < e * 36 + 4 + size = omega (arith, z) in p))
       two x l q false t = let m = unlike-eq x e t in E .second x (let p : x < e = omega (arith, l, m) in p) q
-
--- ---- the row of an element, with what the code has read of it
-
-module _ (es : List ℕ) (e d h r n : ℕ) (er : r ≡ getD es (e * 36) 0) (en : n ≡ getD es (e * 36 + 3) 0) where
-  pub read-fits : headWords desk (take 36 (drop (e * 36) es)) ≡ true → n ≤ 32
-  read-fits w = le-trans (le-of-eq en) (head-few (e * 36) es w)
-
-  pub element-by : (p m : ℕ) (a B F : Bool) → headWords desk (take 36 (drop (e * 36) es)) ≡ true → (r ≡ 0 → ⊥) → p ≡ getD es (e * 36 + 2) 0 → m ≡ getD es (e * 36 + 1) 0
-      → leb r d ≡ a → boundaryWords desk es e r (drop (e * 36 + 4) (take (e * 36 + 4 + n) es)) ≡ B → facetWords d h r p m ≡ F → (a && B && F) ≡ elementSound desk es d h e (take 36 (drop (e * 36) es))
-  element-by p m a B F w z ep em p₁ p₂ p₃ =
-      element-are es e d h a B F (head-few (e * 36) es w) (λ q. z (er ∙ q)) ((λ i. leb ((sym er) i) d) ∙ p₁)
-      (ap₂ (λ (j k : ℕ). boundaryWords desk es e j (drop (e * 36 + 4) (take (e * 36 + 4 + k) es))) (sym er) (sym en) ∙ p₂)
-      ((λ i. facetWords d h ((sym er) i) ((sym ep) i) ((sym em) i)) ∙ p₃)

@@ -9,6 +9,7 @@ pub mod PlaneLoops
 pub mod BoundaryFits
 pub mod BoundaryLoops
 pub mod OnePass
+pub mod RowKinds
 pub mod ElementLoops
 pub mod Distinct
 pub mod FaceLoops

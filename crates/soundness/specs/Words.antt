@@ -57,6 +57,11 @@ headWords L row =
 unfoldable pub pastBlank : List ℕ → Bool
 pastBlank row = blank (drop (getD row 3 0) (drop 4 row))
 
+-- what stands there has joined what was seen before
+pub record Gathered (row before after : List ℕ) : Type 0 where
+  pub clear : blank after ≡ (blank before && pastBlank row)
+  pub long : length after ≡ 32
+
 -- corners name vertices from k up to v, in order
 abbrev pub inOrder : ℕ → ℕ → List (List ℕ) → Bool
 inOrder k v [] = eqb k v
@@ -80,6 +85,10 @@ numbersFit L es e r b = rises b && all (λ x. ltb x e) b && all (λ x. eqb (suc 
 unfoldable pub boundaryWords : Limits → List ℕ → ℕ → ℕ → List ℕ → Bool
 boundaryWords L es e r b =
     rises b && all (λ x. ltb x e) b && all (λ x. eqb (suc (getD es (x * elementWidth L) 0)) r) b && ltb r (length b) && closedRaw es r b
+
+-- the boundary of a row, for rank r: its count fits the room, and it is sound
+unfoldable pub polytopeWords : Limits → List ℕ → ℕ → ℕ → List ℕ → Bool
+polytopeWords L es e r row = leb (getD row 3 0) (L .boundary) && boundaryWords L es e r (boundaryIn row)
 
 -- the boundary of a face: its numbers fit, and its edges go round
 abbrev pub faceWords : Limits → List ℕ → ℕ → List ℕ → Bool

@@ -55,7 +55,7 @@ fn number_fits(elements: &[u16], x: usize, low: usize, e: usize, rank: usize) ->
 }
 
 // The boundary numbers rise strictly, and each fits.
-fn numbers_fit(elements: &[u16], from: usize, to: usize, e: usize, rank: usize) -> bool
+pub fn numbers_fit(elements: &[u16], from: usize, to: usize, e: usize, rank: usize) -> bool
     requires { ⌜ (from ≤ to) × (to ≤ length (now elements)) × (length (now elements) ≡ 18432) × (e ≤ 512) ⌝ }
     ensures { λ r. ⌜ r ≡ numbersFit desk (now (elements .entry)) e rank (drop from (take to (now (elements .entry)))) ⌝ }
 {
@@ -89,7 +89,7 @@ fn face_fits(elements: &[u16], from: usize, to: usize, e: usize, met: &mut [u8; 
     twice == to - from
 }
 
-// More of them than the rank, rising, earlier, of rank one less, and closed.
+// More of them than the rank, rising, earlier, of rank one less, and closed: those of a face or a body.
 pub fn boundary_sound(
     elements: &[u16],
     at: usize,
@@ -98,7 +98,7 @@ pub fn boundary_sound(
     rank: usize,
     met: &mut [u8; 512],
 ) -> bool
-    requires { ⌜ (length (now elements) ≡ 18432) × (at + n ≤ 18432) × (n ≤ 32) × (e < 512) × EdgesLow (now elements) e × Unmet (stampOf e) (now met) ⌝ }
+    requires { ⌜ (length (now elements) ≡ 18432) × (at + n ≤ 18432) × (n ≤ 32) × (e < 512) × (rank ≡ 1 → ⊥) × EdgesLow (now elements) e × Unmet (stampOf e) (now met) ⌝ }
     ensures { λ r. ⌜ (r ≡ boundaryWords desk (now (elements .entry)) e rank (drop at (take (at + n) (now (elements .entry))))) × (r ≡ true → Unmet (stampOf e + 2) (now (met .exit))) ⌝ }
 {
     if n <= rank {
@@ -106,13 +106,6 @@ pub fn boundary_sound(
     }
     if rank == 2 {
         return face_fits(elements, at, at + n, e, met);
-    }
-    if rank == 1 {
-        // with the count as a number the loop is two tests and no loop
-        if n != 2 {
-            return false;
-        }
-        return numbers_fit(elements, at, at + 2, e, 1);
     }
     numbers_fit(elements, at, at + n, e, rank)
 }

@@ -1,5 +1,6 @@
 // Document 01, "A table is sound when", over the words of the lent memory: one function for each of its lines.
 use crate::boundaries::boundary_sound;
+use crate::boundaries::numbers_fit;
 use crate::boundaries::pass_on;
 use crate::chains::row_new;
 use crate::floats::floats_sound;
@@ -24,13 +25,13 @@ ghost use Rattle.rules.specs.Held.{memoryOf};
 ghost use Rattle.rules.specs.Replies.{isSoundReply};
 ghost use Rattle.space.specs.Chains.{Indexed};
 ghost use Rattle.space.specs.Closed.{Unmet};
-ghost use Rattle.soundness.specs.Words.{blank, countsFit, Mask, headWords, pastBlank, cornerNamed, stampOf, facetWords, EdgesLow, elementSound, rowSound, rowsInUse, rowsDistinct, rowsSound};
+ghost use Rattle.soundness.specs.Words.{blank, countsFit, Mask, Gathered, headWords, cornerNamed, stampOf, facetWords, EdgesLow, polytopeWords, rowSound, rowsInUse, rowsDistinct, rowsSound};
 
 // How many words stand before a boundary: rank, mark, hyperplane, count.
 const HEAD: usize = 4;
 
 // Room for so many numbers in a boundary.
-const BOUNDARY: u16 = 32;
+const BOUNDARY: usize = 32;
 
 // The dimension and every count fit the room, and the hyperplanes of the space are there.
 fn counts_fit(d: usize, n: usize, v: usize, h: usize) -> bool
@@ -87,46 +88,14 @@ fn kept(x: u16, mask: u16) -> u16
     x & mask
 }
 
-// What stands past the boundary of a row joins what was seen there in the rows before. All of its room is read, so that the loop has one length and no test; whether anything was seen is asked once, after the last row.
-fn gather_past(elements: &[u16], at: usize, past: &[u16; 64], seen: &mut [u16; 32])
-    requires { ⌜ (at + 36 ≤ length (now elements)) × (getD (now elements) (at + 3) 0 ≤ 32) × Mask (now past) × (length (now seen) ≡ 32) ⌝ }
-    ensures { λ _. ⌜ (blank (now (seen .exit)) ≡ (blank (now (seen .entry)) && pastBlank (take 36 (drop at (now (elements .entry)))))) × (length (now (seen .exit)) ≡ 32) ⌝ }
+// What stands past the boundary of a row joins what was seen there in the rows before. All of its room is read, so that the loop has one length and no test, and no mask where the count is a literal; whether anything was seen is asked once, after the last row.
+fn gather_past(elements: &[u16], at: usize, n: usize, past: &[u16; 64], seen: &mut [u16; 32])
+    requires { ⌜ (at + 36 ≤ length (now elements)) × (n ≡ getD (now elements) (at + 3) 0) × (n ≤ 32) × Mask (now past) × (length (now seen) ≡ 32) ⌝ }
+    ensures { λ _. ⌜ Gathered (take 36 (drop at (now (elements .entry)))) (now (seen .entry)) (now (seen .exit)) ⌝ }
 {
-    let n = wide(elements[at + 3]);
     for j in 0..32 {
         seen[j] = seen[j] | kept(elements[at + HEAD + j], past[32 - n + j]);
     }
-}
-
-// The first words of a row are those of some element: a vertex has one fixed form.
-fn head_sound(elements: &[u16], at: usize) -> bool
-    requires { ⌜ at + 36 ≤ length (now elements) ⌝ }
-    ensures { λ r. ⌜ r ≡ headWords desk (take 36 (drop at (now (elements .entry)))) ⌝ }
-{
-    if elements[at] == 0 {
-        if elements[at + 1] != 0 {
-            return false;
-        }
-        if elements[at + 2] != NO_PLANE {
-            return false;
-        }
-        return elements[at + 3] == 1;
-    }
-    if 1 < elements[at + 1] {
-        return false;
-    }
-    elements[at + 3] <= BOUNDARY
-}
-
-// The row is no vertex element's, or it names vertex k.
-fn corner_named(elements: &[u16], at: usize, k: usize) -> bool
-    requires { ⌜ at + 36 ≤ length (now elements) ⌝ }
-    ensures { λ r. ⌜ r ≡ cornerNamed k (take 36 (drop at (now (elements .entry)))) ⌝ }
-{
-    if elements[at] == 0 {
-        return wide(elements[at + 4]) == k;
-    }
-    true
 }
 
 // How far the row of a vertex element moves the next vertex on.
@@ -151,40 +120,113 @@ fn facet_sound(d: usize, h: usize, rank: usize, plane: usize, mark: usize) -> bo
     false
 }
 
-// A polytope's rank, boundary and hyperplane; a vertex element is tested by its head.
-fn element_sound(elements: &[u16], e: usize, d: usize, h: usize, met: &mut [u8; 512]) -> bool
-    requires { ⌜ (length (now elements) ≡ 18432) × (e < 512) × (headWords desk (take 36 (drop (e * 36) (now elements))) ≡ true) × EdgesLow (now elements) e × Unmet (stampOf e) (now met) ⌝ }
-    ensures { λ r. ⌜ (r ≡ elementSound desk (now (elements .entry)) d h e (take 36 (drop (e * 36) (now (elements .entry))))) × (r ≡ true → Unmet (stampOf e + 2) (now (met .exit))) ⌝ }
+// The row of a vertex element has one fixed form, and names vertex k.
+fn corner_sound(
+    elements: &[u16],
+    at: usize,
+    k: usize,
+    past: &[u16; 64],
+    seen: &mut [u16; 32],
+) -> bool
+    requires { ⌜ (at + 36 ≤ length (now elements)) × (getD (now elements) at 0 ≡ 0) × Mask (now past) × (length (now seen) ≡ 32) ⌝ }
+    ensures { λ r. ⌜ (r ≡ (headWords desk (take 36 (drop at (now (elements .entry)))) && cornerNamed k (take 36 (drop at (now (elements .entry)))))) × (r ≡ true → Gathered (take 36 (drop at (now (elements .entry)))) (now (seen .entry)) (now (seen .exit))) ⌝ }
+{
+    if elements[at + 1] != 0 {
+        return false;
+    }
+    if elements[at + 2] != NO_PLANE {
+        return false;
+    }
+    if elements[at + 3] != 1 {
+        return false;
+    }
+    gather_past(elements, at, 1, past, seen);
+    wide(elements[at + 4]) == k
+}
+
+// The boundary of an edge: with the count as a literal the loop is two tests and no loop.
+fn edge_sound(elements: &[u16], e: usize, past: &[u16; 64], seen: &mut [u16; 32]) -> bool
+    requires { ⌜ (length (now elements) ≡ 18432) × (e < 512) × Mask (now past) × (length (now seen) ≡ 32) ⌝ }
+    ensures { λ r. ⌜ (r ≡ polytopeWords desk (now (elements .entry)) e 1 (take 36 (drop (e * 36) (now (elements .entry))))) × (r ≡ true → Gathered (take 36 (drop (e * 36) (now (elements .entry)))) (now (seen .entry)) (now (seen .exit))) ⌝ }
+{
+    let at = e * WIDTH;
+    if elements[at + 3] != 2 {
+        return false;
+    }
+    gather_past(elements, at, 2, past, seen);
+    numbers_fit(elements, at + HEAD, at + HEAD + 2, e, 1)
+}
+
+// The boundary of a face or a body: it is read only once its count is known to fit.
+fn higher_sound(
+    elements: &[u16],
+    e: usize,
+    rank: usize,
+    met: &mut [u8; 512],
+    past: &[u16; 64],
+    seen: &mut [u16; 32],
+) -> bool
+    requires { ⌜ (length (now elements) ≡ 18432) × (e < 512) × (rank ≡ 1 → ⊥) × EdgesLow (now elements) e × Unmet (stampOf e) (now met) × Mask (now past) × (length (now seen) ≡ 32) ⌝ }
+    ensures { λ r. ⌜ (r ≡ polytopeWords desk (now (elements .entry)) e rank (take 36 (drop (e * 36) (now (elements .entry))))) × (r ≡ true → Unmet (stampOf e + 2) (now (met .exit))) × (r ≡ true → Gathered (take 36 (drop (e * 36) (now (elements .entry)))) (now (seen .entry)) (now (seen .exit))) ⌝ }
+{
+    let at = e * WIDTH;
+    let n = wide(elements[at + 3]);
+    if BOUNDARY < n {
+        return false;
+    }
+    gather_past(elements, at, n, past, seen);
+    boundary_sound(elements, at + HEAD, n, e, rank, met)
+}
+
+// The boundary of a polytope, by its rank.
+fn polytope_sound(
+    elements: &[u16],
+    e: usize,
+    rank: usize,
+    met: &mut [u8; 512],
+    past: &[u16; 64],
+    seen: &mut [u16; 32],
+) -> bool
+    requires { ⌜ (length (now elements) ≡ 18432) × (e < 512) × EdgesLow (now elements) e × Unmet (stampOf e) (now met) × Mask (now past) × (length (now seen) ≡ 32) ⌝ }
+    ensures { λ r. ⌜ (r ≡ polytopeWords desk (now (elements .entry)) e rank (take 36 (drop (e * 36) (now (elements .entry))))) × (r ≡ true → Unmet (stampOf e + 2) (now (met .exit))) × (r ≡ true → Gathered (take 36 (drop (e * 36) (now (elements .entry)))) (now (seen .entry)) (now (seen .exit))) ⌝ }
+{
+    if rank == 1 {
+        return edge_sound(elements, e, past, seen);
+    }
+    higher_sound(elements, e, rank, met, past, seen)
+}
+
+// One row, where vertex k is the next to be named. Rows are tested by kind, so that the count of a vertex or an edge is a literal.
+fn row_sound(
+    elements: &[u16],
+    e: usize,
+    d: usize,
+    h: usize,
+    k: usize,
+    met: &mut [u8; 512],
+    past: &[u16; 64],
+    seen: &mut [u16; 32],
+) -> bool
+    requires { ⌜ (length (now elements) ≡ 18432) × (e < 512) × EdgesLow (now elements) e × Unmet (stampOf e) (now met) × Mask (now past) × (length (now seen) ≡ 32) ⌝ }
+    ensures { λ r. ⌜ (r ≡ rowSound desk (now (elements .entry)) d h k e (take 36 (drop (e * 36) (now (elements .entry))))) × (r ≡ true → Unmet (stampOf e + 2) (now (met .exit))) × (r ≡ true → Gathered (take 36 (drop (e * 36) (now (elements .entry)))) (now (seen .entry)) (now (seen .exit))) ⌝ }
 {
     let at = e * WIDTH;
     let rank = wide(elements[at]);
     if rank == 0 {
-        return true;
+        return corner_sound(elements, at, k, past, seen);
+    }
+    if 1 < elements[at + 1] {
+        return false;
     }
     if d < rank {
         return false;
     }
-    let n = wide(elements[at + 3]);
-    if !boundary_sound(elements, at + HEAD, n, e, rank, met) {
+    if !polytope_sound(elements, e, rank, met, past, seen) {
         return false;
     }
     let plane = wide(elements[at + 2]);
     let mark = wide(elements[at + 1]);
     facet_sound(d, h, rank, plane, mark)
-}
-
-// One row, where vertex k is the next to be named: its boundary is read only once its count is known to fit.
-fn row_sound(elements: &[u16], e: usize, d: usize, h: usize, k: usize, met: &mut [u8; 512]) -> bool
-    requires { ⌜ (length (now elements) ≡ 18432) × (e < 512) × EdgesLow (now elements) e × Unmet (stampOf e) (now met) ⌝ }
-    ensures { λ r. ⌜ (r ≡ rowSound desk (now (elements .entry)) d h k e (take 36 (drop (e * 36) (now (elements .entry))))) × (r ≡ true → Unmet (stampOf e + 2) (now (met .exit))) ⌝ }
-{
-    if !head_sound(elements, e * WIDTH) {
-        return false;
-    }
-    if !corner_named(elements, e * WIDTH, k) {
-        return false;
-    }
-    element_sound(elements, e, d, h, met)
 }
 
 // The rows in use, in one pass: each is sound and equal to no earlier one, and vertex elements name vertices 0, 1, 2 .. in order, each once. From an empty index to that of all of them.
@@ -197,11 +239,10 @@ fn rows_in_use(elements: &[u16], d: usize, n: usize, v: usize, h: usize, index: 
     let mut seen = [0u16; 32];
     let mut k = 0usize;
     for i in 0..n {
-        if !row_sound(elements, i, d, h, k, &mut met) {
+        if !row_sound(elements, i, d, h, k, &mut met, &past, &mut seen) {
             return false;
         }
         pass_on(&mut met, i);
-        gather_past(elements, i * WIDTH, &past, &mut seen);
         if !row_new(elements, i, index) {
             return false;
         }

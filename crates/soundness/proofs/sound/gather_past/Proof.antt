@@ -1,35 +1,23 @@
+-- Place by place the words past the boundary join what was seen before.
+use Prim.Native.Nat.{ℕ, _+_, _-_, _≤_}
+use mathlib.Core.Bool.{Bool, _&&_}
+use mathlib.Core.Path.{sym, ap, _∙_}
+use lib.ListN.{getD, take, drop}
+use Rattle.soundness.specs.Words.{blank}
 use Rattle.soundness.proofs.PastLoops.{Joining, kept-is, joining-start, joining-go, joining-end}
 use Rattle.soundness.proofs.RowLoops.{past-is}
-use Rattle.soundness.specs.Words.{blank}
-use lib.ListN.{getD, take, drop}
-use mathlib.Core.Bool.{Bool, _&&_}
-use mathlib.Core.Path.{_≡_, sym, ap, _∙_}
-use Prim.Native.Nat.{ℕ, _+_, _-_, _≤_}
--- Place by place the words past the boundary join what was seen before.
 use borrow.Author.Needs.{needs}
 use Rattle.soundness.proofs.sound.gather_past.Statement.{statement}
 use Rattle.soundness.proofs.sound.gather_past.Tie as tie
 
 abbrev Inv-loop : tie.InvT-loop
-Inv-loop elements at past seen₀ n j₀ seen j = (j ≤ 32) × (n ≡ getD elements (at + 3) 0) × Joining elements at n seen₀ seen j
+Inv-loop elements at n past seen₀ j₀ seen j = (j ≤ 32) × Joining elements at n seen₀ seen j
 
 abbrev μ-loop : tie.MeasureT-loop
-μ-loop elements at past seen₀ n j₀ seen j = 32 - j
-
-add-wide : tie.Need-add-wide Inv-loop μ-loop
-add-wide c = search needs
-
-mul-wide : tie.Need-mul-wide Inv-loop μ-loop
-mul-wide c = search needs
-
-shared-slice-read-wide : tie.Need-shared-slice-read-wide Inv-loop μ-loop
-shared-slice-read-wide c = search needs
-
-wide-requires : tie.Need-wide-requires Inv-loop μ-loop
-wide-requires c κs = search needs
+μ-loop elements at n past seen₀ j₀ seen j = 32 - j
 
 loop-holds : tie.Need-loop-holds Inv-loop μ-loop
-loop-holds c = (search needs, c .wide .ensures .0, joining-start _ _ _ _ (c .before .before .before .pre .3))
+loop-holds c = (search needs, joining-start _ _ _ _ (c .before .pre .4))
 
 mul-seen : tie.Need-mul-seen Inv-loop μ-loop
 mul-seen c = search needs
@@ -50,10 +38,7 @@ shared-slice-read-kept : tie.Need-shared-slice-read-kept Inv-loop μ-loop
 shared-slice-read-kept c = search needs
 
 sub-kept : tie.Need-sub-kept Inv-loop μ-loop
-sub-kept c =
-    let few = c .before .before .before .before .before .before .before .pre .1 in
-    let n = c .before .before .before .loop .inv .1 in
-    search (needs, few, n)
+sub-kept c = search (needs, c .before .before .before .before .before .pre .2)
 
 add-kept-3 : tie.Need-add-kept-3 Inv-loop μ-loop
 add-kept-3 c = search needs
@@ -81,26 +66,25 @@ loop-less c = search needs
 
 loop-again : tie.Need-loop-again Inv-loop μ-loop
 loop-again c =
-    let a = c .before .before .before .before .before .before .before .before .before .args in
-    let p = c .before .before .before .before .before .before .before .before .before .pre in
+    let a = c .before .before .before .before .before .before .before .args in
+    let p = c .before .before .before .before .before .before .before .pre in
     let at = c .before .before .before .before .before .loop in
-    let k = 32 - c .before .before .before .before .before .before .wide .result + at .j in (
+    let k = 32 - a .n + at .j in (
       search needs,
-      at .inv .1,
-      joining-go (a .elements .now) (a .at) _ (a .seen .now) (at .seen) (at .j) _ (at .inv .2) (search needs)
-          (kept-is (getD (a .past .now) k 0) (getD (a .elements .now) (a .at + 4 + at .j) 0) _ k (p .2 k (search needs)) (c .kept .ensures)),
+      joining-go (a .elements .now) (a .at) (a .n) (a .seen .now) (at .seen) (at .j) _ (at .inv .1) (search needs)
+          (kept-is (getD (a .past .now) k 0) (getD (a .elements .now) (a .at + 4 + at .j) 0) _ k (p .3 k (search needs)) (c .kept .ensures)),
     )
 
 returns : tie.Need-returns Inv-loop μ-loop
 returns c =
-    let a = c .before .before .before .before .before .args in
-    let p = c .before .before .before .before .before .pre in
+    let a = c .before .before .before .args in
+    let p = c .before .before .before .pre in
     let at = c .before .loop in
-    let n = at .inv .1 in (
-      joining-end (a .elements .now) (a .at) _ (a .seen .now) (search (needs, p .1, n)) (p .0) (p .3) (at .seen) (at .j) (at .inv .2) (search needs)
-          ∙ ap (λ (m : ℕ). blank (a .seen .now) && blank (drop (a .at + 4 + m) (take (a .at + 36) (a .elements .now)))) n ∙ ap (λ (b : Bool). blank (a .seen .now) && b) (sym (past-is (a .at) (a .elements .now))),
-      at .inv .2 .long,
-    )
+    record {
+      clear = joining-end (a .elements .now) (a .at) (a .n) (a .seen .now) (p .2) (p .0) (p .4) (at .seen) (at .j) (at .inv .1) (search needs)
+          ∙ ap (λ (m : ℕ). blank (a .seen .now) && blank (drop (a .at + 4 + m) (take (a .at + 36) (a .elements .now)))) (p .1) ∙ ap (λ (b : Bool). blank (a .seen .now) && b) (sym (past-is (a .at) (a .elements .now)));
+      long = at .inv .1 .long;
+    }
 
 pub gather-past-spec : {M : Type 1} → statement M
 gather-past-spec =
@@ -108,10 +92,6 @@ gather-past-spec =
     (tie.spec
     Inv-loop
     μ-loop
-    add-wide
-    mul-wide
-    shared-slice-read-wide
-    wide-requires
     loop-holds
     mul-seen
     element-copy-out-seen

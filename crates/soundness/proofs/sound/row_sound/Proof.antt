@@ -1,61 +1,135 @@
-use Rattle.soundness.proofs.OnePass.{row-is}
-use Rattle.rules.proofs.Laws.{not-true, not-false}
-use lib.ListN.{drop, take}
+-- The answer is read off the tests that were taken, those of a vertex or those of a polytope.
+use Prim.Native.Nat.{_+_}
+use mathlib.Core.Bool.{true, false, false≢true}
 use mathlib.Core.Path.{refl, sym, _∙_}
-use mathlib.Core.Bool.{false, true, false≢true}
-use Prim.Native.Nat.{_*_}
--- The answer is read off the tests that were taken.
+use native.Mathlib.Omega.{arith}
+use Rattle.rules.proofs.Laws.{test-le, not-true, not-false}
+use Rattle.soundness.specs.Words.{stampOf}
+use Rattle.soundness.proofs.FaceLoops.{unmet-above}
+use Rattle.soundness.proofs.RowKinds.{row-corner, row-polytope}
+use borrow.Author.Tests.{lt-leb}
 use borrow.Author.Needs.{needs}
 use Rattle.soundness.proofs.sound.row_sound.Statement.{statement}
 use Rattle.soundness.proofs.sound.row_sound.Tie as tie
 
-mul-head-sound : tie.Need-mul-head-sound
-mul-head-sound c = search needs
+mul-at : tie.Need-mul-at
+mul-at c = search needs
 
-head-sound-requires : tie.Need-head-sound-requires
-head-sound-requires c κs = search needs
+mul-wide : tie.Need-mul-wide
+mul-wide c = search needs
+
+shared-slice-read-wide : tie.Need-shared-slice-read-wide
+shared-slice-read-wide c = search needs
+
+wide-requires : tie.Need-wide-requires
+wide-requires c κs = search needs
+
+corner-sound-requires : tie.Need-corner-sound-requires
+corner-sound-requires c κs =
+    let p = c .before .before .before .before .before .pre in
+    (omega (arith, p .0, p .1), sym (c .before .before .wide .ensures .0) ∙ c .before .if1 .taken, p .4, p .5)
 
 returns : tie.Need-returns
 returns c =
-    let a = c .before .before .before .args in
-    (row-is (a .elements .now) (a .d) (a .h) (a .k) (a .e) (take 36 (drop (a .e * 36) (a .elements .now))) false _ _ (sym (c .before .head-sound .ensures) ∙ not-true _ (c .if1 .taken)) refl refl, λ t. absurd (false≢true t))
+    let a = c .before .before .before .before .before .before .args in (
+      row-corner (a .elements .now) (a .d) (a .h) (a .k) (a .e) _ (c .before .before .before .wide .ensures .0) (c .before .before .if1 .taken) (c .corner-sound .ensures .0),
+      λ t. unmet-above (stampOf (a .e)) (stampOf (a .e) + 2) (a .met .now) (omega arith) (c .before .before .before .before .before .before .pre .3),
+      c .corner-sound .ensures .1,
+    )
 
-mul-corner-named : tie.Need-mul-corner-named
-mul-corner-named c = search needs
+add-if2 : tie.Need-add-if2
+add-if2 c = search needs
 
-corner-named-requires : tie.Need-corner-named-requires
-corner-named-requires c κs = search needs
+mul-if2 : tie.Need-mul-if2
+mul-if2 c = search needs
+
+shared-slice-read-if2 : tie.Need-shared-slice-read-if2
+shared-slice-read-if2 c = search needs
 
 returns-2 : tie.Need-returns-2
 returns-2 c =
-    let a = c .before .before .before .before .before .args in (
-      row-is (a .elements .now) (a .d) (a .h) (a .k) (a .e) (take 36 (drop (a .e * 36) (a .elements .now))) true false _ (sym (c .before .before .before .head-sound .ensures) ∙ not-false _ (c .before .before .if1 .left))
-          (sym (c .before .corner-named .ensures) ∙ not-true _ (c .if2 .taken)) refl,
-      λ t. absurd (false≢true t),
-    )
-
-element-sound-requires : tie.Need-element-sound-requires
-element-sound-requires c κs =
-    let p = c .before .before .before .before .before .before .pre in
-    (p .0, p .1, sym (c .before .before .before .before .head-sound .ensures) ∙ not-false _ (c .before .before .before .if1 .left), p .2, p .3)
+    let a = c .before .before .before .before .before .before .args in
+    (row-polytope (a .elements .now) (a .d) (a .h) (a .k) (a .e) _ (c .before .before .before .wide .ensures .0) _ _ false _ _ _ (c .before .before .if1 .left) refl refl (lt-leb _ 1 (c .if2 .taken)) refl refl refl, λ t. absurd (false≢true t), λ t. absurd (false≢true t))
 
 returns-3 : tie.Need-returns-3
 returns-3 c =
     let a = c .before .before .before .before .before .before .before .args in (
-      row-is (a .elements .now) (a .d) (a .h) (a .k) (a .e) (take 36 (drop (a .e * 36) (a .elements .now))) true true _ (sym (c .before .before .before .before .before .head-sound .ensures) ∙ not-false _ (c .before .before .before .before .if1 .left))
-          (sym (c .before .before .before .corner-named .ensures) ∙ not-false _ (c .before .before .if2 .left)) (sym (c .element-sound .ensures .0)),
-      c .element-sound .ensures .1,
+      row-polytope (a .elements .now) (a .d) (a .h) (a .k) (a .e) _ (c .before .before .before .before .wide .ensures .0) _ _ true false _ _ (c .before .before .before .if1 .left) refl refl (test-le _ 1 (c .before .if2 .left)) (lt-leb _ (a .d) (c .if3 .taken)) refl refl,
+      λ t. absurd (false≢true t),
+      λ t. absurd (false≢true t),
+    )
+
+polytope-sound-requires : tie.Need-polytope-sound-requires
+polytope-sound-requires c κs = c .before .before .before .before .before .before .before .before .before .pre
+
+returns-4 : tie.Need-returns-4
+returns-4 c =
+    let a = c .before .before .before .before .before .before .before .before .before .before .before .args in (
+      row-polytope (a .elements .now) (a .d) (a .h) (a .k) (a .e) _ (c .before .before .before .before .before .before .before .before .wide .ensures .0) _ _ true true false _ (c .before .before .before .before .before .before .before .if1 .left) refl refl (test-le _ 1 (c .before .before .before .before .before .if2 .left)) (test-le _ (a .d) (c .before .before .before .before .if3 .left)) (sym (c .before .polytope-sound .ensures .0) ∙ not-true _ (c .if4 .taken)) refl,
+      λ t. absurd (false≢true t),
+      λ t. absurd (false≢true t),
+    )
+
+add-wide : tie.Need-add-wide
+add-wide c = search needs
+
+mul-wide-2 : tie.Need-mul-wide-2
+mul-wide-2 c = search needs
+
+shared-slice-read-wide-2 : tie.Need-shared-slice-read-wide-2
+shared-slice-read-wide-2 c = search needs
+
+wide-requires-2 : tie.Need-wide-requires-2
+wide-requires-2 c κs = search needs
+
+add-wide-2 : tie.Need-add-wide-2
+add-wide-2 c = search needs
+
+mul-wide-3 : tie.Need-mul-wide-3
+mul-wide-3 c = search needs
+
+shared-slice-read-wide-3 : tie.Need-shared-slice-read-wide-3
+shared-slice-read-wide-3 c = search needs
+
+wide-requires-3 : tie.Need-wide-requires-3
+wide-requires-3 c κs = search needs
+
+facet-sound-requires : tie.Need-facet-sound-requires
+facet-sound-requires c κs = c .before .before .before .before .before .before .before .before .if3 .left
+
+returns-5 : tie.Need-returns-5
+returns-5 c =
+    let a = c .before .before .before .before .before .before .before .before .before .before .before .before .before .before .before .before .args in
+    let yes = not-false _ (c .before .before .before .before .before .if4 .left) in (
+      row-polytope (a .elements .now) (a .d) (a .h) (a .k) (a .e) _ (c .before .before .before .before .before .before .before .before .before .before .before .before .before .wide .ensures .0) _ _ true true true _ (c .before .before .before .before .before .before .before .before .before .before .before .before .if1 .left) (c .before .before .before .wide2 .ensures .0) (c .before .wide3 .ensures .0) (test-le _ 1 (c .before .before .before .before .before .before .before .before .before .before .if2 .left)) (test-le _ (a .d) (c .before .before .before .before .before .before .before .before .before .if3 .left)) (sym (c .before .before .before .before .before .before .polytope-sound .ensures .0) ∙ yes) (sym (c .facet-sound .ensures)),
+      λ t. c .before .before .before .before .before .before .polytope-sound .ensures .1 yes,
+      λ t. c .before .before .before .before .before .before .polytope-sound .ensures .2 yes,
     )
 
 pub row-sound-spec : {M : Type 1} → statement M
 row-sound-spec =
     tie.close
     (tie.spec
-    mul-head-sound
-    head-sound-requires
+    mul-at
+    mul-wide
+    shared-slice-read-wide
+    wide-requires
+    corner-sound-requires
     returns
-    mul-corner-named
-    corner-named-requires
+    add-if2
+    mul-if2
+    shared-slice-read-if2
     returns-2
-    element-sound-requires
-    returns-3)
+    returns-3
+    polytope-sound-requires
+    returns-4
+    add-wide
+    mul-wide-2
+    shared-slice-read-wide-2
+    wide-requires-2
+    add-wide-2
+    mul-wide-3
+    shared-slice-read-wide-3
+    wide-requires-3
+    facet-sound-requires
+    returns-5)

@@ -1,20 +1,20 @@
-use Rattle.soundness.proofs.OnePass.{left, pass-start, pass-go, pass-no, pass-short, pass-end, row-head, row-element, no-first, no-second, both}
-use Rattle.soundness.proofs.RowLoops.{head-few, whole-room}
-use Rattle.soundness.proofs.Distinct.{apart, apart-go, apart-no, apart-is}
-use Rattle.soundness.proofs.BoundaryLoops.{edges-none, edges-on}
-use Rattle.soundness.specs.Words.{blank, Mask, stampOf, rowsInUse, EdgesLow}
-use Rattle.space.proofs.Indexing.{index-count}
-use Rattle.space.proofs.EndsMet.{unmet-new}
-use Rattle.space.specs.Closed.{Unmet}
-use Rattle.space.specs.Chains.{Indexed}
-use Rattle.rules.proofs.Laws.{not-true, not-false}
-use Rattle.rules.specs.Limits.{desk}
-use lib.ListN.{length}
-use native.Mathlib.Omega.{arith}
-use mathlib.Core.Path.{_≡_, refl, sym, ap, _∙_}
-use mathlib.Core.Bool.{true, _&&_, false≢true}
-use Prim.Native.Nat.{_-_, _≤_, _*_}
 -- What is asked of the rows that are left, with `k` as the vertex that is to be named next, is what is asked of all, where nothing is seen past a boundary so far; and the rows so far are in the index, no two of them equal.
+use Prim.Native.Nat.{_-_, _≤_}
+use mathlib.Core.Bool.{_&&_, true, false≢true}
+use mathlib.Core.Path.{_≡_, refl, sym, ap, _∙_}
+use native.Mathlib.Omega.{arith}
+use lib.ListN.{length}
+use Rattle.rules.specs.Limits.{desk}
+use Rattle.rules.proofs.Laws.{not-true, not-false}
+use Rattle.space.specs.Chains.{Indexed}
+use Rattle.space.specs.Closed.{Unmet}
+use Rattle.space.proofs.EndsMet.{unmet-new}
+use Rattle.space.proofs.Indexing.{index-count}
+use Rattle.soundness.specs.Words.{blank, Mask, stampOf, rowsInUse, EdgesLow}
+use Rattle.soundness.proofs.BoundaryLoops.{edges-none, edges-on}
+use Rattle.soundness.proofs.Distinct.{apart, apart-go, apart-no, apart-is}
+use Rattle.soundness.proofs.RowLoops.{whole-room}
+use Rattle.soundness.proofs.OnePass.{left, pass-start, pass-go, pass-no, pass-short, pass-end, row-head, row-element, no-first, no-second, both}
 use borrow.Author.Needs.{needs}
 use Rattle.soundness.proofs.sound.rows_in_use.Statement.{statement}
 use Rattle.soundness.proofs.sound.rows_in_use.Tie as tie
@@ -45,44 +45,35 @@ loop-holds c =
 
 row-sound-requires : tie.Need-row-sound-requires Inv-loop μ-loop
 row-sound-requires c κs =
-    let p = c .before .before .before .before .before .before .pre in
-    (p .1, omega (arith, p .0, c .before .loop-test .taken), c .before .before .loop .inv .4, c .before .before .loop .inv .5)
+    let p = c .before .before .before .before .before .before .before .before .pre in
+    let at = c .before .before .before .before .loop in
+    (p .1, omega (arith, p .0, c .before .before .before .loop-test .taken), at .inv .4, at .inv .5, at .inv .2, at .inv .6)
 
 same-length : tie.Need-same-length Inv-loop μ-loop
-same-length c = c .before .before .before .before .loop .inv .8 .long ∙ sym (c .before .before .before .before .before .before .before .before .pre .2 .long)
+same-length c = c .before .before .before .before .before .before .loop .inv .8 .long ∙ sym (c .before .before .before .before .before .before .before .before .before .before .pre .2 .long)
 
 returns : tie.Need-returns Inv-loop μ-loop
 returns c =
-    let a = c .before .before .before .before .before .before .before .before .args in
-    let at = c .before .before .before .before .loop in
-    (no-first _ _ (pass-no (a .elements .now) (a .d) (a .n) (a .v) (a .h) (blank (at .seen)) (at .k) (at .i) (at .inv .3) (c .before .before .before .loop-test .taken) (sym (c .before .row-sound .ensures .0) ∙ not-true _ (c .if1 .taken))), λ e. absurd (false≢true e))
+    let a = c .before .before .before .before .before .before .before .before .before .before .args in
+    let at = c .before .before .before .before .before .before .loop in
+    (no-first _ _ (pass-no (a .elements .now) (a .d) (a .n) (a .v) (a .h) (blank (at .seen)) (at .k) (at .i) (at .inv .3) (c .before .before .before .before .before .loop-test .taken) (sym (c .before .row-sound .ensures .0) ∙ not-true _ (c .if1 .taken))), λ e. absurd (false≢true e))
 
 pass-on-requires : tie.Need-pass-on-requires Inv-loop μ-loop
 pass-on-requires c κs = c .before .before .row-sound .ensures .1 (not-false _ (c .before .if1 .left))
 
-mul-gather-past : tie.Need-mul-gather-past Inv-loop μ-loop
-mul-gather-past c = search needs
-
-gather-past-requires : tie.Need-gather-past-requires Inv-loop μ-loop
-gather-past-requires c κs =
-    let a = c .before .before .before .before .before .before .before .before .before .before .before .before .args in
-    let p = c .before .before .before .before .before .before .before .before .before .before .before .before .pre in
-    let at = c .before .before .before .before .before .before .before .before .loop in
-    (omega (arith, p .0, p .1, c .before .before .before .before .before .before .before .loop-test .taken), head-few (at .i * 36) (a .elements .now) (row-head (a .elements .now) (a .d) (a .h) (at .k) (at .i) _ (sym (c .before .before .before .before .before .row-sound .ensures .0) ∙ not-false _ (c .before .before .before .before .if1 .left))), at .inv .2, at .inv .6)
-
 row-new-requires : tie.Need-row-new-requires Inv-loop μ-loop
 row-new-requires c κs =
-    let p = c .before .before .before .before .before .before .before .before .before .before .before .before .before .before .pre in
-    (omega (arith, p .0, c .before .before .before .before .before .before .before .before .before .loop-test .taken), p .1, c .before .before .before .before .before .before .before .before .before .before .loop .inv .8)
+    let p = c .before .before .before .before .before .before .before .before .before .before .before .before .before .pre in
+    (omega (arith, p .0, c .before .before .before .before .before .before .before .before .loop-test .taken), p .1, c .before .before .before .before .before .before .before .before .before .loop .inv .8)
 
 same-length-2 : tie.Need-same-length-2 Inv-loop μ-loop
 same-length-2 c = search needs
 
 returns-2 : tie.Need-returns-2 Inv-loop μ-loop
 returns-2 c =
-    let a = c .before .before .before .before .before .before .before .before .before .before .before .before .before .before .before .before .before .before .args in
-    let at = c .before .before .before .before .before .before .before .before .before .before .before .before .before .before .loop in
-    (no-second (rowsInUse desk (a .d) (a .n) (a .v) (a .h) (a .elements .now)) _ (sym (apart-is (a .elements .now) (a .n)) ∙ apart-no (a .elements .now) (a .n) (at .i) (c .before .before .before .before .before .before .before .before .before .before .before .before .before .loop-test .taken) (sym (c .before .before .before .row-new .ensures .0) ∙ not-true _ (c .if2 .taken))), λ e. absurd (false≢true e))
+    let a = c .before .before .before .before .before .before .before .before .before .before .before .before .before .before .before .before .before .args in
+    let at = c .before .before .before .before .before .before .before .before .before .before .before .before .before .loop in
+    (no-second (rowsInUse desk (a .d) (a .n) (a .v) (a .h) (a .elements .now)) _ (sym (apart-is (a .elements .now) (a .n)) ∙ apart-no (a .elements .now) (a .n) (at .i) (c .before .before .before .before .before .before .before .before .before .before .before .before .loop-test .taken) (sym (c .before .before .before .row-new .ensures .0) ∙ not-true _ (c .if2 .taken))), λ e. absurd (false≢true e))
 
 mul-one-if-corner : tie.Need-mul-one-if-corner Inv-loop μ-loop
 mul-one-if-corner c = search needs
@@ -101,17 +92,19 @@ loop-less c = search needs
 
 loop-again : tie.Need-loop-again Inv-loop μ-loop
 loop-again c =
-    let a = c .before .before .before .before .before .before .before .before .before .before .before .before .before .before .before .before .before .before .before .args in
-    let at = c .before .before .before .before .before .before .before .before .before .before .before .before .before .before .before .loop in
-    let p = c .before .before .before .before .before .before .before .before .before .before .before .before .before .before .before .before .before .before .before .pre in
-    let sound = sym (c .before .before .before .before .before .before .before .before .before .before .before .before .row-sound .ensures .0) ∙ not-false _ (c .before .before .before .before .before .before .before .before .before .before .before .if1 .left) in (
+    let a = c .before .before .before .before .before .before .before .before .before .before .before .before .before .before .before .before .before .before .args in
+    let at = c .before .before .before .before .before .before .before .before .before .before .before .before .before .before .loop in
+    let p = c .before .before .before .before .before .before .before .before .before .before .before .before .before .before .before .before .before .before .pre in
+    let yes = not-false _ (c .before .before .before .before .before .before .before .before .if1 .left) in
+    let sound = sym (c .before .before .before .before .before .before .before .before .before .row-sound .ensures .0) ∙ yes in
+    let gathered = c .before .before .before .before .before .before .before .before .before .row-sound .ensures .2 yes in (
       search needs,
       search needs,
       at .inv .2,
-      pass-go (a .elements .now) (a .d) (a .n) (a .v) (a .h) (blank (at .seen)) _ (at .k) (at .i) _ (at .inv .3) (c .before .before .before .before .before .before .before .before .before .before .before .before .before .before .loop-test .taken) sound (c .before .before .before .before .before .before .gather-past .ensures .0) (c .one-if-corner .ensures .0),
-      edges-on (a .elements .now) (at .i) (a .d) (a .h) (p .1) (omega (arith, p .0, c .before .before .before .before .before .before .before .before .before .before .before .before .before .before .loop-test .taken)) (row-head (a .elements .now) (a .d) (a .h) (at .k) (at .i) _ sound) (row-element (a .elements .now) (a .d) (a .h) (at .k) (at .i) _ sound) (at .inv .4),
-      c .before .before .before .before .before .before .before .before .before .pass-on .ensures,
-      c .before .before .before .before .before .before .gather-past .ensures .1,
+      pass-go (a .elements .now) (a .d) (a .n) (a .v) (a .h) (blank (at .seen)) _ (at .k) (at .i) _ (at .inv .3) (c .before .before .before .before .before .before .before .before .before .before .before .before .before .loop-test .taken) sound (gathered .clear) (c .one-if-corner .ensures .0),
+      edges-on (a .elements .now) (at .i) (a .d) (a .h) (p .1) (omega (arith, p .0, c .before .before .before .before .before .before .before .before .before .before .before .before .before .loop-test .taken)) (row-head (a .elements .now) (a .d) (a .h) (at .k) (at .i) _ sound) (row-element (a .elements .now) (a .d) (a .h) (at .k) (at .i) _ sound) (at .inv .4),
+      c .before .before .before .before .before .before .pass-on .ensures,
+      gathered .long,
       apart-go (a .elements .now) (at .i) (at .inv .7) (sym (c .before .before .before .before .row-new .ensures .0) ∙ not-false _ (c .before .if2 .left)),
       c .before .before .before .before .row-new .ensures .1 (not-false _ (c .before .if2 .left)),
     )
@@ -156,8 +149,6 @@ rows-in-use-spec =
     same-length
     returns
     pass-on-requires
-    mul-gather-past
-    gather-past-requires
     row-new-requires
     same-length-2
     returns-2

@@ -1,0 +1,63 @@
+-- The answer is read off the test of the count.
+use mathlib.Core.Bool.{false≢true}
+use native.Mathlib.Omega.{arith}
+use Rattle.soundness.proofs.RowKinds.{polytope-many, polytope-few}
+use borrow.Author.Needs.{needs}
+use Rattle.soundness.proofs.sound.higher_sound.Statement.{statement}
+use Rattle.soundness.proofs.sound.higher_sound.Tie as tie
+
+mul-at : tie.Need-mul-at
+mul-at c = search needs
+
+add-wide : tie.Need-add-wide
+add-wide c = search needs
+
+mul-wide : tie.Need-mul-wide
+mul-wide c = search needs
+
+shared-slice-read-wide : tie.Need-shared-slice-read-wide
+shared-slice-read-wide c = search needs
+
+wide-requires : tie.Need-wide-requires
+wide-requires c κs = search needs
+
+returns : tie.Need-returns
+returns c =
+    let a = c .before .before .before .before .args in
+    (polytope-many (a .elements .now) (a .e) _ (c .before .wide .ensures .0) (a .rank) (c .if1 .taken), λ t. absurd (false≢true t), λ t. absurd (false≢true t))
+
+gather-past-requires : tie.Need-gather-past-requires
+gather-past-requires c κs =
+    let p = c .before .before .before .before .before .pre in
+    (omega (arith, p .0, p .1), c .before .before .wide .ensures .0, c .before .if1 .left, p .5, p .6)
+
+add-boundary-sound : tie.Need-add-boundary-sound
+add-boundary-sound c = search needs
+
+boundary-sound-requires : tie.Need-boundary-sound-requires
+boundary-sound-requires c κs =
+    let p = c .before .before .before .before .before .before .before .pre in
+    (p .0, omega (arith, p .1, c .before .before .before .if1 .left), c .before .before .before .if1 .left, p .1, p .2, p .3, p .4)
+
+returns-2 : tie.Need-returns-2
+returns-2 c =
+    let a = c .before .before .before .before .before .before .before .before .args in (
+      polytope-few (a .elements .now) (a .e) _ (c .before .before .before .before .before .wide .ensures .0) (a .rank) (c .before .before .before .before .if1 .left) (c .boundary-sound .ensures .0),
+      c .boundary-sound .ensures .1,
+      λ t. c .before .before .gather-past .ensures,
+    )
+
+pub higher-sound-spec : {M : Type 1} → statement M
+higher-sound-spec =
+    tie.close
+    (tie.spec
+    mul-at
+    add-wide
+    mul-wide
+    shared-slice-read-wide
+    wide-requires
+    returns
+    gather-past-requires
+    add-boundary-sound
+    boundary-sound-requires
+    returns-2)
