@@ -359,7 +359,7 @@ pub fn hyperplane_at(planes: &[f64], k: usize) -> Hyperplane
 }
 
 // The lowest of n vertices that matches a point; a vertex is left at its first unlike axis.
-pub fn find_vertex(d: usize, points: &[f64], n: usize, p: [f64; 4]) -> FoundVertex
+fn search_vertices(d: usize, points: &[f64], n: usize, p: [f64; 4]) -> FoundVertex
     requires { ⌜ n * axes ≤ length (now points) ⌝ }
     ensures { λ r. ⌜ vertexNumber r ≡ find (λ q. floats.pointMatches q (take d p)) (pointsIn d n (now (points .entry))) ⌝ }
 {
@@ -378,6 +378,20 @@ pub fn find_vertex(d: usize, points: &[f64], n: usize, p: [f64; 4]) -> FoundVert
         break FoundVertex::At(VertexId(v));
     };
     found
+}
+
+// The same; with the dimension as a number a vertex's axes are compared with no loop.
+pub fn find_vertex(d: usize, points: &[f64], n: usize, p: [f64; 4]) -> FoundVertex
+    requires { ⌜ n * axes ≤ length (now points) ⌝ }
+    ensures { λ r. ⌜ vertexNumber r ≡ find (λ q. floats.pointMatches q (take d p)) (pointsIn d n (now (points .entry))) ⌝ }
+{
+    if d == 2 {
+        return search_vertices(2, points, n, p);
+    }
+    if d == 3 {
+        return search_vertices(3, points, n, p);
+    }
+    search_vertices(d, points, n, p)
 }
 
 // The lowest hyperplane, of those numbered from first up to n, that matches.

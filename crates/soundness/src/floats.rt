@@ -6,7 +6,7 @@ use space::words::AXES;
 use space::words::PLANE_FLOATS;
 use space::words::PLANE_WIDTH;
 use space::words::POINT_FLOATS;
-ghost use Prim.Native.Nat.{_+_, _*_, _<_, _≤_, _-_};
+ghost use Prim.Native.Nat.{_+_, _*_, _<_, _≤_};
 ghost use mathlib.Core.Path.{_≡_};
 ghost use mathlib.Core.Bool.{true};
 ghost use lib.Dec.{eqb};
@@ -107,7 +107,7 @@ fn planes_sound(planes: &[f64], d: usize, h: usize) -> bool
 }
 
 // The two slices of floats.
-pub fn floats_sound(points: &[f64], planes: &[f64], d: usize, v: usize, h: usize) -> bool
+fn floats_along(points: &[f64], planes: &[f64], d: usize, v: usize, h: usize) -> bool
     requires { ⌜ (d ≤ 4) × (v ≤ 256) × (h ≤ 64) × (length (now points) ≡ 1024) × (length (now planes) ≡ 320) ⌝ }
     ensures { λ r. ⌜ r ≡ floatsSound desk d v h (now (points .entry)) (now (planes .entry)) ⌝ }
 {
@@ -115,4 +115,18 @@ pub fn floats_sound(points: &[f64], planes: &[f64], d: usize, v: usize, h: usize
         return false;
     }
     planes_sound(planes, d, h)
+}
+
+// The same; with the dimension as a number the axes are gone over with no loop.
+pub fn floats_sound(points: &[f64], planes: &[f64], d: usize, v: usize, h: usize) -> bool
+    requires { ⌜ (d ≤ 4) × (v ≤ 256) × (h ≤ 64) × (length (now points) ≡ 1024) × (length (now planes) ≡ 320) ⌝ }
+    ensures { λ r. ⌜ r ≡ floatsSound desk d v h (now (points .entry)) (now (planes .entry)) ⌝ }
+{
+    if d == 2 {
+        return floats_along(points, planes, 2, v, h);
+    }
+    if d == 3 {
+        return floats_along(points, planes, 3, v, h);
+    }
+    floats_along(points, planes, d, v, h)
 }

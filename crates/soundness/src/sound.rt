@@ -255,7 +255,7 @@ fn rows_in_use(elements: &[u16], d: usize, n: usize, v: usize, h: usize, index: 
 }
 
 // The slice of elements: the rows in use, and zeros past them.
-fn rows_sound(elements: &[u16], d: usize, n: usize, v: usize, h: usize, index: &mut [u16]) -> bool
+fn rows_along(elements: &[u16], d: usize, n: usize, v: usize, h: usize, index: &mut [u16]) -> bool
     requires { ⌜ (n ≤ 512) × (length (now elements) ≡ 18432) × Indexed (now elements) 0 (now index) ⌝ }
     ensures { λ r. ⌜ (r ≡ rowsSound desk d n v h (now (elements .entry))) × (r ≡ true → Indexed (now (elements .entry)) n (now (index .exit))) ⌝ }
 {
@@ -263,6 +263,20 @@ fn rows_sound(elements: &[u16], d: usize, n: usize, v: usize, h: usize, index: &
         return false;
     }
     blank_words(elements, n * WIDTH, ELEMENT_WORDS)
+}
+
+// The same; with the dimension as a number a row's rank is compared with numbers.
+fn rows_sound(elements: &[u16], d: usize, n: usize, v: usize, h: usize, index: &mut [u16]) -> bool
+    requires { ⌜ (n ≤ 512) × (length (now elements) ≡ 18432) × Indexed (now elements) 0 (now index) ⌝ }
+    ensures { λ r. ⌜ (r ≡ rowsSound desk d n v h (now (elements .entry))) × (r ≡ true → Indexed (now (elements .entry)) n (now (index .exit))) ⌝ }
+{
+    if d == 2 {
+        return rows_along(elements, 2, n, v, h, index);
+    }
+    if d == 3 {
+        return rows_along(elements, 3, n, v, h, index);
+    }
+    rows_along(elements, d, n, v, h, index)
 }
 
 // Lengths and counts come first: the other tests rely on them. The rows of a sound memory are in the index then.

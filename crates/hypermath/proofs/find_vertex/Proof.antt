@@ -1,127 +1,51 @@
--- Two invariants: the search is asked from the vertex at hand on, and its comparison from the axis at hand on.
-use mathlib.Core.Path.{_≡_, refl, sym, _∙_}
-use Prim.Native.Nat.{_≤_, _<_, _-_, _*_}
+-- The dimension is the number that it was compared with.
+use Prim.Native.Nat.{ℕ}
+use mathlib.Core.Path.{_≡_, subst}
 use native.Mathlib.Omega.{arith}
-use borrow.Author.Tests.{not-true, not-false}
-use lib.ListN.{length, take}
-use Rattle.rules.specs.Lists.{find}
+use mathlib.Core.List.{List}
+use mathlib.Core.Option.{Option}
+use lib.Ieee.{Float}
+use lib.ListN.{take}
 use Rattle.rules.specs.Floats.{pointMatches}
-use Rattle.rules.proofs.Indexed.{soughtFrom, sought-start, sought-on, sought-here, sought-none}
-use Rattle.hypermath.specs.Axes.{axes, AxesOf}
+use Rattle.rules.specs.Lists.{find}
 use Rattle.hypermath.specs.Answers.{pointsIn}
-use Rattle.hypermath.proofs.Searches.{leftFrom, left-go, left-no, left-end}
 use borrow.Author.Needs.{needs}
 use Rattle.hypermath.proofs.find_vertex.Statement.{statement}
 use Rattle.hypermath.proofs.find_vertex.Tie as tie
 
-abbrev Inv-loop : tie.InvT-loop
-Inv-loop d points n p used v₀ axis₀ v axis = (v ≡ v₀) × (axis ≤ used) × (room : n * axes ≤ length points) × (long : length p ≡ axes) × (in-use : v < n) × (A : AxesOf d used) × (leftFrom d n points p used v A room long in-use 0 ≡ leftFrom d n points p used v A room long in-use axis) × (find (λ r. pointMatches r (take d p)) (pointsIn d n points) ≡ soughtFrom (take d) (λ r. pointMatches r (take d p)) axes n points v)
+for-dimension : (d e n : ℕ) (p points : List Float) (found : Option ℕ) → d ≡ e → found ≡ find (λ q. pointMatches q (take d p)) (pointsIn d n points)
+    → found ≡ find (λ q. pointMatches q (take e p)) (pointsIn e n points)
+for-dimension d e n p points found q h = subst (λ (c : ℕ). found ≡ find (λ r. pointMatches r (take c p)) (pointsIn c n points)) q h
 
-abbrev μ-loop : tie.MeasureT-loop
-μ-loop d points n p used v₀ axis₀ v axis = used - axis
+search-vertices-requires : tie.Need-search-vertices-requires
+search-vertices-requires c κs = search needs
 
-abbrev Inv-vertices : tie.InvT-vertices
-Inv-vertices d points n p used v₀ v = (v ≤ n) × (find (λ r. pointMatches r (take d p)) (pointsIn d n points) ≡ soughtFrom (take d) (λ r. pointMatches r (take d p)) axes n points v)
-
-abbrev μ-vertices : tie.MeasureT-vertices
-μ-vertices d points n p used v₀ v = n - v
-
-axes-of-requires : tie.Need-axes-of-requires Inv-loop μ-loop Inv-vertices μ-vertices
-axes-of-requires c κs = search needs
-
-vertices-holds : tie.Need-vertices-holds Inv-loop μ-loop Inv-vertices μ-vertices
-vertices-holds c =
-    let t = c .before .before .args in
-    (search needs, sought-start (take (t .d)) (λ r. pointMatches r (take (t .d) (t .t4))) axes (t .n) (t .points .now) 0)
-
-loop-holds : tie.Need-loop-holds Inv-loop μ-loop Inv-vertices μ-vertices
-loop-holds c = (refl, search needs, c .before .before .before .before .pre, search needs, omega arith, c .before .before .axes-of .ensures, refl, c .before .vertices .inv .1)
-
-mul-coordinates-match : tie.Need-mul-coordinates-match Inv-loop μ-loop Inv-vertices μ-vertices
-mul-coordinates-match c = search needs
-
-add-coordinates-match : tie.Need-add-coordinates-match Inv-loop μ-loop Inv-vertices μ-vertices
-add-coordinates-match c = search needs
-
-mul-coordinates-match-2 : tie.Need-mul-coordinates-match-2 Inv-loop μ-loop Inv-vertices μ-vertices
-mul-coordinates-match-2 c = search needs
-
-shared-slice-read-coordinates-match :
-    tie.Need-shared-slice-read-coordinates-match Inv-loop μ-loop Inv-vertices μ-vertices
-shared-slice-read-coordinates-match c = search needs
-
-mul-coordinates-match-3 : tie.Need-mul-coordinates-match-3 Inv-loop μ-loop Inv-vertices μ-vertices
-mul-coordinates-match-3 c = search needs
-
-array-read-coordinates-match :
-    tie.Need-array-read-coordinates-match Inv-loop μ-loop Inv-vertices μ-vertices
-array-read-coordinates-match c = search needs
-
-coordinates-match-requires :
-    tie.Need-coordinates-match-requires Inv-loop μ-loop Inv-vertices μ-vertices
-coordinates-match-requires c κs = search needs
-
-add-v : tie.Need-add-v Inv-loop μ-loop Inv-vertices μ-vertices
-add-v c = search needs
-
-vertices-less : tie.Need-vertices-less Inv-loop μ-loop Inv-vertices μ-vertices
-vertices-less c = search needs
-
-vertices-again : tie.Need-vertices-again Inv-loop μ-loop Inv-vertices μ-vertices
-vertices-again c =
-    let at = c .before .before .before .before .loop in
-    let t = c .before .before .before .before .before .before .before .before .before .args in
-    let unlike = left-no (t .d) (t .n) (t .points .now) (t .t4) _ (at .v) (at .inv .5) (at .inv .2) (at .inv .3) (at .inv .4) (at .axis) (at .inv .6) (c .before .before .before .loop-test .taken) (sym (c .before .coordinates-match .ensures) ∙ not-true _ (c .if2 .taken)) in
-    (search needs, sought-on (take (t .d)) (λ r. pointMatches r (take (t .d) (t .t4))) axes (t .n) (t .points .now) (at .v) (at .inv .4) (at .inv .7) unlike)
-
-add-axis : tie.Need-add-axis Inv-loop μ-loop Inv-vertices μ-vertices
-add-axis c = search needs
-
-loop-less : tie.Need-loop-less Inv-loop μ-loop Inv-vertices μ-vertices
-loop-less c = search needs
-
-loop-again : tie.Need-loop-again Inv-loop μ-loop Inv-vertices μ-vertices
-loop-again c =
-    let at = c .before .before .before .before .loop in
-    let t = c .before .before .before .before .before .before .before .before .before .args in
-    let more = left-go (t .d) (t .n) (t .points .now) (t .t4) _ (at .v) (at .inv .5) (at .inv .2) (at .inv .3) (at .inv .4) (at .axis) (at .inv .6) (c .before .before .before .loop-test .taken) (sym (c .before .coordinates-match .ensures) ∙ not-false _ (c .if2 .left)) in
-    (search needs, search needs, at .inv .2, at .inv .3, at .inv .4, at .inv .5, more, at .inv .7)
-
-returns : tie.Need-returns Inv-loop μ-loop Inv-vertices μ-vertices
+returns : tie.Need-returns
 returns c =
-    let t = c .before .before .before .before .args in
-    sought-none (take (t .d)) (λ r. pointMatches r (take (t .d) (t .t4))) axes (t .n) (t .points .now) (c .before .vertices .v) (omega arith) (c .before .vertices .inv .1)
+    let a = c .before .before .before .args in
+    for-dimension 2 (a .d) (a .n) (a .p) (a .points .now) _ (omega arith) (c .search-vertices .ensures)
 
-returns-2 : tie.Need-returns-2 Inv-loop μ-loop Inv-vertices μ-vertices
+search-vertices-requires-2 : tie.Need-search-vertices-requires-2
+search-vertices-requires-2 c κs = search needs
+
+returns-2 : tie.Need-returns-2
 returns-2 c =
-    let at = c .before .loop in
-    let t = c .before .before .before .before .before .before .args in
-    let like = left-end (t .d) (t .n) (t .points .now) (t .t4) _ (at .v) (at .inv .5) (at .inv .2) (at .inv .3) (at .inv .4) (at .axis) (at .inv .6) (omega arith) in
-    sought-here (take (t .d)) (λ r. pointMatches r (take (t .d) (t .t4))) axes (t .n) (t .points .now) (at .v) (at .inv .4) (at .inv .7) like
+    let a = c .before .before .before .before .args in
+    for-dimension 3 (a .d) (a .n) (a .p) (a .points .now) _ (omega arith) (c .search-vertices2 .ensures)
+
+search-vertices-requires-3 : tie.Need-search-vertices-requires-3
+search-vertices-requires-3 c κs = search needs
+
+returns-3 : tie.Need-returns-3
+returns-3 c = search needs
 
 pub find-vertex-spec : {M : Type 1} → statement M
 find-vertex-spec =
     tie.close
     (tie.spec
-    Inv-loop
-    μ-loop
-    Inv-vertices
-    μ-vertices
-    axes-of-requires
-    vertices-holds
-    loop-holds
-    mul-coordinates-match
-    add-coordinates-match
-    mul-coordinates-match-2
-    shared-slice-read-coordinates-match
-    mul-coordinates-match-3
-    array-read-coordinates-match
-    coordinates-match-requires
-    add-v
-    vertices-less
-    vertices-again
-    add-axis
-    loop-less
-    loop-again
+    search-vertices-requires
     returns
-    returns-2)
+    search-vertices-requires-2
+    returns-2
+    search-vertices-requires-3
+    returns-3)

@@ -1,17 +1,15 @@
--- The answer is read off the tests that were taken.
-use Prim.Native.Nat.{_*_}
-use mathlib.Core.Path.{sym, _∙_, refl}
-use mathlib.Core.Bool.{false, true, false≢true}
-use Rattle.rules.proofs.Laws.{not-true, not-false}
-use Rattle.soundness.proofs.ElementLoops.{rows-both}
-use Rattle.soundness.proofs.RowLoops.{whole-room}
-use Rattle.soundness.specs.Words.{blank}
+-- The dimension is the number that it was compared with.
+use Prim.Native.Nat.{ℕ}
+use mathlib.Core.Path.{ap, _∙_}
+use native.Mathlib.Omega.{arith}
+use Rattle.rules.specs.Limits.{desk}
+use Rattle.soundness.specs.Words.{rowsSound}
 use borrow.Author.Needs.{needs}
 use Rattle.soundness.proofs.sound.rows_sound.Statement.{statement}
 use Rattle.soundness.proofs.sound.rows_sound.Tie as tie
 
-rows-in-use-requires : tie.Need-rows-in-use-requires
-rows-in-use-requires c κs = search needs
+rows-along-requires : tie.Need-rows-along-requires
+rows-along-requires c κs = search needs
 
 same-length : tie.Need-same-length
 same-length c = search needs
@@ -19,13 +17,11 @@ same-length c = search needs
 returns : tie.Need-returns
 returns c =
     let a = c .before .before .before .before .before .before .before .args in
-    (rows-both (a .d) (a .n) (a .v) (a .h) (a .elements .now) false _ (sym (c .before .before .before .rows-in-use .ensures .0) ∙ not-true _ (c .if1 .taken)) refl, λ e. absurd (false≢true e))
+    let r = c .before .before .rows-along .ensures in
+    (r .0 ∙ ap (λ (d : ℕ). rowsSound desk d (a .n) (a .v) (a .h) (a .elements .now)) (omega arith), r .1)
 
-mul-blank-words : tie.Need-mul-blank-words
-mul-blank-words c = search needs
-
-blank-words-requires : tie.Need-blank-words-requires
-blank-words-requires c κs = search needs
+rows-along-requires-2 : tie.Need-rows-along-requires-2
+rows-along-requires-2 c κs = search needs
 
 same-length-2 : tie.Need-same-length-2
 same-length-2 c = search needs
@@ -33,19 +29,28 @@ same-length-2 c = search needs
 returns-2 : tie.Need-returns-2
 returns-2 c =
     let a = c .before .before .before .before .before .before .before .before .args in
-    let told = sym (c .before .before .before .before .rows-in-use .ensures .0) ∙ not-false _ (c .before .if1 .left) in (
-      rows-both (a .d) (a .n) (a .v) (a .h) (a .elements .now) true _ told (sym (c .blank-words .ensures ∙ whole-room blank (a .n * 36) 18432 (a .elements .now) (c .before .before .before .before .before .before .before .before .pre .1))),
-      λ e. c .before .before .before .before .rows-in-use .ensures .1 (not-false _ (c .before .if1 .left)),
-    )
+    let r = c .before .before .rows-along2 .ensures in
+    (r .0 ∙ ap (λ (d : ℕ). rowsSound desk d (a .n) (a .v) (a .h) (a .elements .now)) (omega arith), r .1)
+
+rows-along-requires-3 : tie.Need-rows-along-requires-3
+rows-along-requires-3 c κs = search needs
+
+same-length-3 : tie.Need-same-length-3
+same-length-3 c = search needs
+
+returns-3 : tie.Need-returns-3
+returns-3 c = search needs
 
 pub rows-sound-spec : {M : Type 1} → statement M
 rows-sound-spec =
     tie.close
     (tie.spec
-    rows-in-use-requires
+    rows-along-requires
     same-length
     returns
-    mul-blank-words
-    blank-words-requires
+    rows-along-requires-2
     same-length-2
-    returns-2)
+    returns-2
+    rows-along-requires-3
+    same-length-3
+    returns-3)
