@@ -117,6 +117,6 @@ gap-of-same (fin s m e) h =
 pub match-far : (a b : Float) → within tolerance (sub binary64 a b) ≡ false → ne (sub binary64 a b) (sub binary64 a b) ≡ false → false ≡ matches a b
 match-far a b h k =
     sym (refute (sameBits a b) (λ q.
-        true≢false (sym (gap-of-same a (ap (λ (y : Float). within tolerance (sub binary64 a y)) (same-float a b q) ∙ h))
-        ∙ ap (λ (y : Float). isNan (sub binary64 a y)) (same-float a b q) ∙ sym (differs (sub binary64 a b)) ∙ k)))
+    true≢false (sym (gap-of-same a (ap (λ (y : Float). within tolerance (sub binary64 a y)) (same-float a b q) ∙ h))
+    ∙ ap (λ (y : Float). isNan (sub binary64 a y)) (same-float a b q) ∙ sym (differs (sub binary64 a b)) ∙ k)))
     ∙ match-bits a b h

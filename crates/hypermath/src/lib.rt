@@ -1,6 +1,11 @@
 // All that the rules do with floats: distances and sides, crossings, matches, and the two searches over the lent rows.
+mod between;
 pub mod patterns;
 
+use between::above_both;
+use between::below_both;
+use between::greater;
+use between::lesser;
 use rules::Crossing;
 use rules::Hyperplane;
 use rules::HyperplaneId;
@@ -8,9 +13,7 @@ use rules::Side;
 use rules::VertexId;
 ghost use Prim.Native.Nat.{_+_, _*_, _≤_};
 ghost use mathlib.Core.Path.{_≡_};
-ghost use mathlib.Core.Bool.{_&&_};
 ghost use mathlib.Core.List.{[]};
-ghost use lib.Ieee.{lt};
 ghost use lib.ListN.{length, getD, take, drop};
 ghost use Rattle.rules.specs.Lists.{all, find, findFrom, pad};
 ghost use Rattle.rules.specs.Floats as floats;
@@ -201,46 +204,6 @@ pub fn edge_test(d: usize, h: Hyperplane, ends: [[f64; 4]; 2]) -> Crossing
     let a = ends[0];
     let b = ends[1];
     crossing_between(signed_distance(d, h, a), signed_distance(d, h, b))
-}
-
-// Whether x is above both ends.
-fn above_both(a: f64, b: f64, x: f64) -> bool
-    ensures { λ r. ⌜ r ≡ (lt a x && lt b x) ⌝ }
-{
-    if a < x {
-        return b < x;
-    }
-    false
-}
-
-// Whether x is below both ends.
-fn below_both(a: f64, b: f64, x: f64) -> bool
-    ensures { λ r. ⌜ r ≡ (lt x a && lt x b) ⌝ }
-{
-    if x < a {
-        return x < b;
-    }
-    false
-}
-
-// The greater of two ends, of two that are equal the first.
-fn greater(a: f64, b: f64) -> f64
-    ensures { λ r. ⌜ r ≡ floats.greater a b ⌝ }
-{
-    if a < b {
-        return b;
-    }
-    a
-}
-
-// The lesser of two ends, of two that are equal the first.
-fn lesser(a: f64, b: f64) -> f64
-    ensures { λ r. ⌜ r ≡ floats.lesser a b ⌝ }
-{
-    if b < a {
-        return b;
-    }
-    a
 }
 
 // x, brought back between the ends a and b.

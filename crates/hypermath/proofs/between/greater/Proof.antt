@@ -1,8 +1,8 @@
 -- By the one comparison.
 use mathlib.Core.Path.{sym}
 use Rattle.rules.proofs.Laws.{if-true, if-false}
-use Rattle.hypermath.proofs.greater.Statement.{statement}
-use Rattle.hypermath.proofs.greater.Tie as tie
+use Rattle.hypermath.proofs.between.greater.Statement.{statement}
+use Rattle.hypermath.proofs.between.greater.Tie as tie
 
 returns : tie.Need-returns
 returns c = sym (if-true _ _ _ (c .if1 .taken))

@@ -2,8 +2,8 @@
 use mathlib.Core.Bool.{true, false}
 use mathlib.Core.Path.{refl}
 use Rattle.hypermath.proofs.Tests.{both-are}
-use Rattle.hypermath.proofs.below_both.Statement.{statement}
-use Rattle.hypermath.proofs.below_both.Tie as tie
+use Rattle.hypermath.proofs.between.below_both.Statement.{statement}
+use Rattle.hypermath.proofs.between.below_both.Tie as tie
 
 returns : tie.Need-returns
 returns c = both-are true _ _ _ (c .if1 .taken) refl
