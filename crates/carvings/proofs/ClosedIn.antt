@@ -15,8 +15,8 @@ use Rattle.carvings.proofs.Embeds.{Embeds}
 use Rattle.rules.proofs.Extends.{Below, below-more}
 use Rattle.rules.proofs.FaceEdges.{of-all}
 use Rattle.rules.proofs.Growing.{keep-append}
-use Rattle.carvings.proofs.Images.{iff, below-member, image-new, image-length, boundary-renumbered}
-use Rattle.rules.proofs.Laws.{and-right, eq-test, test-eq, or-false}
+use Rattle.carvings.proofs.Images.{below-member, image-new, image-length, boundary-renumbered}
+use Rattle.rules.proofs.Laws.{and-right, eq-test, test-eq, or-false, both-ways}
 use Rattle.rules.proofs.RingWalked.{all-of}
 
 -- ---- how often a number stands in a list
@@ -92,7 +92,7 @@ module _ (f : ℕ → ℕ) (n : ℕ) (once : (e e′ : ℕ) → e < n → e′ <
   occ-image v l [] r b = refl
   occ-image v l (x ∷ xs) r b =
       occ-with (f v) (f x) (image f xs) (image-new f n once x xs r b)
-      ∙ ap₂ step (iff (eqb (f v) (f x)) (eqb v x) (λ e. test-eq v x (once v x l (b .0) (eq-test (f v) (f x) e))) (λ e. test-eq (f v) (f x) (ap f (eq-test v x e))))
+      ∙ ap₂ step (both-ways (eqb (f v) (f x)) (eqb v x) (λ e. test-eq v x (once v x l (b .0) (eq-test (f v) (f x) e))) (λ e. test-eq (f v) (f x) (ap f (eq-test v x e))))
       (occ-image v l xs (and-right (all (ltb x) xs) (rises xs) r) (b .1))
       ∙ sym (occ-cons v x xs)
 

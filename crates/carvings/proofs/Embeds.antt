@@ -1,7 +1,7 @@
 -- One table inside another, by a renumbering: each element of the first stands in the second with its boundary renumbered.
 -- It goes on when the first gets an element that the second has.
 use Prim.Native.Nat.{ℕ, suc, zero, _<_, _≤_, _+_}
-use mathlib.Core.Bool.{Bool, true, false, _&&_, false≢true, Bool·beq}
+use mathlib.Core.Bool.{Bool, true, false, false≢true}
 use mathlib.Core.List.{List, [], _∷_}
 use mathlib.Core.Option.{Option, none, some}
 use mathlib.Core.Path.{_≡_, refl, ap, sym, _∙_, subst}
@@ -11,8 +11,8 @@ use lib.Dec.{ltb, eqb}
 use lib.ListN.{length, getD}
 use lib.Seq.{getD-append-seam}
 use Rattle.rules.specs.Limits.{Limits}
-use Rattle.rules.specs.Lists.{if_then_else_, findFrom, find, alike, rises}
-use Rattle.rules.specs.Table.{Element, corner, polytope, Table, element, elementCount, boundary, boundaryOf, samePlane, sameElement}
+use Rattle.rules.specs.Lists.{if_then_else_, findFrom, find, rises}
+use Rattle.rules.specs.Table.{Element, corner, polytope, Table, element, elementCount, boundary, boundaryOf, sameElement}
 use Rattle.rules.specs.Sound.{soundElement}
 use Rattle.rules.specs.Cut.{Outcome, done, refused, addElement, shareElement, withElement}
 use Rattle.rules.specs.Held.{Extends}
@@ -23,29 +23,10 @@ use Rattle.rules.proofs.Fine.{Index, before-end, at-end, index-of, below-names}
 use Rattle.rules.proofs.Good.{Good, sound-at, whole}
 use Rattle.rules.proofs.Growing.{if-none, length-snoc}
 use Rattle.carvings.proofs.Images.{renumbered-agree, renumbered-once, renumbered-same}
-use Rattle.rules.proofs.Laws.{eq-test, and-left, and-right, beq-same, valueOf, if-true, if-false, eqb-self, not-eq}
+use Rattle.rules.proofs.Laws.{valueOf, if-true, if-false, eqb-self, not-eq}
 use Rattle.rules.proofs.Missed.{find-own}
-use Rattle.rules.proofs.Selves.{element-self, alike-eq}
+use Rattle.rules.proofs.Selves.{element-self, same-element}
 use Rattle.rules.proofs.Stays.{found-element}
-
--- ---- elements that are equal
-
-same-plane : (h k : Option ℕ) → samePlane h k ≡ true → h ≡ k
-same-plane none none e = refl
-same-plane none (some k) e = absurd (false≢true e)
-same-plane (some h) none e = absurd (false≢true e)
-same-plane (some h) (some k) e = ap {B = Option ℕ} some (eq-test h k e)
-
-pub same-element : (y z : Element) → sameElement y z ≡ true → y ≡ z
-unfolding sameElement
-same-element (corner v) (corner w) k = ap corner (eq-test v w k)
-same-element (corner v) (polytope q c j n) k = absurd (false≢true k)
-same-element (polytope r b h m) (corner w) k = absurd (false≢true k)
-same-element (polytope r b h m) (polytope q c j n) k =
-    let k₃ = and-left (eqb r q && samePlane h j && Bool·beq m n) (alike eqb b c) k in
-    let k₂ = and-left (eqb r q && samePlane h j) (Bool·beq m n) k₃ in
-    λ i. polytope (eq-test r q (and-left (eqb r q) (samePlane h j) k₂) i) (alike-eq b c (and-right (eqb r q && samePlane h j && Bool·beq m n) (alike eqb b c) k) i)
-    (same-plane h j (and-right (eqb r q) (samePlane h j) k₂) i) (beq-same m n (and-right (eqb r q && samePlane h j) (Bool·beq m n) k₃) i)
 
 -- no two elements are equal
 abbrev pub Apart : Table → Type 0

@@ -12,15 +12,10 @@ use Rattle.rules.specs.Table.{Element, corner, polytope, boundaryOf}
 use Rattle.carvings.specs.Renumbered.{image, renumbered}
 use Rattle.rules.proofs.Extends.{Below}
 use Rattle.rules.proofs.FaceEdges.{of-all}
-use Rattle.rules.proofs.Laws.{and-left, and-right, eq-test, eqb-self, le-test, or-left, or-right, or-case, or-false, refute}
+use Rattle.rules.proofs.Laws.{and-left, and-right, eq-test, eqb-self, le-test, or-left, or-right, or-case, or-false, refute, both-ways}
 use Rattle.rules.proofs.Ranked.{rises-with}
 
 -- ---- tests
-
-pub iff : (b c : Bool) → (b ≡ true → c ≡ true) → (c ≡ true → b ≡ true) → b ≡ c
-iff true c f g = sym (f refl)
-iff false true f g = g refl
-iff false false f g = refl
 
 or-swap : (a b c : Bool) → (a || (b || c)) ≡ (b || (a || c))
 or-swap true true c = refl
@@ -166,7 +161,7 @@ module _ (f : ℕ → ℕ) (n : ℕ) (once : (e e′ : ℕ) → e < n → e′ <
       subst (λ (z : ℕ). member z u ≡ true) (sym (once y (w .0) (below-member n s y bs m) (below-member n u (w .0) bu (w .1)) (eq-test (f y) (f (w .0)) (w .2)))) (w .1)
 
   pub image-once : (s u : List ℕ) → rises s ≡ true → rises u ≡ true → Below n s → Below n u → image f s ≡ image f u → s ≡ u
-  image-once s u rs ru bs bu e = same-members s u rs ru (λ y. iff (member y s) (member y u) (into s u bs bu e y) (into u s bu bs (sym e) y))
+  image-once s u rs ru bs bu e = same-members s u rs ru (λ y. both-ways (member y s) (member y u) (into s u bs bu e y) (into u s bu bs (sym e) y))
 
 -- ---- an element renumbered
 
