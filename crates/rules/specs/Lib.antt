@@ -4,6 +4,7 @@ pub mod Limits
 pub mod Lists
 pub mod Floats
 pub mod Table
+pub mod Walk
 pub mod Sound
 pub mod Memory
 pub mod Cube

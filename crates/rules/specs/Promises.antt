@@ -2,7 +2,7 @@
 -- proofs/Promises.antt proves the record at the end, for every room that can be read back and has place for its cubes: the desk's, and the large one.
 use Prim.Native.Nat.{ℕ, zero, suc, _*_, _≤_, _<_}
 use mathlib.Core.Path.{_≡_}
-use mathlib.Core.Bool.{Bool, true, false, _||_}
+use mathlib.Core.Bool.{Bool, true, false, _&&_, _||_}
 use mathlib.Core.List.{List, [], _∷_}
 use lib.Dec.{eqb, ltb}
 use lib.ListN.{length, getD, take, drop}
@@ -11,7 +11,8 @@ use Rattle.rules.specs.Limits.{Limits, Roomier}
 use Rattle.rules.specs.Lists.{all, any, member, occurrences, rises}
 use Rattle.rules.specs.Floats.{sideOf, signedDistance, clamp, pointMatches}
 use Rattle.rules.specs.Table.{ElementNumber, VertexNumber, Plane, Table, vertexOf, element, rank, boundary, elementCount, pointAt}
-use Rattle.rules.specs.Sound.{sound}
+use Rattle.rules.specs.Walk.{endsOf}
+use Rattle.rules.specs.Sound.{sound, closed}
 use Rattle.rules.specs.Memory.{Memory, elementWidth, planeWidth, encode, decode, soundMemory}
 use Rattle.rules.specs.Cut.{done, give, next, addPlane, cut, given}
 use Rattle.rules.specs.Questions.{answer, isBelow, vertexSet, greatestCommon, edgesInOrder, primordialFacet}
@@ -93,7 +94,7 @@ listRefusals (subElementsOf e) = 3 ∷ 4 ∷ 12 ∷ []
 listRefusals (subElementsWithRank k e) = 3 ∷ 4 ∷ 12 ∷ []
 listRefusals (vertexSetOf e) = 3 ∷ 4 ∷ 12 ∷ []
 listRefusals (greatestCommonOf es) = 3 ∷ 4 ∷ 6 ∷ 12 ∷ []
-listRefusals (edgesInOrderOf e) = 3 ∷ 4 ∷ 6 ∷ 7 ∷ 12 ∷ []
+listRefusals (edgesInOrderOf e) = 3 ∷ 4 ∷ 6 ∷ 12 ∷ []
 
 abbrev pub ListNumbers : Limits → Type 0
 ListNumbers L = (q : ListQuestion) (m : Memory) (room : List ℕ) (n : ℕ)
@@ -336,17 +337,31 @@ WalkGoesRound L = (t : Table) → sound L t ≡ true → (f : ElementNumber) (ps
     → edgesInOrder t f ≡ answer ps → Walked t f ps
 
 -- the edges of a face hang together: a set that holds one of them, and with an edge each one that shares a corner with it, holds all
-abbrev pub OneRing : Table → ElementNumber → Type 0
-OneRing t f = (S : ElementNumber → Bool) (e : ElementNumber) → member e (boundary t f) ≡ true → S e ≡ true
-    → ((x y v : ElementNumber) → member x (boundary t f) ≡ true → member y (boundary t f) ≡ true
+abbrev pub HangTogether : Table → List ElementNumber → Type 0
+HangTogether t es = (S : ElementNumber → Bool) (e : ElementNumber) → member e es ≡ true → S e ≡ true
+    → ((x y v : ElementNumber) → member x es ≡ true → member y es ≡ true
     → member v (boundary t x) ≡ true → member v (boundary t y) ≡ true → S x ≡ true → S y ≡ true)
-    → (x : ElementNumber) → member x (boundary t f) ≡ true → S x ≡ true
+    → (x : ElementNumber) → member x es ≡ true → S x ≡ true
 
--- a face is walked, with an answer and never 7, when its edges are one ring, and only then
-abbrev pub RingIsWalked : Limits → Type 0
-RingIsWalked L = (t : Table) → sound L t ≡ true → (f : ElementNumber) → f < elementCount t → rank t f ≡ 2
-    → (OneRing t f → (ps : List (VertexNumber × VertexNumber)) × (edgesInOrder t f ≡ answer ps))
-    × ((ps : List (VertexNumber × VertexNumber)) → edgesInOrder t f ≡ answer ps → OneRing t f)
+-- one ring, said without a walk: each corner met lies on exactly two of the edges, and they hang together
+pub record Ring (t : Table) (es : List ElementNumber) : Type 0 where
+  pub twice : (v : ElementNumber) → member v (endsOf t es) ≡ true → occurrences v (endsOf t es) ≡ 2
+  pub together : HangTogether t es
+
+-- the rule of rank 2, and test 7, is this and nothing else, for any edges of a sound table: where the walk starts, and which way it goes, does not matter
+abbrev pub RuleIsOneRing : Limits → Type 0
+RuleIsOneRing L = (t : Table) → sound L t ≡ true → (es : List ElementNumber) → rises es ≡ true
+    → all (λ e. ltb e (elementCount t) && eqb (rank t e) 1) es ≡ true
+    → (closed t 2 es ≡ true → Ring t es) × (Ring t es → closed t 2 es ≡ true)
+
+-- so a face of a sound table is one ring
+abbrev pub FaceIsOneRing : Limits → Type 0
+FaceIsOneRing L = (t : Table) → sound L t ≡ true → (f : ElementNumber) → f < elementCount t → rank t f ≡ 2 → Ring t (boundary t f)
+
+-- and it is walked, with an answer and never 7
+abbrev pub FaceIsWalked : Limits → Type 0
+FaceIsWalked L = (t : Table) → sound L t ≡ true → (f : ElementNumber) → f < elementCount t → rank t f ≡ 2
+    → (ps : List (VertexNumber × VertexNumber)) × (edgesInOrder t f ≡ answer ps)
 
 -- always no in one dimension
 abbrev pub NoFacetInOneDimension : Limits → Type 0
@@ -386,5 +401,7 @@ pub record Promises (L : Limits) : Type 0 where
   pub vertex-set-rises : VertexSetRises L
   pub common-are-greatest : CommonAreGreatest L
   pub walk-goes-round : WalkGoesRound L
-  pub ring-is-walked : RingIsWalked L
+  pub rule-is-one-ring : RuleIsOneRing L
+  pub face-is-one-ring : FaceIsOneRing L
+  pub face-is-walked : FaceIsWalked L
   pub no-facet-in-one-dimension : NoFacetInOneDimension L

@@ -7,10 +7,11 @@ use native.Mathlib.Nat.{not-suc-le-zero, le-of-suc-le-suc, le-trans, le-of-eq}
 use native.Mathlib.Omega.{arith}
 use lib.Dec.{eqb, ltb, leb, lit≤}
 use lib.ListN.{length, drop, take, getD, length-drop}
-use lib.Seq.{getD-take, length-take-le, drop-drop, take-take}
+use lib.Seq.{getD-take, getD-drop, length-take-le, drop-drop, take-take}
 use Rattle.rules.specs.Limits.{noPlane, desk}
 use Rattle.rules.specs.Lists.{if_then_else_, all, rises}
 use Rattle.rules.proofs.Laws.{and-left, and-right, test-eq, eq-test, not-eq, unlike-eq}
+use Rattle.rules.proofs.Borders.{rise-at}
 use Rattle.rules.proofs.Growing.{all-get}
 use Rattle.space.specs.Closed.{closedRaw, EndsLow}
 use Rattle.space.proofs.TwiceMet.{closed-one, closed-other}
@@ -128,7 +129,7 @@ module _ (es : List ℕ) (e : ℕ) (E : EdgesLow es e) where
       let l = ltb-true x e b in
       let q = eq-test (suc (getD es (x * 36) 0)) 2 k in
       let one : getD es (x * 36) 0 ≡ 1 = omega (arith, q) in
-      record { first = E .first x l one; second = E .second x l one }
+      E .ends x l one
 
   pub number-ends : (low x : ℕ) → numberFits desk es e 2 low x ≡ true → EndsLow es x
   number-ends low x f =
@@ -146,7 +147,7 @@ number-low es e r low x f = ltb-true x e (and-right (leb low x) (ltb x e) (and-l
 -- ---- the edges among the rows that are tested
 
 pub edges-none : (es : List ℕ) → EdgesLow es 0
-edges-none es = record { first = λ x h q. absurd (not-suc-le-zero h); second = λ x h q. absurd (not-suc-le-zero h) }
+edges-none es = record { ends = λ x h q. absurd (not-suc-le-zero h) }
 
 module _ (es : List ℕ) (e d h : ℕ) (s : length es ≡ 18432) (u : e < 512) (w : headWords desk (take 36 (drop (e * 36) es)) ≡ true) (S : elementSound desk es d h e (take 36 (drop (e * 36) es)) ≡ true) where
   abbrev size : ℕ
@@ -191,21 +192,32 @@ module _ (es : List ℕ) (e d h : ℕ) (s : length es ≡ 18432) (u : e < 512) (
         (and-right (ltb (getD es (e * 36) 0) size && rises bound) (all (λ x. ltb x e) bound) parts) a b) in
         let q : getD es j 0 < 512 = omega (arith, l, u) in q
 
-  pub edges-on : EdgesLow es e → EdgesLow es (e + 1)
-  edges-on E = record { first = λ x l q. one x l q (eqb x e) refl; second = λ x l q. two x l q (eqb x e) refl }
-    where
-      one : (x : ℕ) → x < e + 1 → getD es (x * 36) 0 ≡ 1 → (b : Bool) → eqb x e ≡ b → getD es (x * 36 + 4) 0 < 512
-      one x l q true t =
-          let m = eq-test x e t in
-          let q′ = ap (λ (y : ℕ). getD es (y * 36) 0) (sym m) ∙ q in
-          let z = two-ends q′ in
-          subst (λ (y : ℕ). getD es (y * 36 + 4) 0 < 512) (sym m) (end-low q′ (e * 36 + 4) (let p : e * 36 + 4 ≤ e * 36 + 4 = omega arith in p) (let p : e * 36 + 4 < e * 36 + 4 + size = omega (arith, z) in p))
-      one x l q false t = let m = unlike-eq x e t in E .first x (let p : x < e = omega (arith, l, m) in p) q
+    both-ends : EndsLow es e
+    both-ends =
+        let z = two-ends in
+        let f = size-fits in
+        let w : e * 36 + 4 + size ≤ length es = omega (arith, f, u, s) in
+        let k = length-take-le (e * 36 + 4 + size) es w in
+        let j = length-drop (e * 36 + 4) (take (e * 36 + 4 + size) es) in
+        let r = and-right (ltb (getD es (e * 36) 0) size) (rises bound) (and-left (ltb (getD es (e * 36) 0) size && rises bound) (all (λ x. ltb x e) bound) parts) in
+        record {
+          apart =
+              let h = rise-at bound r 0 1 (let q : 0 < 1 = omega arith in q) (let q : 1 < length bound = omega (arith, z, k, j) in q) in
+              let a = word-of 0 (let q : 0 < size = omega (arith, z) in q) in
+              let b = word-of 1 (let q : 1 < size = omega (arith, z) in q) in
+              let q : getD es (e * 36 + 4) 0 < getD es (e * 36 + 5) 0 = omega (arith, h, a, b) in q;
+          second = end-low (e * 36 + 5) (let q : e * 36 + 4 ≤ e * 36 + 5 = omega arith in q) (let q : e * 36 + 5 < e * 36 + 4 + size = omega (arith, z) in q);
+        }
+      where
+        word-of : (i : ℕ) → i < size → getD bound i 0 ≡ getD es (e * 36 + (4 + i)) 0
+        word-of i l =
+            getD-drop (e * 36 + 4) (take (e * 36 + 4 + size) es) i 0
+            ∙ getD-take (e * 36 + 4 + size) es (e * 36 + 4 + i) 0 (let q : e * 36 + 4 + i < e * 36 + 4 + size = omega (arith, l) in q)
+            ∙ ap (λ (m : ℕ). getD es m 0) (let q : e * 36 + 4 + i ≡ e * 36 + (4 + i) = omega arith in q)
 
-      two : (x : ℕ) → x < e + 1 → getD es (x * 36) 0 ≡ 1 → (b : Bool) → eqb x e ≡ b → getD es (x * 36 + 5) 0 < 512
-      two x l q true t =
-          let m = eq-test x e t in
-          let q′ = ap (λ (y : ℕ). getD es (y * 36) 0) (sym m) ∙ q in
-          let z = two-ends q′ in
-          subst (λ (y : ℕ). getD es (y * 36 + 5) 0 < 512) (sym m) (end-low q′ (e * 36 + 5) (let p : e * 36 + 4 ≤ e * 36 + 5 = omega arith in p) (let p : e * 36 + 5 < e * 36 + 4 + size = omega (arith, z) in p))
-      two x l q false t = let m = unlike-eq x e t in E .second x (let p : x < e = omega (arith, l, m) in p) q
+  pub edges-on : EdgesLow es e → EdgesLow es (e + 1)
+  edges-on E = record { ends = λ x l q. go x l q (eqb x e) refl }
+    where
+      go : (x : ℕ) → x < e + 1 → getD es (x * 36) 0 ≡ 1 → (b : Bool) → eqb x e ≡ b → EndsLow es x
+      go x l q true t = let m = eq-test x e t in subst (λ (y : ℕ). EndsLow es y) (sym m) (both-ends (ap (λ (y : ℕ). getD es (y * 36) 0) (sym m) ∙ q))
+      go x l q false t = let m = unlike-eq x e t in E .ends x (let p : x < e = omega (arith, l, m) in p) q

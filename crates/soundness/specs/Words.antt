@@ -1,5 +1,5 @@
 -- The soundness of the lent memory, told by its words and rows alone: nothing is read into a table. Definitions only.
-use Prim.Native.Nat.{ℕ, _+_, _*_, _%_, _<_, suc}
+use Prim.Native.Nat.{ℕ, _+_, _*_, _<_, suc}
 use mathlib.Core.Path.{_≡_}
 use mathlib.Core.Bool.{Bool, _&&_, true, not, cond}
 use mathlib.Core.List.{List, [], _∷_}
@@ -13,7 +13,7 @@ use Rattle.rules.specs.Memory.{planeWidth, elementWidth, rightSize}
 use Rattle.rules.specs.Held.{memoryOf}
 use Rattle.rules.specs.Table.{primordials}
 use Rattle.space.specs.Chains.{rowAt}
-use Rattle.space.specs.Closed.{closedRaw}
+use Rattle.space.specs.Closed.{closedRaw, EndsLow}
 
 abbrev pub blank : List ℕ → Bool
 blank = all (eqb 0)
@@ -90,21 +90,20 @@ boundaryWords L es e r b =
 unfoldable pub polytopeWords : Limits → List ℕ → ℕ → ℕ → List ℕ → Bool
 polytopeWords L es e r row = leb (getD row 3 0) (L .boundary) && boundaryWords L es e r (boundaryIn row)
 
--- the boundary of a face: its numbers fit, and its edges go round
+-- the boundary of a face: its numbers fit, and its edges make one ring
 abbrev pub faceWords : Limits → List ℕ → ℕ → List ℕ → Bool
 faceWords L es e b = numbersFit L es e 2 b && closedRaw es 2 b
 
--- the stamp of an element, two above the one before it, from 1 on again every 64 elements
+-- the stamp of an element, above every word that was written for the elements before it
 abbrev pub stampOf : ℕ → ℕ
-stampOf e = 2 * (e % 64) + 1
+stampOf e = 513 * e + 1
 
 unfoldable pub facetWords : ℕ → ℕ → ℕ → ℕ → ℕ → Bool
 facetWords d h r plane mark = if eqb (suc r) d then ltb plane h else (eqb plane noPlane && not (eqb mark 1))
 
--- each edge before row e has two ends within the room
+-- each edge before row e has two ends within the room, the lower first
 pub record EdgesLow (es : List ℕ) (e : ℕ) : Type 0 where
-  pub first : (x : ℕ) → x < e → getD es (x * 36) 0 ≡ 1 → getD es (x * 36 + 4) 0 < 512
-  pub second : (x : ℕ) → x < e → getD es (x * 36) 0 ≡ 1 → getD es (x * 36 + 5) 0 < 512
+  pub ends : (x : ℕ) → x < e → getD es (x * 36) 0 ≡ 1 → EndsLow es x
 
 -- the row of element e
 unfoldable pub elementSound : Limits → List ℕ → ℕ → ℕ → ℕ → List ℕ → Bool

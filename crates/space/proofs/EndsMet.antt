@@ -1,72 +1,46 @@
--- The ends of a round of edges, met one after another: each is met twice exactly when as many are met for the second time as there are edges.
--- Two for each second meeting, and the spare meetings of each number, make up the ends that are met.
-use Prim.Native.Nat.{ℕ, _+_, suc, zero, _<_, _*_, _≤_}
-use mathlib.Core.Bool.{cond, Bool, true, false, _&&_}
-use mathlib.Core.List.{List, _∷_, []}
-use mathlib.Core.Path.{_≡_, sym, ap, _∙_, refl, subst}
+-- The edges of a face join paths, one after another: the face is one ring exactly when no corner is met three times, no edge but the last closes a path,
+-- and then as many ends are met for the second time as there are edges. Two for each second meeting, and the spare meetings of each number, make up the ends that are met.
+use Prim.Native.Nat.{ℕ, _+_, _-_, suc, zero, _<_, _*_, _≤_}
+use mathlib.Core.Bool.{cond, Bool, true, false, _&&_, false≢true}
+use mathlib.Core.List.{List, _∷_, [], _++_}
+use mathlib.Core.Path.{_≡_, sym, ap, ap₂, _∙_, refl, subst}
 use native.Mathlib.Nat.{zero-add}
 use native.Mathlib.Numerals.{add-one}
 use native.Mathlib.Omega.{arith}
 use lib.Dec.{eqb, ltb}
-use lib.ListN.{length, drop, getD, set, replicate, length-set, length-replicate, getD-replicate}
-use lib.Seq.{drop-cons, drop-length, getD-set-same, getD-set-other}
-use Rattle.rules.specs.Lists.{occurrences, all}
+use lib.ListN.{length, drop, getD, set, replicate, length-set, length-replicate, getD-replicate, length-drop}
+use lib.Seq.{drop-cons, drop-length, getD-drop, getD-set-same, getD-set-other}
 use borrow.Author.Tests.{ltb-true, lt-ltb, le-ltb}
-use Rattle.rules.proofs.Laws.{eq-test, test-eq, not-eq, unlike-eq, and-true, and-left, and-right, refute}
-use Rattle.space.specs.Closed.{EndsLow, Unmet, metNext, meeting, isSecond, bothMet, seconds, rawEnds, closedRaw}
+use Rattle.rules.specs.Lists.{occurrences, all, any, member, rises}
+use Rattle.rules.specs.Table.{boundary}
+use Rattle.rules.specs.Walk.{endsOf}
+use Rattle.rules.specs.Promises.{HangTogether, Ring}
+use Rattle.rules.proofs.FaceEdges.{Two, two, of-all, met-end}
+use Rattle.rules.proofs.Laws.{eq-test, test-eq, not-eq, unlike-eq, test-le, and-true, and-left, and-right, or-case, or-left, or-right, eqb-self, refute}
+use Rattle.rules.proofs.Reach.{some-at, at-some}
+use Rattle.rules.proofs.RingWalked.{rule-ring, ring-rule}
+use Rattle.space.specs.Closed.{EndsLow, Unmet, Stamped, firstEnd, secondEnd, rawEnds, asEdges, closedRaw, farEnd, joinCode, joinWords, joining, joined}
 use Rattle.space.proofs.Sums.{sumTo, sum-change, sum-zeros, zeros-sum}
-use Rattle.space.proofs.TwiceMet.{times-cons}
+use Rattle.space.proofs.TwiceMet.{times-cons, boundary-as}
+use Rattle.space.proofs.Webs.{Same, yes, no, same?, OneOf, this, that, Web, web-none, more, linking, hanging, far-once, met-once, join, x-once, y-once, no-fewer, at-a, at-b, at-other, at-x, at-y, elsewhere, root-along, both-rooted, x-y, y-a}
 
 -- a test as a number
-bit : {b c : Bool} → b ≡ c → _≡_ {A = ℕ} (cond b 1 0) (cond c 1 0)
+pub bit : {b c : Bool} → b ≡ c → _≡_ {A = ℕ} (cond b 1 0) (cond c 1 0)
 bit e = ap (λ (b : Bool). cond b 1 0) e
 
 -- the ends from edge k on
-ends-on : (es b : List ℕ) (k : ℕ) → k < length b → rawEnds es (drop k b) ≡ getD es (getD b k 0 * 36 + 4) 0 ∷ getD es (getD b k 0 * 36 + 5) 0 ∷ rawEnds es (drop (k + 1) b)
+pub ends-on : (es b : List ℕ) (k : ℕ) → k < length b → rawEnds es (drop k b) ≡ firstEnd es (getD b k 0) ∷ secondEnd es (getD b k 0) ∷ rawEnds es (drop (k + 1) b)
 unfolding rawEnds
 ends-on es b k h =
-    ap (rawEnds es) (drop-cons b k 0 h) ∙ ap (λ (j : ℕ). getD es (getD b k 0 * 36 + 4) 0 ∷ getD es (getD b k 0 * 36 + 5) 0 ∷ rawEnds es (drop j b)) (sym (add-one k))
+    ap (rawEnds es) (drop-cons b k 0 h) ∙ ap (λ (j : ℕ). firstEnd es (getD b k 0) ∷ secondEnd es (getD b k 0) ∷ rawEnds es (drop j b)) (sym (add-one k))
 
--- ---- all entries of a list pass a test, or each that occurs
+-- ---- the word of a corner
 
-passes : (p : ℕ → Bool) (l : List ℕ) → ((v : ℕ) → 0 < occurrences v l → p v ≡ true) → all p l ≡ true
-passes p [] h = refl
-passes p (x ∷ xs) h =
-    and-true (p x) (all p xs)
-    (h x (let t = times-cons x x xs in let o = bit (test-eq x x refl) in omega arith))
-    (passes p xs (λ v g. h v (let t = times-cons v x xs in omega arith)))
-
-passed : (p : ℕ → Bool) (l : List ℕ) → all p l ≡ true → (v : ℕ) → 0 < occurrences v l → p v ≡ true
-passed p [] e v h = absurd (omega arith)
-passed p (x ∷ xs) e v h = go (eqb v x) refl (λ (g : 0 < occurrences v xs). passed p xs (and-right (p x) (all p xs) e) v g)
-  where
-    go : (b : Bool) → eqb v x ≡ b → (0 < occurrences v xs → p v ≡ true) → p v ≡ true
-    go true q later = ap p (eq-test v x q) ∙ and-left (p x) (all p xs) e
-    go false q later =
-        let t = times-cons v x xs in
-        let o = bit q in
-        later (omega arith)
-
-occurs-low : (es b : List ℕ) → ((j : ℕ) → j < length b → EndsLow es (getD b j 0)) → (v : ℕ) → 0 < occurrences v (rawEnds es b) → v < 512
-unfolding rawEnds
-occurs-low es b h v o = ltb-true v 512 (passed (λ w. ltb w 512) (rawEnds es b) (low b h) v o)
-  where
-    low : (l : List ℕ) → ((j : ℕ) → j < length l → EndsLow es (getD l j 0)) → all (λ w. ltb w 512) (rawEnds es l) ≡ true
-    low [] g = refl
-    low (x ∷ xs) g =
-        let a = getD es (x * 36 + 4) 0 in
-        let c = getD es (x * 36 + 5) 0 in
-        let z = g 0 (omega arith) in
-        and-true (ltb a 512) (ltb c 512 && all (λ w. ltb w 512) (rawEnds es xs)) (lt-ltb a 512 (z .first))
-        (and-true (ltb c 512) (all (λ w. ltb w 512) (rawEnds es xs)) (lt-ltb c 512 (z .second)) (low xs (λ j l. g (suc j) (omega arith))))
-
--- ---- the word of an end
-
--- what stands at the place of an end that is met c times
-abbrev pub Word : ℕ → ℕ → ℕ → Type 0
-Word s zero m = m < s
-Word s (suc zero) m = m ≡ s
-Word s (suc (suc c)) m = m ≡ s + 1
+-- what stands at the place of a corner that is met c times and whose path ends in f
+abbrev pub Word : ℕ → ℕ → ℕ → ℕ → Type 0
+Word s zero f m = m < s
+Word s (suc zero) f m = m ≡ s + f
+Word s (suc (suc c)) f m = m ≡ s + 512
 
 -- how many of c meetings are neither the first nor the second of two
 abbrev pub spare : ℕ → ℕ
@@ -74,35 +48,14 @@ spare zero = 0
 spare (suc zero) = 1
 spare (suc (suc c)) = c
 
-word-next : (s c m : ℕ) → Word s c m → Word s (suc c) (metNext s m)
-word-next s zero m h = ap (λ (b : Bool). cond b s (s + 1)) (lt-ltb m s h)
-word-next s (suc zero) m h = ap (λ (b : Bool). cond b s (s + 1)) (le-ltb m s (omega arith))
-word-next s (suc (suc c)) m h = ap (λ (b : Bool). cond b s (s + 1)) (le-ltb m s (omega arith))
-
-word-second : (s c m : ℕ) → Word s c m → 2 * cond (eqb m s) 1 0 + spare (suc c) ≡ spare c + 1
-word-second s zero m h = ap (λ (b : Bool). 2 * cond b 1 0 + 1) (not-eq m s (λ e. omega arith))
-word-second s (suc zero) m h = ap (λ (b : Bool). 2 * cond b 1 0 + 0) (test-eq m s h)
-word-second s (suc (suc c)) m h = let o = bit (not-eq m s (λ e. omega arith)) in omega arith
-
-word-under : (s c m : ℕ) → Word s c m → m < s + 2
-word-under s zero m h = omega arith
-word-under s (suc zero) m h = omega arith
-word-under s (suc (suc c)) m h = omega arith
-
-spare-none : (c : ℕ) → spare c ≡ 0 → 0 < c → c ≡ 2
+pub spare-none : (c : ℕ) → spare c ≡ 0 → 0 < c → c ≡ 2
 spare-none zero e h = absurd (omega arith)
 spare-none (suc zero) e h = absurd (omega arith)
 spare-none (suc (suc c)) e h = ap (λ (x : ℕ). suc (suc x)) e
 
--- ---- the count
-
 -- the meetings that make up no two, over the room
 unfoldable pub spares : (ℕ → ℕ) → ℕ
 spares c = sumTo 512 (λ v. spare (c v))
-
--- one meeting more of a
-abbrev pub more : ℕ → (ℕ → ℕ) → ℕ → ℕ
-more a c v = cond (eqb v a) (suc (c v)) (c v)
 
 more-is : (b : Bool) (n : ℕ) → cond b (suc n) n ≡ cond b 1 0 + n
 more-is true n = let q : suc n ≡ 1 + n = omega arith in q
@@ -115,34 +68,37 @@ spares-more c a h =
     let s = sum-change 512 a (λ v. spare (c v)) (λ v. spare (more a c v)) h (λ w u. sym (ap (λ (b : Bool). spare (cond b (suc (c w)) (c w))) (not-eq w a u))) in
     ap (λ (x : ℕ). sumTo 512 (λ v. spare (c v)) + x) (sym e) ∙ s
 
--- each number v is met c v times, and the second meetings with the spare ones make up all
-pub record Counts (s : ℕ) (c : ℕ → ℕ) (met : List ℕ) (twice ends : ℕ) : Type 0 where
-  pub long : length met ≡ 512
-  pub word : (v : ℕ) → v < 512 → Word s (c v) (getD met v 0)
-  pub balance : 2 * twice + spares c ≡ ends
+-- ---- k edges have joined paths
 
-counts-go : (s : ℕ) (c : ℕ → ℕ) (met : List ℕ) (twice ends a : ℕ) → Counts s c met twice ends → a < 512 → Counts s (more a c) (meeting s met a) (twice + isSecond s met a) (ends + 1)
-unfolding meeting
-counts-go s c met twice ends a C low = record {
-  long = length-set met a (metNext s (getD met a 0)) ∙ C .long;
-  word = λ v h. go v h (eqb v a) refl;
-  balance =
-      let b = C .balance in
-      let w = word-second s (c a) (getD met a 0) (C .word a low) in
-      let m = spares-more c a low in
-      omega arith;
+pub record Paths (es edges : List ℕ) (s : ℕ) (paths : List ℕ) (twice k : ℕ) : Type 0 where
+  pub times : ℕ → ℕ
+  pub far : ℕ → ℕ
+  pub root : ℕ → ℕ
+  pub web : Web times far root
+  pub long : length paths ≡ 512
+  pub word : (v : ℕ) → v < 512 → Word s (times v) (far v) (getD paths v 0)
+  pub low : (v : ℕ) → v < 512 → far v < 512
+  pub balance : 2 * twice + spares times ≡ 2 * k
+  pub whole : (v : ℕ) → occurrences v (rawEnds es edges) ≡ times v + occurrences v (rawEnds es (drop k edges))
+  pub rooted : (j : ℕ) → j < k → root (firstEnd es (getD edges j 0)) ≡ root (secondEnd es (getD edges j 0))
+  -- what is alike for the two ends of each edge is alike for what hangs together
+  pub colour : (T : ℕ → Bool) → ((j : ℕ) → j < k → T (firstEnd es (getD edges j 0)) ≡ T (secondEnd es (getD edges j 0))) → (v : ℕ) → T v ≡ T (root v)
+
+pub paths-start : (es edges : List ℕ) (s : ℕ) (paths : List ℕ) → Unmet s paths → Paths es edges s paths 0 0
+unfolding spares
+paths-start es edges s paths U = record {
+  times = λ v. 0;
+  far = λ v. v;
+  root = λ v. v;
+  web = web-none;
+  long = U .long;
+  word = U .under;
+  low = λ v l. l;
+  balance = let z = sum-zeros 512 (λ v. 0) (λ w l. refl) in omega (arith, z);
+  whole = λ v. sym (zero-add (occurrences v (rawEnds es edges)));
+  rooted = λ j l. absurd (let w : ⊥ = omega (arith, l) in w);
+  colour = λ T h v. refl;
 }
-  where
-    go : (v : ℕ) → v < 512 → (b : Bool) → eqb v a ≡ b → Word s (cond b (suc (c v)) (c v)) (getD (set met a (metNext s (getD met a 0))) v 0)
-    go v h true e =
-        let q = eq-test v a e in
-        let l = C .long in
-        let p : getD (set met a (metNext s (getD met a 0))) v 0 ≡ metNext s (getD met v 0) =
-        ap (λ (x : ℕ). getD (set met a (metNext s (getD met a 0))) x 0) q ∙ getD-set-same met a (metNext s (getD met a 0)) 0 (omega arith) ∙ ap (λ (x : ℕ). metNext s (getD met x 0)) (sym q) in
-        subst (λ (m : ℕ). Word s (suc (c v)) m) (sym p) (word-next s (c v) (getD met v 0) (C .word v h))
-    go v h false e = subst (λ (m : ℕ). Word s (c v) m) (sym (getD-set-other met a v (metNext s (getD met a 0)) 0 (unlike-eq v a e))) (C .word v h)
-
--- ---- a round of edges
 
 pub unmet-new : Unmet 1 (replicate 512 0)
 unmet-new = record {
@@ -150,90 +106,300 @@ unmet-new = record {
   under = λ v h. let e = getD-replicate {A = ℕ} 512 v 0 0 h in (let q : getD (replicate 512 0) v 0 < 1 = omega (arith, e) in q);
 }
 
--- k edges are met: what is counted, and what is left to meet, make up the whole
-pub record Round (es edges : List ℕ) (s : ℕ) (met : List ℕ) (twice k : ℕ) : Type 0 where
-  pub times : ℕ → ℕ
-  pub counts : Counts s times met twice (2 * k)
-  pub whole : (v : ℕ) → occurrences v (rawEnds es edges) ≡ times v + occurrences v (rawEnds es (drop k edges))
+module _ (es edges : List ℕ) (s : ℕ) (paths : List ℕ) (twice k : ℕ) (P : Paths es edges s paths twice k) where
+  pub paths-stamped : Stamped s paths
+  paths-stamped = record { long = P .long; under = λ v l. go v (P .times v) (P .low v l) (P .word v l) }
+    where
+      go : (v c : ℕ) → P .far v < 512 → Word s c (P .far v) (getD paths v 0) → getD paths v 0 < s + 513
+      go v zero f w = omega (arith, w)
+      go v (suc zero) f w = omega (arith, f, w)
+      go v (suc (suc c)) f w = omega (arith, w)
 
-pub round-start : (es edges : List ℕ) (s : ℕ) (met : List ℕ) → Unmet s met → Round es edges s met 0 0
-unfolding spares
-round-start es edges s met U = record {
-  times = λ v. 0;
-  counts = record { long = U .long; word = U .under; balance = let z = sum-zeros 512 (λ v. 0) (λ w l. refl) in omega arith };
-  whole = λ v. sym (zero-add (occurrences v (rawEnds es edges)));
-}
+  pub paths-few : twice ≤ k
+  paths-few = let b = P .balance in omega (arith, b)
 
-pub round-go : (es edges : List ℕ) (s : ℕ) (met : List ℕ) (twice k x : ℕ) → Round es edges s met twice k → k < length edges → x ≡ getD edges k 0 → EndsLow es x → Round es edges s (bothMet s es met x) (twice + seconds s es met x) (k + 1)
-unfolding bothMet seconds
-round-go es edges s met twice k x R h e E =
-    let a = getD es (x * 36 + 4) 0 in
-    let b = getD es (x * 36 + 5) 0 in
-    let rest = rawEnds es (drop (k + 1) edges) in
-    let one = counts-go s (R .times) met twice (2 * k) a (R .counts) (E .first) in
-    let both = counts-go s (more a (R .times)) (meeting s met a) (twice + isSecond s met a) (2 * k + 1) b one (E .second) in
-    record {
-      times = more b (more a (R .times));
-      counts = record { long = both .long; word = both .word; balance = let z = both .balance in omega arith };
-      whole = λ v.
-          let w = R .whole v in
-          let on : occurrences v (rawEnds es (drop k edges)) ≡ occurrences v (a ∷ b ∷ rest) =
-          ap (occurrences v) (ends-on es edges k h ∙ ap (λ (y : ℕ). getD es (y * 36 + 4) 0 ∷ getD es (y * 36 + 5) 0 ∷ rest) (sym e)) in
-          let t₁ = times-cons v a (b ∷ rest) in
-          let t₂ = times-cons v b rest in
-          let m₁ = more-is (eqb v a) (R .times v) in
-          let m₂ = more-is (eqb v b) (more a (R .times) v) in
-          omega arith;
-    }
+  -- ---- what is read of a corner
 
--- the same, by what the call that meets both ends gives
-pub round-met : (es edges : List ℕ) (s : ℕ) (met after : List ℕ) (twice k x r : ℕ) → Round es edges s met twice k → k < length edges → x ≡ getD edges k 0 → EndsLow es x → r ≡ seconds s es met x → after ≡ bothMet s es met x → Round es edges s after (twice + r) (k + 1)
-round-met es edges s met after twice k x r R h e E p q = rw (p, q) (round-go es edges s met twice k x R h e E)
+  far-read : (v : ℕ) → v < 512 → P .times v < 2 → farEnd s paths v ≡ P .far v
+  far-read v l o = go (P .times v) refl (P .word v l)
+    where
+      go : (c : ℕ) → P .times v ≡ c → Word s c (P .far v) (getD paths v 0) → farEnd s paths v ≡ P .far v
+      go zero q w = ap (λ (b : Bool). cond b v (getD paths v 0 - s)) (lt-ltb (getD paths v 0) s w) ∙ sym (P .web .alone v q)
+      go (suc zero) q w =
+          ap (λ (b : Bool). cond b v (getD paths v 0 - s)) (le-ltb (getD paths v 0) s (let z : s ≤ getD paths v 0 = omega (arith, w) in z))
+          ∙ (let z : getD paths v 0 - s ≡ P .far v = omega (arith, w) in z)
+      go (suc (suc c)) q w = absurd (let z : ⊥ = omega (arith, q, o) in z)
 
-module _ (es edges : List ℕ) (s : ℕ) (met : List ℕ) (twice k : ℕ) (R : Round es edges s met twice k) where
-  pub round-few : twice ≤ k
-  round-few = let b = R .counts .balance in omega arith
+  -- less than twice where it is not 512
+  is-open : (v : ℕ) → v < 512 → (farEnd s paths v ≡ 512 → ⊥) → P .times v < 2
+  is-open v l d = go (P .times v) refl (P .word v l)
+    where
+      go : (c : ℕ) → P .times v ≡ c → Word s c (P .far v) (getD paths v 0) → P .times v < 2
+      go zero q w = omega (arith, q)
+      go (suc zero) q w = omega (arith, q)
+      go (suc (suc c)) q w =
+          absurd (d (ap (λ (b : Bool). cond b v (getD paths v 0 - s)) (le-ltb (getD paths v 0) s (let z : s ≤ getD paths v 0 = omega (arith, w) in z))
+          ∙ (let z : getD paths v 0 - s ≡ 512 = omega (arith, w) in z)))
 
-  pub round-out : Unmet (s + 2) met
-  round-out = record { long = R .counts .long; under = λ v h. word-under s (R .times v) (getD met v 0) (R .counts .word v h) }
+  is-shut : (v : ℕ) → v < 512 → farEnd s paths v ≡ 512 → 1 < P .times v
+  is-shut v l e = go (P .times v) refl
+    where
+      go : (c : ℕ) → P .times v ≡ c → 1 < P .times v
+      go zero q = absurd (let f = far-read v l (let z : P .times v < 2 = omega (arith, q) in z) in let g = P .low v l in let z : ⊥ = omega (arith, e, f, g) in z)
+      go (suc zero) q = absurd (let f = far-read v l (let z : P .times v < 2 = omega (arith, q) in z) in let g = P .low v l in let z : ⊥ = omega (arith, e, f, g) in z)
+      go (suc (suc c)) q = omega (arith, q)
 
-  module _ (all-met : k ≡ length edges) (low : (j : ℕ) → j < length edges → EndsLow es (getD edges j 0)) where
-    counted : (v : ℕ) → occurrences v (rawEnds es edges) ≡ R .times v
-    unfolding rawEnds
-    counted v =
-        let w = R .whole v in
-        let z : occurrences v (rawEnds es (drop k edges)) ≡ 0 = ap (λ (l : List ℕ). occurrences v (rawEnds es l)) (ap (λ (j : ℕ). drop j edges) all-met ∙ drop-length edges) in
-        omega arith
+  -- ---- one edge more
 
-    -- every end is met twice where as many are met for the second time as there are edges
-    pairs : twice ≡ length edges → closedRaw es 2 edges ≡ true
-    unfolding spares
-    pairs e = passes (λ v. eqb (occurrences v (rawEnds es edges)) 2) (rawEnds es edges) (λ v o.
-        let t = counted v in
-        let b = R .counts .balance in
-        let z = zeros-sum 512 v (λ w. spare (R .times w)) (omega arith) (occurs-low es edges low v o) in
-        test-eq (occurrences v (rawEnds es edges)) 2 (t ∙ spare-none (R .times v) z (omega arith)))
+  module _ (e : ℕ) (l : k < length edges) (at : e ≡ getD edges k 0) (E : EndsLow es e) where
+    abbrev pub v₁ : ℕ
+    v₁ = firstEnd es e
 
-    -- and only there
-    no-spare : closedRaw es 2 edges ≡ true → (v : ℕ) → spare (R .times v) ≡ 0
-    no-spare e v = go (R .times v) refl
+    abbrev pub v₂ : ℕ
+    v₂ = secondEnd es e
+
+    la : v₁ < 512
+    la = let p = E .apart in let q = E .second in omega (arith, p, q)
+
+    lb : v₂ < 512
+    lb = E .second
+
+    pub apart : v₁ ≡ v₂ → ⊥
+    apart q = let p = E .apart in let w : ⊥ = omega (arith, p, q) in w
+
+    -- what the answer tells
+    pub data Told : ℕ → Type 0 where
+      third : (v : ℕ) → member v (v₁ ∷ v₂ ∷ []) ≡ true → 1 < P .times v → Told 4
+      closes : P .times v₁ < 2 → P .times v₂ < 2 → P .far v₁ ≡ v₂ → Told 3
+      joins : P .times v₁ < 2 → P .times v₂ < 2 → (P .far v₁ ≡ v₂ → ⊥)
+          → Told (cond (eqb (P .far v₁) v₁) 0 1 + cond (eqb (P .far v₂) v₂) 0 1)
+
+    pub told : Told (joining s es paths e)
+    unfolding joining
+    told = go (farEnd s paths v₁) (farEnd s paths v₂) refl refl (same? (farEnd s paths v₁) 512) (same? (farEnd s paths v₂) 512)
       where
-        go : (c : ℕ) → R .times v ≡ c → spare (R .times v) ≡ 0
-        go zero q = ap spare q
-        go (suc c) q =
-            let t = counted v in
-            ap spare (sym t ∙ eq-test (occurrences v (rawEnds es edges)) 2 (passed (λ w. eqb (occurrences w (rawEnds es edges)) 2) (rawEnds es edges) e v (omega arith)))
+        first-in : member v₁ (v₁ ∷ v₂ ∷ []) ≡ true
+        first-in = or-left (eqb v₁ v₁) _ (eqb-self v₁)
 
-    only-pairs : closedRaw es 2 edges ≡ true → twice ≡ length edges
-    unfolding spares
-    only-pairs e =
-        let z = sum-zeros 512 (λ v. spare (R .times v)) (λ v h. no-spare e v) in
-        let b = R .counts .balance in
-        omega arith
+        second-in : member v₂ (v₁ ∷ v₂ ∷ []) ≡ true
+        second-in = or-right (eqb v₂ v₁) _ (or-left (eqb v₂ v₂) _ (eqb-self v₂))
 
-    pub round-end : eqb twice (length edges) ≡ closedRaw es 2 edges
-    round-end = go (eqb twice (length edges)) refl
+        on : (x y : ℕ) → x ≡ P .far v₁ → y ≡ P .far v₂ → P .times v₁ < 2 → P .times v₂ < 2 → (c : Bool) → eqb x v₂ ≡ c
+            → Told (cond c 3 (cond (eqb x v₁) 0 1 + cond (eqb y v₂) 0 1))
+        on x y p q oa ob true h = closes oa ob (sym p ∙ eq-test x v₂ h)
+        on x y p q oa ob false h =
+            subst (λ (n : ℕ). Told n) (ap₂ (λ (u v : ℕ). cond (eqb u v₁) 0 1 + cond (eqb v v₂) 0 1) (sym p) (sym q))
+            (joins oa ob (λ r. unlike-eq x v₂ h (p ∙ r)))
+
+        go : (x y : ℕ) → farEnd s paths v₁ ≡ x → farEnd s paths v₂ ≡ y → Same x 512 → Same y 512 → Told (joinCode v₁ v₂ x y)
+        go x y p q (yes f) g =
+            subst (λ (c : Bool). Told (cond c 4 (cond (eqb y 512) 4 (cond (eqb x v₂) 3 (cond (eqb x v₁) 0 1 + cond (eqb y v₂) 0 1))))) (sym (test-eq x 512 f))
+            (third v₁ first-in (is-shut v₁ la (p ∙ f)))
+        go x y p q (no f) (yes g) =
+            subst (λ (c : Bool). Told (cond c 4 (cond (eqb y 512) 4 (cond (eqb x v₂) 3 (cond (eqb x v₁) 0 1 + cond (eqb y v₂) 0 1))))) (sym (not-eq x 512 f))
+            (subst (λ (c : Bool). Told (cond c 4 (cond (eqb x v₂) 3 (cond (eqb x v₁) 0 1 + cond (eqb y v₂) 0 1)))) (sym (test-eq y 512 g))
+            (third v₂ second-in (is-shut v₂ lb (q ∙ g))))
+        go x y p q (no f) (no g) =
+            let oa = is-open v₁ la (λ r. f (sym p ∙ r)) in
+            let ob = is-open v₂ lb (λ r. g (sym q ∙ r)) in
+            subst (λ (c : Bool). Told (cond c 4 (cond (eqb y 512) 4 (cond (eqb x v₂) 3 (cond (eqb x v₁) 0 1 + cond (eqb y v₂) 0 1))))) (sym (not-eq x 512 f))
+            (subst (λ (c : Bool). Told (cond c 4 (cond (eqb x v₂) 3 (cond (eqb x v₁) 0 1 + cond (eqb y v₂) 0 1)))) (sym (not-eq y 512 g))
+            (on x y (sym p ∙ far-read v₁ la oa) (sym q ∙ far-read v₂ lb ob) oa ob (eqb x v₂) refl))
+
+    -- ---- what is counted after it
+
+    abbrev pub times′ : ℕ → ℕ
+    times′ = more v₂ (more v₁ (P .times))
+
+    pub fewer : (t : Bool) → cond t 0 1 ≤ 1
+    fewer true = omega arith
+    fewer false = omega arith
+
+    half : (v : ℕ) → P .times v < 2 → 2 * cond (eqb (P .far v) v) 0 1 + spare (suc (P .times v)) ≡ spare (P .times v) + 1
+    half v o = go (P .times v) refl
       where
-        go : (y : Bool) → eqb twice (length edges) ≡ y → y ≡ closedRaw es 2 edges
-        go true q = sym (pairs (eq-test twice (length edges) q))
-        go false q = sym (refute (closedRaw es 2 edges) (λ e. unlike-eq twice (length edges) q (only-pairs e)))
+        go : (c : ℕ) → P .times v ≡ c → 2 * cond (eqb (P .far v) v) 0 1 + spare (suc c) ≡ spare c + 1
+        go zero q = ap (λ (t : Bool). 2 * cond t 0 1 + 1) (test-eq (P .far v) v (P .web .alone v q))
+        go (suc zero) q = ap (λ (t : Bool). 2 * cond t 0 1 + 0) (not-eq (P .far v) v (P .web .away v q))
+        go (suc (suc c)) q = absurd (let w : ⊥ = omega (arith, q, o) in w)
+
+    pub balanced : P .times v₁ < 2 → P .times v₂ < 2
+        → 2 * (twice + (cond (eqb (P .far v₁) v₁) 0 1 + cond (eqb (P .far v₂) v₂) 0 1)) + spares times′ ≡ 2 * (k + 1)
+    balanced oa ob =
+        let p = P .balance in
+        let ha = half v₁ oa in
+        let hb = half v₂ ob in
+        let c : more v₁ (P .times) v₂ ≡ P .times v₂ =
+        ap (λ (t : Bool). cond t (suc (P .times v₂)) (P .times v₂)) (not-eq v₂ v₁ (λ q. apart (sym q))) in
+        let m₁ = spares-more (P .times) v₁ la in
+        let m₂ : spares (more v₁ (P .times)) + spare (suc (P .times v₂)) ≡ spares times′ + spare (P .times v₂) =
+        subst (λ (n : ℕ). spares (more v₁ (P .times)) + spare (suc n) ≡ spares times′ + spare n) c (spares-more (more v₁ (P .times)) v₂ lb) in
+        omega (arith, p, ha, hb, m₁, m₂)
+
+    pub whole′ : (v : ℕ) → occurrences v (rawEnds es edges) ≡ times′ v + occurrences v (rawEnds es (drop (k + 1) edges))
+    whole′ v =
+        let rest = rawEnds es (drop (k + 1) edges) in
+        let w = P .whole v in
+        let on : occurrences v (rawEnds es (drop k edges)) ≡ occurrences v (v₁ ∷ v₂ ∷ rest) =
+        ap (occurrences v) (ends-on es edges k l ∙ ap (λ (y : ℕ). firstEnd es y ∷ secondEnd es y ∷ rest) (sym at)) in
+        let t₁ = times-cons v v₁ (v₂ ∷ rest) in
+        let t₂ = times-cons v v₂ rest in
+        let m₁ = more-is (eqb v v₁) (P .times v) in
+        let m₂ = more-is (eqb v v₂) (more v₁ (P .times) v) in
+        omega (arith, w, on, t₁, t₂, m₁, m₂)
+
+    -- ---- joined
+
+    module _ (oa : P .times v₁ < 2) (ob : P .times v₂ < 2) (unclosed : P .far v₁ ≡ v₂ → ⊥) where
+      abbrev far′ : ℕ → ℕ
+      far′ = linking (P .far v₁) (P .far v₂) (P .far)
+
+      abbrev root′ : ℕ → ℕ
+      root′ = hanging v₁ v₂ (P .root)
+
+      new : Web times′ far′ root′
+      new = join (P .times) (P .far) (P .root) (P .web) v₁ v₂ apart oa ob unclosed
+
+      lx : P .far v₁ < 512
+      lx = P .low v₁ la
+
+      ly : P .far v₂ < 512
+      ly = P .low v₂ lb
+
+      abbrev p₁ : List ℕ
+      p₁ = set paths v₁ (s + 512)
+
+      abbrev p₂ : List ℕ
+      p₂ = set (set paths v₁ (s + 512)) v₂ (s + 512)
+
+      abbrev p₃ : List ℕ
+      p₃ = set (set (set paths v₁ (s + 512)) v₂ (s + 512)) (P .far v₁) (s + P .far v₂)
+
+      abbrev p₄ : List ℕ
+      p₄ = joinWords s paths v₁ v₂ (P .far v₁) (P .far v₂)
+
+      n₁ : length (set paths v₁ (s + 512)) ≡ 512
+      n₁ = length-set paths v₁ (s + 512) ∙ P .long
+
+      n₂ : length (set (set paths v₁ (s + 512)) v₂ (s + 512)) ≡ 512
+      n₂ = length-set (set paths v₁ (s + 512)) v₂ (s + 512) ∙ n₁
+
+      n₃ : length (set (set (set paths v₁ (s + 512)) v₂ (s + 512)) (P .far v₁) (s + P .far v₂)) ≡ 512
+      n₃ = length-set (set (set paths v₁ (s + 512)) v₂ (s + 512)) (P .far v₁) (s + P .far v₂) ∙ n₂
+
+      n₄ : length (joinWords s paths v₁ v₂ (P .far v₁) (P .far v₂)) ≡ 512
+      n₄ = length-set (set (set (set paths v₁ (s + 512)) v₂ (s + 512)) (P .far v₁) (s + P .far v₂)) (P .far v₂) (s + P .far v₁) ∙ n₃
+
+      put : (ws : List ℕ) (i w v : ℕ) → length ws ≡ 512 → i < 512 → v ≡ i → getD (set ws i w) v 0 ≡ w
+      put ws i w v n h q = ap (λ (j : ℕ). getD (set ws i w) j 0) q ∙ getD-set-same ws i w 0 (let z : i < length ws = omega (arith, n, h) in z)
+
+      as-one : (v f m : ℕ) → times′ v ≡ 1 → m ≡ s + f → Word s (times′ v) f m
+      as-one v f m q h = subst (λ (c : ℕ). Word s c f m) (sym q) h
+
+      as-two : (v f m : ℕ) → times′ v ≡ 2 → m ≡ s + 512 → Word s (times′ v) f m
+      as-two v f m q h = subst (λ (c : ℕ). Word s c f m) (sym q) h
+
+      new-word : (v : ℕ) → v < 512 → Word s (times′ v) (far′ v) (getD (joinWords s paths v₁ v₂ (P .far v₁) (P .far v₂)) v 0)
+      new-word v h =
+          go (same? v (P .far v₂)) (same? v (P .far v₁)) (same? v v₂) (same? v v₁)
+        where
+          over₄ : (v ≡ P .far v₂ → ⊥) → getD p₄ v 0 ≡ getD p₃ v 0
+          over₄ d = getD-set-other p₃ (P .far v₂) v (s + P .far v₁) 0 d
+
+          over₃ : (v ≡ P .far v₁ → ⊥) → getD p₃ v 0 ≡ getD p₂ v 0
+          over₃ d = getD-set-other p₂ (P .far v₁) v (s + P .far v₂) 0 d
+
+          over₂ : (v ≡ v₂ → ⊥) → getD p₂ v 0 ≡ getD p₁ v 0
+          over₂ d = getD-set-other p₁ v₂ v (s + 512) 0 d
+
+          over₁ : (v ≡ v₁ → ⊥) → getD p₁ v 0 ≡ getD paths v 0
+          over₁ d = getD-set-other paths v₁ v (s + 512) 0 d
+
+          go : Same v (P .far v₂) → Same v (P .far v₁) → Same v v₂ → Same v v₁ → Word s (times′ v) (far′ v) (getD p₄ v 0)
+          go (yes p) q r t =
+              as-one v (far′ v) (getD p₄ v 0) (ap times′ p ∙ y-once (P .times) (P .far) (P .root) (P .web) v₁ v₂ apart oa ob unclosed)
+              (put p₃ (P .far v₂) (s + P .far v₁) v n₃ ly p
+              ∙ ap (λ (n : ℕ). s + n) (sym (at-y (P .times) (P .far) (P .root) (P .web) v₁ v₂ apart oa ob unclosed v p)))
+          go (no p) (yes q) r t =
+              as-one v (far′ v) (getD p₄ v 0) (ap times′ q ∙ x-once (P .times) (P .far) (P .root) (P .web) v₁ v₂ apart oa ob unclosed)
+              (over₄ p ∙ put p₂ (P .far v₁) (s + P .far v₂) v n₂ lx q
+              ∙ ap (λ (n : ℕ). s + n) (sym (at-x (P .times) (P .far) (P .root) (P .web) v₁ v₂ apart oa ob unclosed v q)))
+          go (no p) (no q) (yes r) t =
+              as-two v (far′ v) (getD p₄ v 0)
+              (ap times′ r ∙ at-b (P .times) (P .far) (P .root) (P .web) v₁ v₂ apart oa ob unclosed
+              ∙ ap suc (met-once (P .times) (P .far) (P .root) (P .web) v₂ ob (λ z. p (r ∙ sym z))))
+              (over₄ p ∙ over₃ q ∙ put p₁ v₂ (s + 512) v n₁ lb r)
+          go (no p) (no q) (no r) (yes t) =
+              as-two v (far′ v) (getD p₄ v 0)
+              (ap times′ t ∙ at-a (P .times) (P .far) (P .root) (P .web) v₁ v₂ apart oa ob unclosed
+              ∙ ap suc (met-once (P .times) (P .far) (P .root) (P .web) v₁ oa (λ z. q (t ∙ sym z))))
+              (over₄ p ∙ over₃ q ∙ over₂ r ∙ put paths v₁ (s + 512) v (P .long) la t)
+          go (no p) (no q) (no r) (no t) =
+              let c = at-other (P .times) (P .far) (P .root) (P .web) v₁ v₂ apart oa ob unclosed v t r in
+              let f = elsewhere (P .times) (P .far) (P .root) (P .web) v₁ v₂ apart oa ob unclosed v q p in
+              let m = over₄ p ∙ over₃ q ∙ over₂ r ∙ over₁ t in
+              subst (λ (n : ℕ). Word s n (far′ v) (getD p₄ v 0)) (sym c)
+              (subst (λ (n : ℕ). Word s (P .times v) n (getD p₄ v 0)) (sym f) (subst (λ (n : ℕ). Word s (P .times v) (P .far v) n) (sym m) (P .word v h)))
+
+      new-low : (v : ℕ) → v < 512 → far′ v < 512
+      new-low v h = go (same? v (P .far v₁)) (same? v (P .far v₂))
+        where
+          go : Same v (P .far v₁) → Same v (P .far v₂) → far′ v < 512
+          go (yes p) q = subst (λ (n : ℕ). n < 512) (sym (at-x (P .times) (P .far) (P .root) (P .web) v₁ v₂ apart oa ob unclosed v p)) ly
+          go (no p) (yes q) = subst (λ (n : ℕ). n < 512) (sym (at-y (P .times) (P .far) (P .root) (P .web) v₁ v₂ apart oa ob unclosed v q)) lx
+          go (no p) (no q) = subst (λ (n : ℕ). n < 512) (sym (elsewhere (P .times) (P .far) (P .root) (P .web) v₁ v₂ apart oa ob unclosed v p q)) (P .low v h)
+
+      new-rooted : (j : ℕ) → j < k + 1 → root′ (firstEnd es (getD edges j 0)) ≡ root′ (secondEnd es (getD edges j 0))
+      new-rooted j h = go (same? j k)
+        where
+          go : Same j k → root′ (firstEnd es (getD edges j 0)) ≡ root′ (secondEnd es (getD edges j 0))
+          go (yes q) =
+              subst (λ (d : ℕ). root′ (firstEnd es d) ≡ root′ (secondEnd es d)) (at ∙ ap (λ (i : ℕ). getD edges i 0) (sym q))
+              (both-rooted (P .times) (P .far) (P .root) (P .web) v₁ v₂ apart oa ob unclosed)
+          go (no q) =
+              root-along (P .times) (P .far) (P .root) (P .web) v₁ v₂ apart oa ob unclosed (firstEnd es (getD edges j 0)) (secondEnd es (getD edges j 0))
+              (P .rooted j (let z : j < k = omega (arith, h, q) in z))
+
+      new-colour : (T : ℕ → Bool) → ((j : ℕ) → j < k + 1 → T (firstEnd es (getD edges j 0)) ≡ T (secondEnd es (getD edges j 0))) → (v : ℕ) → T v ≡ T (root′ v)
+      new-colour T h v = old v ∙ go (eqb (P .root v) (P .root v₂)) refl
+        where
+          old : (u : ℕ) → T u ≡ T (P .root u)
+          old = P .colour T (λ j i. h j (let z : j < k + 1 = omega (arith, i) in z))
+
+          edge : T v₁ ≡ T v₂
+          edge = subst (λ (d : ℕ). T (firstEnd es d) ≡ T (secondEnd es d)) (sym at) (h k (let z : k < k + 1 = omega arith in z))
+
+          go : (c : Bool) → eqb (P .root v) (P .root v₂) ≡ c → T (P .root v) ≡ T (cond c (P .root v₁) (P .root v))
+          go true q = ap T (eq-test (P .root v) (P .root v₂) q) ∙ sym (old v₂) ∙ sym edge ∙ old v₁
+          go false q = refl
+
+      joined-is : joined s es paths e ≡ joinWords s paths v₁ v₂ (P .far v₁) (P .far v₂)
+      unfolding joined
+      joined-is = ap₂ (joinWords s paths v₁ v₂) (far-read v₁ la oa) (far-read v₂ lb ob)
+
+      next : (after : List ℕ) → after ≡ joined s es paths e
+          → Paths es edges s after (twice + (cond (eqb (P .far v₁) v₁) 0 1 + cond (eqb (P .far v₂) v₂) 0 1)) (k + 1)
+      next after q = subst
+          (λ (ws : List ℕ). Paths es edges s ws (twice + (cond (eqb (P .far v₁) v₁) 0 1 + cond (eqb (P .far v₂) v₂) 0 1)) (k + 1))
+          (sym (q ∙ joined-is)) (record {
+            times = times′;
+            far = far′;
+            root = root′;
+            web = new;
+            long = n₄;
+            word = new-word;
+            low = new-low;
+            balance = balanced oa ob;
+            whole = whole′;
+            rooted = new-rooted;
+            colour = new-colour;
+          })
+
+    -- by what the call answers
+    pub paths-go : (r : ℕ) (after : List ℕ) → r ≡ joining s es paths e → r < 3 → after ≡ joined s es paths e → Paths es edges s after (twice + r) (k + 1)
+    paths-go r after q small h = go r (subst (λ (n : ℕ). Told n) (sym q) told) small
+      where
+        go : (n : ℕ) → Told n → n < 3 → Paths es edges s after (twice + n) (k + 1)
+        go n (third v m c) b = absurd (let w : ⊥ = omega (arith, b) in w)
+        go n (closes oa ob f) b = absurd (let w : ⊥ = omega (arith, b) in w)
+        go n (joins oa ob f) b = next oa ob f after h

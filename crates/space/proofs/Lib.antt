@@ -13,6 +13,8 @@ pub mod VertexMemo
 pub mod HyperplaneMemo
 pub mod Sizes
 pub mod Sums
+pub mod Webs
 pub mod TwiceMet
 pub mod EndsMet
+pub mod Rings
 pub mod PolytopeMemo

@@ -15,10 +15,12 @@ use Rattle.rules.specs.Table.{Element, corner, polytope, Table, rankOf, boundar
 use Rattle.rules.specs.Sound.{sound, soundElement}
 use Rattle.rules.specs.Memory.{soundMemory}
 use Rattle.rules.specs.Held.{Holds, AllOf, memoryOf}
-use Rattle.rules.specs.Questions.{Asked, no-answer, answer, withRank, walk, firstEdge, eachOnce, pairs, edgesInOrder}
+use Rattle.rules.specs.Walk.{walk, firstEdge, startOf, eachOnce}
+use Rattle.rules.specs.Questions.{Asked, no-answer, answer, pairs, edgesInOrder}
 use Rattle.rules.specs.Replies.{listed, inNumbers, edgesInOrderReply}
 use Rattle.rules.specs.declared.ListReply.{ListReply}
 use Rattle.rules.specs.declared.ListReply.the-variants.{Refused, Listed}
+use Rattle.rules.proofs.FaceEdges.{start-first}
 use Rattle.rules.proofs.Good.{Good, sound-good, sound-at, whole}
 use Rattle.rules.proofs.Laws.{if-true, if-false, test-eq, not-eq, test-le, test-above}
 use Rattle.walk.specs.Boundaries.{rowBoundary}
@@ -134,13 +136,16 @@ module _ {cs : List ℕ} {ps hs : List Float} {es : List ℕ} {t : Table} (H : H
   ordered start ss = inNumbers (if eachOnce (boundary t f) ss then answer (pairs t start ss) else no-answer 7)
 
   abbrev lowest : ℕ
-  lowest = getD (withRank t 0 f) 0 0
+  lowest = startOf t (boundary t f)
+
+  lowest-is : lowest ≡ lowestEnd es noEdge (boundary t f)
+  lowest-is = sym (start-first desk t s f u q) ∙ start-is H s f u q edges
 
   steps-same : walk (length (boundary t f)) t (boundary t f) lowest lowest (firstEdge t lowest (boundary t f)) ≡ stepsOf es (boundary t f)
   unfolding stepsOf
   steps-same =
       let v = lowestEnd es noEdge (boundary t f) in
-      ap (λ (x : ℕ). walk (length (boundary t f)) t (boundary t f) x x (firstEdge t x (boundary t f))) (start-is H s f u q edges)
+      ap (λ (x : ℕ). walk (length (boundary t f)) t (boundary t f) x x (firstEdge t x (boundary t f))) lowest-is
       ∙ ap (walk (length (boundary t f)) t (boundary t f) v v) (first-is t es (boundary t f) edges none (H .fits .elementRoom) up v)
       ∙ walk-is t es (boundary t f) edges none (length (boundary t f)) v v (firstWay es v (boundary t f)) (first-met t es (boundary t f) edges none (H .fits .elementRoom) up v)
 
@@ -155,7 +160,7 @@ module _ {cs : List ℕ} {ps hs : List Float} {es : List ℕ} {t : Table} (H : H
   order-is =
       let v = lowestEnd es noEdge (boundary t f) in
       ap inNumbers (if-false (not (eqb (rank t f) 2)) (no-answer 6) _ (ap not (test-eq (rank t f) 2 q)))
-      ∙ ap₂ ordered (start-is H s f u q edges) steps-same
+      ∙ ap₂ ordered lowest-is steps-same
       ∙ by-once (eachOnce (boundary t f) (stepsOf es (boundary t f)))
       ∙ ap (λ (l : List ℕ). inOrder es l (lowestEnd es noEdge l) (stepsOf es l)) (sym same)
     where

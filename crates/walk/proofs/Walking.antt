@@ -9,7 +9,8 @@ use lib.ListN.{getD}
 use Rattle.rules.specs.Lists.{if_then_else_, all, keep, joined, member, rises}
 use Rattle.rules.specs.Table.{Table, elementCount, boundary}
 use Rattle.rules.specs.Held.{AllOf}
-use Rattle.rules.specs.Questions.{edgesAt, otherEnd, otherEdge, walk, firstEdge, pairs}
+use Rattle.rules.specs.Walk.{edgesAt, otherEnd, otherEdge, walk, firstEdge}
+use Rattle.rules.specs.Questions.{pairs}
 use Rattle.rules.proofs.Laws.{if-true, if-false, either, and-left, and-right, le-test, not-eq, eqb-self}
 use Rattle.rules.proofs.VertexSet.{keep-rises}
 use Rattle.walk.specs.Walks.{lowEnd, highEnd, hasEnd, endAcross, edgeBeside, noEdge, firstWay, stepsFrom, cornersOf, numbersFrom}

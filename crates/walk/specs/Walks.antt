@@ -7,7 +7,8 @@ use lib.Dec.{ltb, eqb}
 use lib.ListN.{length, getD, take}
 use Rattle.rules.specs.Lists.{if_then_else_, keep}
 use Rattle.rules.specs.Held.{AllOf}
-use Rattle.rules.specs.Questions.{Asked, no-answer, answer, eachOnce}
+use Rattle.rules.specs.Walk.{eachOnce}
+use Rattle.rules.specs.Questions.{Asked, no-answer, answer}
 use Rattle.space.specs.Closed.{Low}
 use Rattle.walk.specs.Boundaries.{rowBoundary, BoundaryFits}
 use Rattle.walk.specs.declared.Steps.{Steps}

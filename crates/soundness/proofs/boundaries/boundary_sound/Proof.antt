@@ -3,9 +3,8 @@ use Prim.Native.Nat.{_+_}
 use mathlib.Core.Bool.{false, false≢true}
 use mathlib.Core.Path.{refl}
 use native.Mathlib.Omega.{arith}
-use Rattle.soundness.specs.Words.{stampOf}
 use Rattle.soundness.proofs.BoundaryLoops.{boundary-by, boundary-face, boundary-body}
-use Rattle.soundness.proofs.FaceLoops.{unmet-above}
+use Rattle.soundness.proofs.FaceLoops.{unmet-next}
 use borrow.Author.Tests.{le-ltb, lt-ltb}
 use borrow.Author.Needs.{needs}
 use Rattle.soundness.proofs.boundaries.boundary_sound.Statement.{statement}
@@ -44,7 +43,7 @@ returns-3 c =
     let a = c .before .before .before .before .args in
     let p = c .before .before .before .before .pre in (
       boundary-body (a .elements .now) (a .at) (a .n) (a .e) (a .rank) (p .0) (p .1) (p .4) (c .before .if2 .left) (lt-ltb _ _ (c .before .before .if1 .left)) (c .numbers-fit .ensures),
-      λ t. unmet-above (stampOf (a .e)) (stampOf (a .e) + 2) (a .met .now) (omega arith) (p .6),
+      λ t. unmet-next (a .e) (a .met .now) (p .6),
     )
 
 pub boundary-sound-spec : {M : Type 1} → statement M
