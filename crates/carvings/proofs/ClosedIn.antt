@@ -12,7 +12,7 @@ use Rattle.rules.specs.Lists.{if_then_else_, all, keep, member, occurrences, wi
 use Rattle.rules.specs.Table.{Table, element, elementCount, boundary, boundaryOf}
 use Rattle.rules.specs.Walk.{endsOf, around, eachOnce, eachTwice}
 use Rattle.rules.specs.Sound.{closed}
-use Rattle.rules.specs.Promises.{HangTogether}
+use Rattle.rules.specs.Rings.{HangTogether}
 use Rattle.carvings.specs.Renumbered.{image}
 use Rattle.carvings.proofs.Embeds.{Embeds}
 use Rattle.rules.proofs.Extends.{Below, below-more}

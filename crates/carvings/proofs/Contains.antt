@@ -20,11 +20,12 @@ use Rattle.rules.specs.Held.{Begins, Extends}
 use Rattle.carvings.specs.Renumbered.{renumbered, image}
 use Rattle.rules.specs.declared.ElementOrNone.{ElementOrNone}
 use Rattle.rules.specs.declared.ElementOrNone.the-variants.{None}
+use Rattle.rules.proofs.Apart.{distinct-apart}
 use Rattle.rules.proofs.Built.{After, Builds}
 use Rattle.carvings.proofs.ClosedIn.{closed-in}
 use Rattle.carvings.proofs.Crossings.{Points, stay, shared, pointsWith, Moves, Moved, add-element}
 use Rattle.carvings.proofs.EachInOther.{no-more}
-use Rattle.carvings.proofs.Embeds.{added, was-there, done-value, Embeds, Grown, element-grown, good-apart, embeds-new, sending, not-there}
+use Rattle.carvings.proofs.Embeds.{added, was-there, done-value, Embeds, Grown, element-grown, embeds-new, sending, not-there}
 use Rattle.rules.proofs.Extends.{Below, begins-trans, extends-trans, grown-point, begins-length}
 use Rattle.rules.proofs.FaceEdges.{of-all, Two, edge-two}
 use Rattle.rules.proofs.Fine.{Fine}
@@ -127,7 +128,7 @@ module _ (L : Limits) (T B : Table) (fine : Fine T) (good : Good L B) (on : Exte
           → (i : ℕ) × (u : Table) × ((if c then done (elementCount t) (withElement y t) else refused 9) ≡ done i u)
       room true e q = (elementCount t, withElement y t, refl)
       room false e q =
-          let em′ = embeds-new T B (good-apart L B good) t f em y ry by (not-there y t q) j lj ej in
+          let em′ = embeds-new T B (distinct-apart B (good .apart)) t f em y ry by (not-there y t q) j lj ej in
           let n = no-more (sending (elementCount t) j f) (elementCount (withElement y t)) (elementCount B) (em′ .used) (em′ .once) in
           let long : elementCount (withElement y t) ≡ suc (elementCount t) = length-snoc (t .elements) y in
           let r = le-test (elementCount B) (L .elements) (good .elementRoom) in
@@ -148,7 +149,7 @@ module _ (L : Limits) (T B : Table) (fine : Fine T) (good : Good L B) (on : Exte
         after = w .1;
         runs = w .2;
         points = m .points;
-        grown = element-grown T B (good-apart L B good) t f em y ry by (w .0) (w .1) (added L y t (w .0) (w .1) (w .2)) j lj ej;
+        grown = element-grown T B (distinct-apart B (good .apart)) t f em y ry by (w .0) (w .1) (added L y t (w .0) (w .1) (w .2)) j lj ej;
       }
 
   pub poly-went : (t : Table) (f : ℕ → ℕ) → Embeds T B t f → (r : ℕ) (b b′ : List ℕ) (h : Option ℕ) (m : Bool) → SetIs f (elementCount t) b b′

@@ -1,27 +1,28 @@
 -- What sets of elements in use tell of their numbers, and what soundness tells of the element that is cut.
 use Prim.Native.Nat.{ℕ, zero, suc, _+_, _-_, _*_, _≤_, _<_}
 use mathlib.Core.Path.{_≡_, refl, ap, sym, _∙_, subst}
-use mathlib.Core.Bool.{true}
+use mathlib.Core.Bool.{true, false≢true}
 use mathlib.Core.List.{List, [], _∷_}
-use native.Mathlib.Nat.{le-trans, le-of-suc-le-suc, not-suc-le-zero}
+use native.Mathlib.Nat.{le-trans, le-of-suc-le-suc, not-suc-le-zero, suc-inj}
 use native.Mathlib.Omega.{arith}
-use lib.Dec.{lit≤}
+use lib.Dec.{lit≤, eqb}
 use lib.ListN.{length, getD}
 use lib.Seq.{getD-take, length-take-le}
 use Rattle.rules.specs.Limits.{desk}
-use Rattle.rules.specs.Lists.{rises}
+use Rattle.rules.specs.Lists.{rises, member}
 use Rattle.rules.specs.Table.{Element, corner, polytope, Table, rankOf, boundary, boundaryOf, elementCount, rank, element}
 use Rattle.rules.specs.Sound.{closed, soundElement}
 use Rattle.rules.specs.Held.{Fits, elementsOf, Ranked, AllOf, SomeOf}
 use Rattle.rules.specs.declared.ElementOrNone.{ElementOrNone}
 use Rattle.rules.specs.declared.ElementOrNone.the-variants.{None, Some}
+use Rattle.rules.proofs.Apart.{distinct-apart, plain, plain-once}
 use Rattle.rules.proofs.Borders.{rise-at}
 use Rattle.rules.proofs.Extends.{Below, below-more, below-get}
 use Rattle.rules.proofs.Good.{Good, all-below, sound-at, whole}
-use Rattle.rules.proofs.Laws.{le-test, eq-test}
+use Rattle.rules.proofs.Laws.{le-test, eq-test, or-case}
 use Rattle.rules.proofs.Ranked.{set-under}
 use Rattle.rules.proofs.StaysCut.{Owner, facts}
-use Rattle.space.specs.Closed.{Low, LowEnds, EndsLow, EachEdge, Edges}
+use Rattle.space.specs.Closed.{Low, LowEnds, EndsLow, EachEdge, Edges, Untwinned}
 use Rattle.space.proofs.Room.{listOf, list-word}
 use Rattle.gathered.specs.Sets.{sizeIn, members, InRoom}
 
@@ -48,8 +49,19 @@ edge-whole t g x h = go (element t x) (h .1) (sound-at desk t x g (h .0))
         (eq-test (length b) 2 (subst (λ (n : ℕ). closed t n b ≡ true) (let q : r ≡ 1 = omega (arith, e) in q) (w .tight)), w .rising)
 
 pub edges-of : (t : Table) → Good desk t → (xs : List ℕ) → rises xs ≡ true → AllOf (Ranked t 2) xs → Edges t xs
-edges-of t g xs up h = (up, each xs h)
+edges-of t g xs up h = (up, each xs h, alone)
   where
+    ranked : (ys : List ℕ) → AllOf (Ranked t 2) ys → (x : ℕ) → member x ys ≡ true → Ranked t 2 x
+    ranked [] k x m = absurd (false≢true m)
+    ranked (y ∷ ys) k x m =
+        or-case (eqb x y) (member x ys) m (Ranked t 2 x) (λ q. subst (λ (z : ℕ). Ranked t 2 z) (sym (eq-test x y q)) (k .0)) (λ n. ranked ys (k .1) x n)
+
+    alone : 2 < t .dimension → Untwinned t xs
+    alone l x y mx my e =
+        let a = ranked xs h x mx in
+        let b = ranked xs h y my in
+        plain-once t (distinct-apart t (g .apart)) x y (a .0) (b .0) (plain t x (element t x) l (sound-at desk t x g (a .0)) (suc-inj (a .1))) (plain t y (element t y) l (sound-at desk t y g (b .0)) (suc-inj (b .1))) e
+
     each : (ys : List ℕ) → AllOf (Ranked t 2) ys → EachEdge t ys
     each [] k = tt
     each (y ∷ ys) k = let w = edge-whole t g y (k .0) in (k .0 .0, w .0, w .1, each ys (k .1))

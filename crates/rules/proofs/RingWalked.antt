@@ -14,7 +14,7 @@ use Rattle.rules.specs.Table.{Table, boundary, rank, elementCount}
 use Rattle.rules.specs.Walk.{endsOf, otherEnd, otherEdge, walk, startOf, around, eachOnce, eachTwice}
 use Rattle.rules.specs.Sound.{sound, closed}
 use Rattle.rules.specs.Questions.{answer, pairs, edgesInOrder}
-use Rattle.rules.specs.Promises.{HangTogether, Ring, RuleIsOneRing, FaceIsOneRing, FaceIsWalked}
+use Rattle.rules.specs.Rings.{HangTogether, Ring, RuleIsOneRing, FaceIsOneRing, FaceIsWalked}
 use Rattle.rules.proofs.Common.{kept-member}
 use Rattle.rules.proofs.FaceEdges.{of-all, Two, On, Face, startEdge, Linked, is-face, start-on, edge-two, linked, takes-all}
 use Rattle.rules.proofs.Laws.{and-true, and-left, and-right, le-test, eq-test, test-eq, eqb-self, not-eq, unlike-eq, not-true, or-case, or-left, or-right, or-false, neither, refute, if-true, if-false}
@@ -34,7 +34,7 @@ fewer p q (x ∷ xs) h = go (q x) (p x) (h x) (fewer p q xs h)
     go false false f l = l
 
 -- and is less where it leaves a member out
-less : (p q : ℕ → Bool) (xs : List ℕ) (e : ℕ) → ((x : ℕ) → q x ≡ true → p x ≡ true) → member e xs ≡ true → p e ≡ true → q e ≡ false → length (keep q xs) < length (keep p xs)
+pub less : (p q : ℕ → Bool) (xs : List ℕ) (e : ℕ) → ((x : ℕ) → q x ≡ true → p x ≡ true) → member e xs ≡ true → p e ≡ true → q e ≡ false → length (keep q xs) < length (keep p xs)
 less p q [] e h m a b = absurd (false≢true m)
 less p q (x ∷ xs) e h m a b =
     or-case (eqb e x) (member e xs) m (length (keep q (x ∷ xs)) < length (keep p (x ∷ xs)))

@@ -10,6 +10,7 @@ pub mod Memory
 pub mod Cube
 pub mod Cut
 pub mod Questions
+pub mod Rings
 pub mod Replies
 pub mod Session
 pub mod Marked

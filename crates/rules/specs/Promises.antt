@@ -11,11 +11,11 @@ use Rattle.rules.specs.Limits.{Limits, Roomier}
 use Rattle.rules.specs.Lists.{all, any, member, occurrences, rises}
 use Rattle.rules.specs.Floats.{sideOf, signedDistance, clamp, pointMatches}
 use Rattle.rules.specs.Table.{ElementNumber, VertexNumber, Plane, Table, vertexOf, element, rank, boundary, elementCount, pointAt}
-use Rattle.rules.specs.Walk.{endsOf}
-use Rattle.rules.specs.Sound.{sound, closed}
+use Rattle.rules.specs.Sound.{sound}
 use Rattle.rules.specs.Memory.{Memory, elementWidth, planeWidth, encode, decode, soundMemory}
 use Rattle.rules.specs.Cut.{done, give, next, addPlane, cut, given}
 use Rattle.rules.specs.Questions.{answer, isBelow, vertexSet, greatestCommon, edgesInOrder, primordialFacet}
+use Rattle.rules.specs.Rings.{RuleIsOneRing, FaceIsOneRing, FaceIsWalked}
 use Rattle.rules.specs.Replies.{cutNumber, listNumber, isSoundReply, cubeReply, dividerFits, dividerOf, written, cutReply, subElementsReply, withRankReply, vertexSetReply, greatestCommonReply, edgesInOrderReply, primordialFacetReply}
 use Rattle.rules.specs.declared.Hyperplane.{Hyperplane}
 use Rattle.rules.specs.declared.Side.{Side}
@@ -335,33 +335,6 @@ pub record Walked (t : Table) (f : ElementNumber) (ps : List (VertexNumber × Ve
 abbrev pub WalkGoesRound : Limits → Type 0
 WalkGoesRound L = (t : Table) → sound L t ≡ true → (f : ElementNumber) (ps : List (VertexNumber × VertexNumber)) → f < elementCount t
     → edgesInOrder t f ≡ answer ps → Walked t f ps
-
--- the edges of a face hang together: a set that holds one of them, and with an edge each one that shares a corner with it, holds all
-abbrev pub HangTogether : Table → List ElementNumber → Type 0
-HangTogether t es = (S : ElementNumber → Bool) (e : ElementNumber) → member e es ≡ true → S e ≡ true
-    → ((x y v : ElementNumber) → member x es ≡ true → member y es ≡ true
-    → member v (boundary t x) ≡ true → member v (boundary t y) ≡ true → S x ≡ true → S y ≡ true)
-    → (x : ElementNumber) → member x es ≡ true → S x ≡ true
-
--- one ring, said without a walk: each corner met lies on exactly two of the edges, and they hang together
-pub record Ring (t : Table) (es : List ElementNumber) : Type 0 where
-  pub twice : (v : ElementNumber) → member v (endsOf t es) ≡ true → occurrences v (endsOf t es) ≡ 2
-  pub together : HangTogether t es
-
--- the rule of rank 2, and test 7, is this and nothing else, for any edges of a sound table: where the walk starts, and which way it goes, does not matter
-abbrev pub RuleIsOneRing : Limits → Type 0
-RuleIsOneRing L = (t : Table) → sound L t ≡ true → (es : List ElementNumber) → rises es ≡ true
-    → all (λ e. ltb e (elementCount t) && eqb (rank t e) 1) es ≡ true
-    → (closed t 2 es ≡ true → Ring t es) × (Ring t es → closed t 2 es ≡ true)
-
--- so a face of a sound table is one ring
-abbrev pub FaceIsOneRing : Limits → Type 0
-FaceIsOneRing L = (t : Table) → sound L t ≡ true → (f : ElementNumber) → f < elementCount t → rank t f ≡ 2 → Ring t (boundary t f)
-
--- and it is walked, with an answer and never 7
-abbrev pub FaceIsWalked : Limits → Type 0
-FaceIsWalked L = (t : Table) → sound L t ≡ true → (f : ElementNumber) → f < elementCount t → rank t f ≡ 2
-    → (ps : List (VertexNumber × VertexNumber)) × (edgesInOrder t f ≡ answer ps)
 
 -- always no in one dimension
 abbrev pub NoFacetInOneDimension : Limits → Type 0

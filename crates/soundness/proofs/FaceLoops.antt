@@ -1,5 +1,5 @@
--- The loop over the edges of a face: each number fits, and each edge joins paths, so the face is one ring exactly when the last edge
--- is the first to close a path, and as many ends were met for the second time as there are edges.
+-- The loops over the edges of a face: each number fits. Of few edges the ends are met, so the face is one ring exactly when as many are met for the
+-- second time as there are edges. More of them join paths: the last edge has to be the first to close one, and as many ends be met for the second time.
 use Prim.Native.Nat.{ℕ, suc, _+_, _-_, _*_, _<_, _≤_}
 use mathlib.Core.Bool.{Bool, true, false, _&&_}
 use mathlib.Core.List.{List}
@@ -13,10 +13,11 @@ use Rattle.rules.specs.Limits.{desk}
 use Rattle.rules.specs.Lists.{all, rises}
 use Rattle.rules.proofs.Growing.{all-get}
 use Rattle.rules.proofs.Laws.{and-left, and-right}
-use Rattle.space.specs.Closed.{closedRaw, joining, joined, Unmet, Stamped, EndsLow}
-use Rattle.space.proofs.EndsMet.{Paths, paths-go, paths-stamped}
+use Rattle.space.specs.Closed.{metTwice, bothMet, seconds, ringRaw, joining, joined, Unmet, Stamped, EndsLow}
+use Rattle.space.proofs.EndsCounted.{Round, round-met, round-end}
+use Rattle.space.proofs.PathsJoined.{Paths, paths-go, paths-stamped}
 use Rattle.space.proofs.Rings.{never-closed, no-edges, answers-thrice, answers-early, answers-last}
-use Rattle.soundness.specs.Words.{numbersFit, faceWords, stampOf, EdgesLow}
+use Rattle.soundness.specs.Words.{numbersFit, fewWords, faceWords, stampOf, EdgesLow}
 use Rattle.soundness.proofs.BoundaryLoops.{numbers-ends}
 
 -- ---- edge after edge
@@ -44,6 +45,22 @@ module _ (es : List ℕ) (from to e : ℕ) (fit : to ≤ length es) where
       subst (λ (k : ℕ). Paths es edges s met′ (twice + r) k) (let z : i - from + 1 ≡ i + 1 - from = omega (arith, l) in z)
       (paths-go es edges s met twice (i - from) P x (edge-left i l h) (edge-at i x l h p) E r met′ c small m)
 
+  -- few edges
+
+  pub few-go : (met met′ : List ℕ) (twice i x r s stamp : ℕ) → Round es edges s met twice (i - from) → from ≤ i → i < to → x ≡ getD es i 0 → EndsLow es x → stamp ≡ s
+      → r ≡ seconds stamp es met x → met′ ≡ bothMet stamp es met x → Round es edges s met′ (twice + r) (i + 1 - from)
+  few-go met met′ twice i x r s stamp R l h p E t c m =
+      subst (λ (k : ℕ). Round es edges s met′ (twice + r) k) (let z : i - from + 1 ≡ i + 1 - from = omega (arith, l) in z)
+      (round-met es edges s met met′ twice (i - from) x r R (edge-left i l h) (edge-at i x l h p) E
+      (c ∙ ap (λ (k : ℕ). seconds k es met x) t) (m ∙ ap (λ (k : ℕ). bothMet k es met x) t))
+
+  pub few-end : (met : List ℕ) (twice i s : ℕ) → Round es edges s met twice (i - from) → i ≡ to → EdgesLow es e → true ≡ numbersFit desk es e 2 edges
+      → eqb twice (to - from) ≡ fewWords desk es e edges
+  few-end met twice i s R n E f =
+      ap (eqb twice) (sym edges-long)
+      ∙ round-end es edges s met twice (i - from) R (ap (λ (k : ℕ). k - from) n ∙ sym edges-long) (numbers-ends es e E edges (sym f))
+      ∙ ap (λ (b : Bool). b && metTwice es edges) f
+
   module _ (u : e < 512) (E : EdgesLow es e) where
     -- what the numbers tell where they fit
     up : numbersFit desk es e 2 edges ≡ true → rises edges ≡ true
@@ -58,10 +75,10 @@ module _ (es : List ℕ) (from to e : ℕ) (fit : to ≤ length es) where
     )
 
     -- where the numbers fit, so it is; where they do not, the face is none anyway
-    neither-way : (numbersFit desk es e 2 edges ≡ true → closedRaw es 2 edges ≡ false) → false ≡ faceWords desk es e edges
+    neither-way : (numbersFit desk es e 2 edges ≡ true → ringRaw es edges ≡ false) → false ≡ faceWords desk es e edges
     neither-way h = go (numbersFit desk es e 2 edges) refl
       where
-        go : (b : Bool) → numbersFit desk es e 2 edges ≡ b → false ≡ (b && closedRaw es 2 edges)
+        go : (b : Bool) → numbersFit desk es e 2 edges ≡ b → false ≡ (b && ringRaw es edges)
         go true q = sym (h q)
         go false q = refl
 
@@ -78,12 +95,12 @@ module _ (es : List ℕ) (from to e : ℕ) (fit : to ≤ length es) where
         face-last three last f =
             ap (eqb (twice + 2)) (sym edges-long)
             ∙ answers-last es edges (up (sym f)) (fine (sym f)) s met twice (i - from) P x (edge-left i l h) (edge-at i x l h p) r c three (let n = edges-long in omega (arith, n, l, h, last))
-            ∙ ap (λ (b : Bool). b && closedRaw es 2 edges) f
+            ∙ ap (λ (b : Bool). b && ringRaw es edges) f
 
       pub face-none : i ≡ to → true ≡ numbersFit desk es e 2 edges → eqb (to - from) 0 ≡ faceWords desk es e edges
       face-none n f =
           no-edges es edges (up (sym f)) (fine (sym f)) s met twice (i - from) P (to - from) edges-long (ap (λ (k : ℕ). k - from) n ∙ sym edges-long)
-          ∙ ap (λ (b : Bool). b && closedRaw es 2 edges) f
+          ∙ ap (λ (b : Bool). b && ringRaw es edges) f
 
 -- ---- from element to element
 

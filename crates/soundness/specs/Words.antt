@@ -13,7 +13,7 @@ use Rattle.rules.specs.Memory.{planeWidth, elementWidth, rightSize}
 use Rattle.rules.specs.Held.{memoryOf}
 use Rattle.rules.specs.Table.{primordials}
 use Rattle.space.specs.Chains.{rowAt}
-use Rattle.space.specs.Closed.{closedRaw, EndsLow}
+use Rattle.space.specs.Closed.{closedRaw, metTwice, ringRaw, EndsLow}
 
 abbrev pub blank : List ℕ → Bool
 blank = all (eqb 0)
@@ -82,17 +82,21 @@ numberFits L es e r low x = leb low x && ltb x e && eqb (suc (getD es (x * eleme
 abbrev pub numbersFit : Limits → List ℕ → ℕ → ℕ → List ℕ → Bool
 numbersFit L es e r b = rises b && all (λ x. ltb x e) b && all (λ x. eqb (suc (getD es (x * elementWidth L) 0)) r) b
 
-unfoldable pub boundaryWords : Limits → List ℕ → ℕ → ℕ → List ℕ → Bool
-boundaryWords L es e r b =
-    rises b && all (λ x. ltb x e) b && all (λ x. eqb (suc (getD es (x * elementWidth L) 0)) r) b && ltb r (length b) && closedRaw es r b
+unfoldable pub boundaryWords : Limits → List ℕ → ℕ → ℕ → ℕ → List ℕ → Bool
+boundaryWords L es d e r b =
+    rises b && all (λ x. ltb x e) b && all (λ x. eqb (suc (getD es (x * elementWidth L) 0)) r) b && ltb r (length b) && closedRaw d es r b
 
 -- the boundary of a row, for rank r: its count fits the room, and it is sound
-unfoldable pub polytopeWords : Limits → List ℕ → ℕ → ℕ → List ℕ → Bool
-polytopeWords L es e r row = leb (getD row 3 0) (L .boundary) && boundaryWords L es e r (boundaryIn row)
+unfoldable pub polytopeWords : Limits → List ℕ → ℕ → ℕ → ℕ → List ℕ → Bool
+polytopeWords L es d e r row = leb (getD row 3 0) (L .boundary) && boundaryWords L es d e r (boundaryIn row)
 
--- the boundary of a face: its numbers fit, and its edges make one ring
+-- the boundary of a face of few edges: its numbers fit, and each corner met lies on exactly two of its edges
+abbrev pub fewWords : Limits → List ℕ → ℕ → List ℕ → Bool
+fewWords L es e b = numbersFit L es e 2 b && metTwice es b
+
+-- the boundary of any other face: its numbers fit, and its edges make one ring
 abbrev pub faceWords : Limits → List ℕ → ℕ → List ℕ → Bool
-faceWords L es e b = numbersFit L es e 2 b && closedRaw es 2 b
+faceWords L es e b = numbersFit L es e 2 b && ringRaw es b
 
 -- the stamp of an element, above every word that was written for the elements before it
 abbrev pub stampOf : ℕ → ℕ
@@ -109,7 +113,7 @@ pub record EdgesLow (es : List ℕ) (e : ℕ) : Type 0 where
 unfoldable pub elementSound : Limits → List ℕ → ℕ → ℕ → ℕ → List ℕ → Bool
 elementSound L es d h e row =
     if eqb (getD row 0 0) 0 then true
-    else (leb (getD row 0 0) d && boundaryWords L es e (getD row 0 0) (boundaryIn row) && facetWords d h (getD row 0 0) (getD row 2 0) (getD row 1 0))
+    else (leb (getD row 0 0) d && boundaryWords L es d e (getD row 0 0) (boundaryIn row) && facetWords d h (getD row 0 0) (getD row 2 0) (getD row 1 0))
 
 -- the row of element e, where vertex k is the next to be named, but for what stands past its boundary
 abbrev pub rowSound : Limits → List ℕ → ℕ → ℕ → ℕ → ℕ → List ℕ → Bool

@@ -1,7 +1,9 @@
-// A boundary that is sound: its numbers, and test 7 in the same pass. The paths that a face's edges make have a word for each corner.
+// A boundary that is sound: its numbers, and test 7 in the same pass, with a word for each corner that the edges of a face meet.
 use space::closed::CLOSES;
 use space::closed::THRICE;
+use space::closed::few_edges;
 use space::closed::join_ends;
+use space::closed::meet_ends;
 use space::words::WIDTH;
 use space::words::wide;
 ghost use Prim.Native.Nat.{_+_, _*_, _<_, _≤_};
@@ -10,7 +12,7 @@ ghost use mathlib.Core.Bool.{true};
 ghost use lib.ListN.{length, take, drop};
 ghost use Rattle.rules.specs.Limits.{desk};
 ghost use Rattle.space.specs.Closed.{Unmet};
-ghost use Rattle.soundness.specs.Words.{numberFits, numbersFit, faceWords, stampOf, boundaryWords, EdgesLow};
+ghost use Rattle.soundness.specs.Words.{numberFits, numbersFit, fewWords, faceWords, stampOf, boundaryWords, EdgesLow};
 
 // An element's stamp is above every word that was written for the elements before it: the words of one face are 513 at most above its own.
 fn stamp_of(e: usize) -> u32
@@ -50,7 +52,26 @@ pub fn numbers_fit(elements: &[u16], from: usize, to: usize, e: usize, rank: usi
     true
 }
 
-// The numbers of a face, whose edges are to make one ring: each joins paths in the same pass.
+// The numbers of a face of few edges: the ends of each are met in the same pass.
+fn few_fits(elements: &[u16], from: usize, to: usize, e: usize, met: &mut [u32; 512]) -> bool
+    requires { ⌜ (from ≤ to) × (to ≤ from + 32) × (to ≤ length (now elements)) × (length (now elements) ≡ 18432) × (e < 512) × EdgesLow (now elements) e × Unmet (stampOf e) (now met) ⌝ }
+    ensures { λ r. ⌜ (r ≡ fewWords desk (now (elements .entry)) e (drop from (take to (now (elements .entry))))) × (r ≡ true → Unmet (stampOf (e + 1)) (now (met .exit))) ⌝ }
+{
+    let stamp = stamp_of(e);
+    let mut low = 0usize;
+    let mut twice = 0usize;
+    for i in from..to {
+        let x = wide(elements[i]);
+        if !number_fits(elements, x, low, e, 2) {
+            return false;
+        }
+        twice = twice + meet_ends(elements, x, met, stamp);
+        low = x + 1;
+    }
+    twice == to - from
+}
+
+// The numbers of any other face: each edge joins paths in the same pass.
 fn face_fits(elements: &[u16], from: usize, to: usize, e: usize, met: &mut [u32; 512]) -> bool
     requires { ⌜ (from ≤ to) × (to ≤ from + 32) × (to ≤ length (now elements)) × (length (now elements) ≡ 18432) × (e < 512) × EdgesLow (now elements) e × Unmet (stampOf e) (now met) ⌝ }
     ensures { λ r. ⌜ (r ≡ faceWords desk (now (elements .entry)) e (drop from (take to (now (elements .entry))))) × (r ≡ true → Unmet (stampOf (e + 1)) (now (met .exit))) ⌝ }
@@ -85,17 +106,21 @@ pub fn boundary_sound(
     at: usize,
     n: usize,
     e: usize,
+    d: usize,
     rank: usize,
     met: &mut [u32; 512],
 ) -> bool
     requires { ⌜ (length (now elements) ≡ 18432) × (at + n ≤ 18432) × (n ≤ 32) × (e < 512) × (rank ≡ 1 → ⊥) × EdgesLow (now elements) e × Unmet (stampOf e) (now met) ⌝ }
-    ensures { λ r. ⌜ (r ≡ boundaryWords desk (now (elements .entry)) e rank (drop at (take (at + n) (now (elements .entry))))) × (r ≡ true → Unmet (stampOf (e + 1)) (now (met .exit))) ⌝ }
+    ensures { λ r. ⌜ (r ≡ boundaryWords desk (now (elements .entry)) d e rank (drop at (take (at + n) (now (elements .entry))))) × (r ≡ true → Unmet (stampOf (e + 1)) (now (met .exit))) ⌝ }
 {
     if n <= rank {
         return false;
     }
-    if rank == 2 {
-        return face_fits(elements, at, at + n, e, met);
+    if rank != 2 {
+        return numbers_fit(elements, at, at + n, e, rank);
     }
-    numbers_fit(elements, at, at + n, e, rank)
+    if n <= few_edges(d) {
+        return few_fits(elements, at, at + n, e, met);
+    }
+    face_fits(elements, at, at + n, e, met)
 }

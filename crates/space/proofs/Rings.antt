@@ -11,69 +11,17 @@ use lib.Seq.{drop-length, getD-drop}
 use Rattle.rules.specs.Lists.{occurrences, any, member, rises}
 use Rattle.rules.specs.Table.{Table, boundary}
 use Rattle.rules.specs.Walk.{endsOf}
-use Rattle.rules.specs.Promises.{HangTogether, Ring}
+use Rattle.rules.specs.Rings.{HangTogether, Ring}
 use Rattle.rules.proofs.FaceEdges.{Two, met-end}
 use Rattle.rules.proofs.Laws.{eq-test, test-eq, not-eq, unlike-eq, and-true, and-left, and-right, or-case, or-left, or-right, eqb-self, refute, both-ways}
 use Rattle.rules.proofs.Reach.{some-at, at-some, some-of, any-at}
 use Rattle.rules.proofs.RingWalked.{rule-ring, ring-rule}
-use Rattle.space.specs.Closed.{EndsLow, firstEnd, secondEnd, rawEnds, asEdges, closedRaw, joining}
+use Rattle.space.specs.Closed.{EndsLow, firstEnd, secondEnd, rawEnds, asEdges, ringRaw, joining}
 use Rattle.space.proofs.Sums.{sumTo, sum-zeros, zeros-sum}
-use Rattle.space.proofs.TwiceMet.{times-cons, boundary-as}
+use Rattle.space.proofs.TwiceMet.{boundary-as}
 use Rattle.space.proofs.Webs.{Same, yes, no, same?, OneOf, this, that, more, met-once}
-use Rattle.space.proofs.EndsMet.{bit, ends-on, spare, spare-none, spares, Paths, Told, third, closes, joins, told, balanced, whole′, fewer}
-
--- ---- counts and members
-
-met-in : (v : ℕ) (l : List ℕ) → member v l ≡ true → 0 < occurrences v l
-met-in v [] h = absurd (false≢true h)
-met-in v (x ∷ xs) h =
-    let t = times-cons v x xs in
-    or-case (eqb v x) (member v xs) h (0 < occurrences v (x ∷ xs)) (λ q. let o = bit q in omega (arith, t, o)) (λ m. let r = met-in v xs m in omega (arith, t, r))
-
-in-met : (v : ℕ) (l : List ℕ) → 0 < occurrences v l → member v l ≡ true
-in-met v [] h = absurd (omega (arith, h))
-in-met v (x ∷ xs) h = go (eqb v x) refl (in-met v xs)
-  where
-    go : (b : Bool) → eqb v x ≡ b → (0 < occurrences v xs → member v xs ≡ true) → member v (x ∷ xs) ≡ true
-    go true q later = or-left (eqb v x) (member v xs) q
-    go false q later = let t = times-cons v x xs in let o = bit q in or-right (eqb v x) (member v xs) (later (omega (arith, t, o, h)))
-
--- v is an end of edge x
-abbrev End : List ℕ → ℕ → ℕ → Type 0
-End es v x = member v (firstEnd es x ∷ secondEnd es x ∷ []) ≡ true
-
-end-case : (es : List ℕ) (v x : ℕ) → End es v x → (A : Type 0) → (v ≡ firstEnd es x → A) → (v ≡ secondEnd es x → A) → A
-end-case es v x h A f g =
-    or-case (eqb v (firstEnd es x)) _ h A (λ q. f (eq-test v (firstEnd es x) q))
-    (λ k. or-case (eqb v (secondEnd es x)) false k A (λ q. g (eq-test v (secondEnd es x) q)) (λ z. absurd (false≢true z)))
-
-first-end : (es : List ℕ) (x : ℕ) → End es (firstEnd es x) x
-first-end es x = or-left (eqb (firstEnd es x) (firstEnd es x)) _ (eqb-self (firstEnd es x))
-
-second-end : (es : List ℕ) (x : ℕ) → End es (secondEnd es x) x
-second-end es x = or-right (eqb (secondEnd es x) (firstEnd es x)) _ (or-left (eqb (secondEnd es x) (secondEnd es x)) _ (eqb-self (secondEnd es x)))
-
--- an end is met
-ends-in : (es l : List ℕ) (i v : ℕ) → i < length l → End es v (getD l i 0) → 0 < occurrences v (rawEnds es l)
-unfolding rawEnds
-ends-in es [] i v h m = absurd (not-suc-le-zero h)
-ends-in es (x ∷ xs) zero v h m =
-    let t₁ = times-cons v (firstEnd es x) (secondEnd es x ∷ rawEnds es xs) in
-    let t₂ = times-cons v (secondEnd es x) (rawEnds es xs) in
-    end-case es v x m (0 < occurrences v (rawEnds es (x ∷ xs)))
-    (λ q. let o = bit (test-eq v (firstEnd es x) q) in omega (arith, t₁, o)) (λ q. let o = bit (test-eq v (secondEnd es x) q) in omega (arith, t₁, t₂, o))
-ends-in es (x ∷ xs) (suc i) v h m =
-    let r = ends-in es xs i v (le-of-suc-le-suc h) m in
-    let t₁ = times-cons v (firstEnd es x) (secondEnd es x ∷ rawEnds es xs) in
-    let t₂ = times-cons v (secondEnd es x) (rawEnds es xs) in
-    omega (arith, r, t₁, t₂)
-
--- and one of a later edge is met later
-ends-later : (es l : List ℕ) (k j v : ℕ) → k ≤ j → j < length l → End es v (getD l j 0) → 0 < occurrences v (rawEnds es (drop k l))
-ends-later es l k j v h n m =
-    let d = length-drop k l in
-    ends-in es (drop k l) (j - k) v (let z : j - k < length (drop k l) = omega (arith, d, h, n) in z)
-    (subst (λ (x : ℕ). End es v x) (sym (getD-drop k l (j - k) 0 ∙ ap (λ (i : ℕ). getD l i 0) (let z : k + (j - k) ≡ j = omega (arith, h) in z))) m)
+use Rattle.space.proofs.PathsJoined.{Paths, Told, third, closes, joins, told, balanced, whole′, fewer}
+use Rattle.space.proofs.Meetings.{times-cons, bit, ends-on, met-in, in-met, End, end-case, first-end, second-end, ends-in, ends-later, spare, spare-none, spares}
 
 -- ---- the face
 
@@ -104,7 +52,7 @@ module _ (es edges : List ℕ) (up : rises edges ≡ true) (fine : (j : ℕ) →
       go (x ∷ xs) h = ap₂ (λ (p q : List ℕ). p ++ q) (h 0 (omega arith)) (go xs (λ j l. h (suc j) (omega (arith, l))))
 
   -- every corner that is met is met twice
-  module _ (h : closedRaw es 2 edges ≡ true) where
+  module _ (h : ringRaw es edges ≡ true) where
     ring : Ring (asEdges es) edges
     ring = rule-ring (asEdges es) edges up two-at h
 
@@ -138,9 +86,9 @@ module _ (es edges : List ℕ) (up : rises edges ≡ true) (fine : (j : ℕ) →
 
   module _ (s : ℕ) (paths : List ℕ) (twice k : ℕ) (P : Paths es edges s paths twice k) where
     -- all of them, and none closed a path
-    pub never-closed : k ≡ length edges → 0 < k → closedRaw es 2 edges ≡ false
+    pub never-closed : k ≡ length edges → 0 < k → ringRaw es edges ≡ false
     unfolding rawEnds
-    never-closed n o = refute (closedRaw es 2 edges) (λ h.
+    never-closed n o = refute (ringRaw es edges) (λ h.
         let f = P .web .some (firstEnd es (getD edges 0 0)) (let c = counted (firstEnd es (getD edges 0 0)) in let m = ends-in es edges 0 (firstEnd es (getD edges 0 0)) (omega (arith, n, o)) (first-end es (getD edges 0 0)) in omega (arith, c, m)) in
         let c = counted (f .0) in
         let one = f .1 in
@@ -154,14 +102,14 @@ module _ (es edges : List ℕ) (up : rises edges ≡ true) (fine : (j : ℕ) →
             omega (arith, w, z)
 
     -- nothing to join is a ring
-    pub no-edges : (n : ℕ) → length edges ≡ n → k ≡ length edges → eqb n 0 ≡ closedRaw es 2 edges
+    pub no-edges : (n : ℕ) → length edges ≡ n → k ≡ length edges → eqb n 0 ≡ ringRaw es edges
     no-edges n h q = go n h
       where
-        none : (l : List ℕ) → length l ≡ 0 → closedRaw es 2 l ≡ true
+        none : (l : List ℕ) → length l ≡ 0 → ringRaw es l ≡ true
         none [] z = refl
         none (x ∷ xs) z = absurd (let w : ⊥ = omega (arith, z) in w)
 
-        go : (m : ℕ) → length edges ≡ m → eqb m 0 ≡ closedRaw es 2 edges
+        go : (m : ℕ) → length edges ≡ m → eqb m 0 ≡ ringRaw es edges
         go zero z = sym (none edges z)
         go (suc m) z = not-eq (suc m) 0 (λ y. let w : ⊥ = omega (arith, y) in w) ∙ sym (never-closed q (let w : 0 < k = omega (arith, q, z) in w))
 
@@ -176,8 +124,8 @@ module _ (es edges : List ℕ) (up : rises edges ≡ true) (fine : (j : ℕ) →
       b = secondEnd es e
 
       -- a corner is met for the third time
-      thrice : (v : ℕ) → End es v e → 1 < P .times v → closedRaw es 2 edges ≡ false
-      thrice v m o = refute (closedRaw es 2 edges) (λ h.
+      thrice : (v : ℕ) → End es v e → 1 < P .times v → ringRaw es edges ≡ false
+      thrice v m o = refute (ringRaw es edges) (λ h.
           let w = P .whole v in
           let later = ends-later es edges k k v (omega arith) l (subst (λ (x : ℕ). End es v x) is m) in
           let q = met-twice h v (omega (arith, w, o)) in
@@ -224,7 +172,7 @@ module _ (es edges : List ℕ) (up : rises edges ≡ true) (fine : (j : ℕ) →
 
         -- ---- before the last
 
-        module _ (h : closedRaw es 2 edges ≡ true) (more-left : k + 1 < length edges) where
+        module _ (h : ringRaw es edges ≡ true) (more-left : k + 1 < length edges) where
           -- what hangs with the path is met twice
           full : (c : ℕ) → P .root c ≡ P .root a → 1 < after c
           full c q = go (same? c a) (same? c b)
@@ -316,7 +264,7 @@ module _ (es edges : List ℕ) (up : rises edges ≡ true) (fine : (j : ℕ) →
               let y : _≡_ {A = ℕ} (cond (eqb (P .far b) b) 0 1) 1 = ap (λ (c : Bool). cond c 0 1) (not-eq (P .far b) b (λ z. apart (sym back ∙ z))) in
               omega (arith, q, x, y)
 
-          enough : closedRaw es 2 edges ≡ true → twice + 2 ≡ length edges
+          enough : ringRaw es edges ≡ true → twice + 2 ≡ length edges
           unfolding spares
           enough h =
               let z = sum-zeros 512 (λ v. spare (after v)) (λ v n. none v (after v) refl) in
@@ -372,7 +320,7 @@ module _ (es edges : List ℕ) (up : rises edges ≡ true) (fine : (j : ℕ) →
                     let col = P .colour T (λ j i. h j (let y : j < length edges = omega (arith, i, l) in y)) in
                     col v ∙ ap T (sym (f .2)) ∙ sym (col (f .0)) ∙ here (f .0) (same? (f .0) a) (same? (f .0) b) (f .1)
 
-            made : closedRaw es 2 edges ≡ true
+            made : ringRaw es edges ≡ true
             made = ring-rule (asEdges es) edges up two-at (record {
               twice = λ v m. let q = subst (λ (ys : List ℕ). member v ys ≡ true) ends-are m in
                   ap (occurrences v) ends-are ∙ twos v (met-in v (rawEnds es edges) q);
@@ -381,33 +329,33 @@ module _ (es edges : List ℕ) (up : rises edges ≡ true) (fine : (j : ℕ) →
                   ∙ sym (alike T h (firstEnd es (getD edges j 0)) (ends-in es edges j (firstEnd es (getD edges j 0)) lj (first-end es (getD edges j 0)))));
             })
 
-          last-tells : eqb (twice + 2) (length edges) ≡ closedRaw es 2 edges
-          last-tells = both-ways (eqb (twice + 2) (length edges)) (closedRaw es 2 edges) (λ q. made (eq-test (twice + 2) (length edges) q)) (λ h. test-eq (twice + 2) (length edges) (enough h))
+          last-tells : eqb (twice + 2) (length edges) ≡ ringRaw es edges
+          last-tells = both-ways (eqb (twice + 2) (length edges)) (ringRaw es edges) (λ q. made (eq-test (twice + 2) (length edges) q)) (λ h. test-eq (twice + 2) (length edges) (enough h))
 
       -- ---- by what the call answers
 
-      pub answers-thrice : (r : ℕ) → r ≡ joining s es paths e → r ≡ 4 → closedRaw es 2 edges ≡ false
+      pub answers-thrice : (r : ℕ) → r ≡ joining s es paths e → r ≡ 4 → ringRaw es edges ≡ false
       answers-thrice r q four = go r (subst (λ (n : ℕ). Told es edges s paths twice k P e l is E n) (sym q) (told es edges s paths twice k P e l is E)) four
         where
-          go : (n : ℕ) → Told es edges s paths twice k P e l is E n → n ≡ 4 → closedRaw es 2 edges ≡ false
+          go : (n : ℕ) → Told es edges s paths twice k P e l is E n → n ≡ 4 → ringRaw es edges ≡ false
           go n (third v m o) z = thrice v m o
           go n (closes oa ob f) z = absurd (let w : ⊥ = omega (arith, z) in w)
           go n (joins oa ob f) z =
               absurd (let x = fewer es edges s paths twice k P e l is E (eqb (P .far a) a) in let y = fewer es edges s paths twice k P e l is E (eqb (P .far b) b) in let w : ⊥ = omega (arith, x, y, z) in w)
 
-      pub answers-early : (r : ℕ) → r ≡ joining s es paths e → r ≡ 3 → k + 1 < length edges → closedRaw es 2 edges ≡ false
+      pub answers-early : (r : ℕ) → r ≡ joining s es paths e → r ≡ 3 → k + 1 < length edges → ringRaw es edges ≡ false
       answers-early r q three more-left = go r (subst (λ (n : ℕ). Told es edges s paths twice k P e l is E n) (sym q) (told es edges s paths twice k P e l is E)) three
         where
-          go : (n : ℕ) → Told es edges s paths twice k P e l is E n → n ≡ 3 → closedRaw es 2 edges ≡ false
+          go : (n : ℕ) → Told es edges s paths twice k P e l is E n → n ≡ 3 → ringRaw es edges ≡ false
           go n (third v m o) z = absurd (let w : ⊥ = omega (arith, z) in w)
-          go n (closes oa ob f) z = refute (closedRaw es 2 edges) (λ h. apart-too oa ob f h more-left)
+          go n (closes oa ob f) z = refute (ringRaw es edges) (λ h. apart-too oa ob f h more-left)
           go n (joins oa ob f) z =
               absurd (let x = fewer es edges s paths twice k P e l is E (eqb (P .far a) a) in let y = fewer es edges s paths twice k P e l is E (eqb (P .far b) b) in let w : ⊥ = omega (arith, x, y, z) in w)
 
-      pub answers-last : (r : ℕ) → r ≡ joining s es paths e → r ≡ 3 → k + 1 ≡ length edges → eqb (twice + 2) (length edges) ≡ closedRaw es 2 edges
+      pub answers-last : (r : ℕ) → r ≡ joining s es paths e → r ≡ 3 → k + 1 ≡ length edges → eqb (twice + 2) (length edges) ≡ ringRaw es edges
       answers-last r q three last = go r (subst (λ (n : ℕ). Told es edges s paths twice k P e l is E n) (sym q) (told es edges s paths twice k P e l is E)) three
         where
-          go : (n : ℕ) → Told es edges s paths twice k P e l is E n → n ≡ 3 → eqb (twice + 2) (length edges) ≡ closedRaw es 2 edges
+          go : (n : ℕ) → Told es edges s paths twice k P e l is E n → n ≡ 3 → eqb (twice + 2) (length edges) ≡ ringRaw es edges
           go n (third v m o) z = absurd (let w : ⊥ = omega (arith, z) in w)
           go n (closes oa ob f) z = last-tells oa ob f last
           go n (joins oa ob f) z =

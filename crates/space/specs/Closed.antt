@@ -4,9 +4,9 @@ use mathlib.Core.Path.{_≡_}
 use mathlib.Core.Bool.{Bool, true, false, cond}
 use mathlib.Core.Option.{none}
 use mathlib.Core.List.{List, [], _∷_, map}
-use lib.Dec.{eqb, ltb}
+use lib.Dec.{eqb, ltb, leb}
 use lib.ListN.{length, getD, set, take}
-use Rattle.rules.specs.Lists.{upTo, rises}
+use Rattle.rules.specs.Lists.{all, upTo, rises, member, occurrences}
 use Rattle.rules.specs.Table.{Table, polytope, elementCount, boundary}
 use Rattle.rules.specs.Walk.{oneRing}
 
@@ -40,28 +40,68 @@ rawEnds es (x ∷ xs) = firstEnd es x ∷ secondEnd es x ∷ rawEnds es xs
 unfoldable pub asEdges : List ℕ → Table
 asEdges es = record { dimension = 0; points = []; elements = map (λ x. polytope 1 (firstEnd es x ∷ secondEnd es x ∷ []) none false) (upTo 512); planes = [] }
 
--- test 7, as the memory has it
-abbrev pub closedRaw : List ℕ → ℕ → List ℕ → Bool
-closedRaw es zero b = true
-closedRaw es (suc zero) b = eqb (length b) 2
-closedRaw es (suc (suc zero)) b = oneRing (asEdges es) b
-closedRaw es (suc (suc (suc r))) b = true
+-- no two of the edges share both ends
+abbrev pub Untwinned : Table → List ℕ → Type 0
+Untwinned t es = (x y : ℕ) → member x es ≡ true → member y es ≡ true → boundary t x ≡ boundary t y → x ≡ y
+
+-- up to how many edges, in so many dimensions, it is enough to count how often each corner is met
+abbrev pub few : ℕ → ℕ
+few d = cond (ltb d 3) 3 5
+
+-- each corner met lies on exactly two of the edges, as the memory has them
+abbrev pub metTwice : List ℕ → List ℕ → Bool
+metTwice es b = all (λ v. eqb (occurrences v (rawEnds es b)) 2) (rawEnds es b)
+
+-- the edges make one ring, as the memory has them
+abbrev pub ringRaw : List ℕ → List ℕ → Bool
+ringRaw es b = oneRing (asEdges es) b
+
+-- test 7 in d dimensions, as the code makes it: few edges are counted
+abbrev pub closedRaw : ℕ → List ℕ → ℕ → List ℕ → Bool
+closedRaw d es zero b = true
+closedRaw d es (suc zero) b = eqb (length b) 2
+closedRaw d es (suc (suc zero)) b = cond (leb (length b) (few d)) (metTwice es b) (ringRaw es b)
+closedRaw d es (suc (suc (suc r))) b = true
 
 -- each is an edge in use with two ends, the lower first
 abbrev pub EachEdge : Table → List ℕ → Type 0
 EachEdge t [] = Unit {0}
 EachEdge t (x ∷ xs) = (x < elementCount t) × (length (boundary t x) ≡ 2) × (rises (boundary t x) ≡ true) × EachEdge t xs
 
--- and their numbers rise
+-- and their numbers rise, and from three dimensions on no two of them share both ends
 abbrev pub Edges : Table → List ℕ → Type 0
-Edges t xs = (rises xs ≡ true) × EachEdge t xs
+Edges t xs = (rises xs ≡ true) × EachEdge t xs × (2 < t .dimension → Untwinned t xs)
 
--- ---- the paths that the edges of a face make: a word for each corner
+-- ---- the corners of a face: a word for each
 
 -- no corner is met since the stamp was new
-pub record Unmet (s : ℕ) (paths : List ℕ) : Type 0 where
-  pub long : length paths ≡ 512
-  pub under : (v : ℕ) → v < 512 → getD paths v 0 < s
+pub record Unmet (s : ℕ) (words : List ℕ) : Type 0 where
+  pub long : length words ≡ 512
+  pub under : (v : ℕ) → v < 512 → getD words v 0 < s
+
+-- ---- few edges: how often each corner is met
+
+-- the word of a corner once it is met: the stamp the first time, and one more every later time
+abbrev pub metNext : ℕ → ℕ → ℕ
+metNext s m = cond (ltb m s) s (s + 1)
+
+-- the words once v is met
+unfoldable pub meeting : ℕ → List ℕ → ℕ → List ℕ
+meeting s met v = set met v (metNext s (getD met v 0))
+
+-- 1 where v is met for the second time
+abbrev pub isSecond : ℕ → List ℕ → ℕ → ℕ
+isSecond s met v = cond (eqb (getD met v 0) s) 1 0
+
+-- the words once both ends of edge e are met
+unfoldable pub bothMet : ℕ → List ℕ → List ℕ → ℕ → List ℕ
+bothMet s es met e = meeting s (meeting s met (firstEnd es e)) (secondEnd es e)
+
+-- how many of them for the second time
+unfoldable pub seconds : ℕ → List ℕ → List ℕ → ℕ → ℕ
+seconds s es met e = isSecond s met (firstEnd es e) + isSecond s (meeting s met (firstEnd es e)) (secondEnd es e)
+
+-- ---- more edges: the paths that they make
 
 -- a word is at most 512 above the stamp: below it the corner is not met, at 512 it is met twice, and else it ends a path whose other end is so far above
 pub record Stamped (s : ℕ) (paths : List ℕ) : Type 0 where

@@ -9,7 +9,7 @@ use borrow.Author.Needs.{needs}
 use Rattle.rules.specs.Limits.{desk}
 use Rattle.rules.proofs.Laws.{not-true, not-false}
 use Rattle.space.specs.Closed.{Stamped, Unmet, joining, joined}
-use Rattle.space.proofs.EndsMet.{Paths, paths-start, paths-few, paths-stamped}
+use Rattle.space.proofs.PathsJoined.{Paths, paths-start, paths-few, paths-stamped}
 use Rattle.soundness.specs.Words.{numbersFit, stampOf}
 use Rattle.soundness.proofs.BoundaryFits.{left, fits-start, fits-go, fits-no, fits-end}
 use Rattle.soundness.proofs.BoundaryLoops.{number-ends, number-low}

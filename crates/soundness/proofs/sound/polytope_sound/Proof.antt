@@ -17,7 +17,7 @@ edge-sound-requires c κs =
 returns : tie.Need-returns
 returns c =
     let a = c .before .before .before .before .args in (
-      c .edge-sound .ensures .0 ∙ ap (λ (r : ℕ). polytopeWords desk (a .elements .now) (a .e) r (take 36 (drop (a .e * 36) (a .elements .now)))) (sym (c .before .before .if1 .taken)),
+      c .edge-sound .ensures .0 (a .d) ∙ ap (λ (r : ℕ). polytopeWords desk (a .elements .now) (a .d) (a .e) r (take 36 (drop (a .e * 36) (a .elements .now)))) (sym (c .before .before .if1 .taken)),
       λ t. unmet-next (a .e) (a .met .now) (c .before .before .before .before .pre .3),
       c .edge-sound .ensures .1,
     )

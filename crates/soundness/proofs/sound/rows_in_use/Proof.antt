@@ -8,8 +8,8 @@ use Rattle.rules.specs.Limits.{desk}
 use Rattle.rules.proofs.Laws.{not-true, not-false}
 use Rattle.space.specs.Chains.{Indexed}
 use Rattle.space.specs.Closed.{Unmet}
-use Rattle.space.proofs.EndsMet.{unmet-new}
 use Rattle.space.proofs.Indexing.{index-count}
+use Rattle.space.proofs.Meetings.{unmet-new}
 use Rattle.soundness.specs.Words.{blank, Mask, stampOf, rowsInUse, EdgesLow}
 use Rattle.soundness.proofs.BoundaryLoops.{edges-none, edges-on}
 use Rattle.soundness.proofs.Distinct.{apart, apart-go, apart-no, apart-is}

@@ -14,25 +14,15 @@ use borrow.Author.Tests.{ltb-true, lt-ltb, le-ltb}
 use Rattle.rules.specs.Lists.{occurrences, all, any, member, rises}
 use Rattle.rules.specs.Table.{boundary}
 use Rattle.rules.specs.Walk.{endsOf}
-use Rattle.rules.specs.Promises.{HangTogether, Ring}
+use Rattle.rules.specs.Rings.{HangTogether, Ring}
 use Rattle.rules.proofs.FaceEdges.{Two, two, of-all, met-end}
 use Rattle.rules.proofs.Laws.{eq-test, test-eq, not-eq, unlike-eq, test-le, and-true, and-left, and-right, or-case, or-left, or-right, eqb-self, refute}
 use Rattle.rules.proofs.Reach.{some-at, at-some}
 use Rattle.rules.proofs.RingWalked.{rule-ring, ring-rule}
-use Rattle.space.specs.Closed.{EndsLow, Unmet, Stamped, firstEnd, secondEnd, rawEnds, asEdges, closedRaw, farEnd, joinCode, joinWords, joining, joined}
+use Rattle.space.specs.Closed.{EndsLow, Unmet, Stamped, firstEnd, secondEnd, rawEnds, farEnd, joinCode, joinWords, joining, joined}
 use Rattle.space.proofs.Sums.{sumTo, sum-change, sum-zeros, zeros-sum}
-use Rattle.space.proofs.TwiceMet.{times-cons, boundary-as}
+use Rattle.space.proofs.Meetings.{times-cons, bit, ends-on, spare, spare-none, spares, more-is, spares-more}
 use Rattle.space.proofs.Webs.{Same, yes, no, same?, OneOf, this, that, Web, web-none, more, linking, hanging, far-once, met-once, join, x-once, y-once, no-fewer, at-a, at-b, at-other, at-x, at-y, elsewhere, root-along, both-rooted, x-y, y-a}
-
--- a test as a number
-pub bit : {b c : Bool} → b ≡ c → _≡_ {A = ℕ} (cond b 1 0) (cond c 1 0)
-bit e = ap (λ (b : Bool). cond b 1 0) e
-
--- the ends from edge k on
-pub ends-on : (es b : List ℕ) (k : ℕ) → k < length b → rawEnds es (drop k b) ≡ firstEnd es (getD b k 0) ∷ secondEnd es (getD b k 0) ∷ rawEnds es (drop (k + 1) b)
-unfolding rawEnds
-ends-on es b k h =
-    ap (rawEnds es) (drop-cons b k 0 h) ∙ ap (λ (j : ℕ). firstEnd es (getD b k 0) ∷ secondEnd es (getD b k 0) ∷ rawEnds es (drop j b)) (sym (add-one k))
 
 -- ---- the word of a corner
 
@@ -41,32 +31,6 @@ abbrev pub Word : ℕ → ℕ → ℕ → ℕ → Type 0
 Word s zero f m = m < s
 Word s (suc zero) f m = m ≡ s + f
 Word s (suc (suc c)) f m = m ≡ s + 512
-
--- how many of c meetings are neither the first nor the second of two
-abbrev pub spare : ℕ → ℕ
-spare zero = 0
-spare (suc zero) = 1
-spare (suc (suc c)) = c
-
-pub spare-none : (c : ℕ) → spare c ≡ 0 → 0 < c → c ≡ 2
-spare-none zero e h = absurd (omega arith)
-spare-none (suc zero) e h = absurd (omega arith)
-spare-none (suc (suc c)) e h = ap (λ (x : ℕ). suc (suc x)) e
-
--- the meetings that make up no two, over the room
-unfoldable pub spares : (ℕ → ℕ) → ℕ
-spares c = sumTo 512 (λ v. spare (c v))
-
-more-is : (b : Bool) (n : ℕ) → cond b (suc n) n ≡ cond b 1 0 + n
-more-is true n = let q : suc n ≡ 1 + n = omega arith in q
-more-is false n = sym (zero-add n)
-
-spares-more : (c : ℕ → ℕ) (a : ℕ) → a < 512 → spares c + spare (suc (c a)) ≡ spares (more a c) + spare (c a)
-unfolding spares
-spares-more c a h =
-    let e : spare (more a c a) ≡ spare (suc (c a)) = ap (λ (b : Bool). spare (cond b (suc (c a)) (c a))) (test-eq a a refl) in
-    let s = sum-change 512 a (λ v. spare (c v)) (λ v. spare (more a c v)) h (λ w u. sym (ap (λ (b : Bool). spare (cond b (suc (c w)) (c w))) (not-eq w a u))) in
-    ap (λ (x : ℕ). sumTo 512 (λ v. spare (c v)) + x) (sym e) ∙ s
 
 -- ---- k edges have joined paths
 
@@ -98,12 +62,6 @@ paths-start es edges s paths U = record {
   whole = λ v. sym (zero-add (occurrences v (rawEnds es edges)));
   rooted = λ j l. absurd (let w : ⊥ = omega (arith, l) in w);
   colour = λ T h v. refl;
-}
-
-pub unmet-new : Unmet 1 (replicate 512 0)
-unmet-new = record {
-  long = length-replicate {A = ℕ} 512 0;
-  under = λ v h. let e = getD-replicate {A = ℕ} 512 v 0 0 h in (let q : getD (replicate 512 0) v 0 < 1 = omega (arith, e) in q);
 }
 
 module _ (es edges : List ℕ) (s : ℕ) (paths : List ℕ) (twice k : ℕ) (P : Paths es edges s paths twice k) where

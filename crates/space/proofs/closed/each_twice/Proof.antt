@@ -1,0 +1,94 @@
+-- The ends that are met so far and those that are left make up the whole; n second meetings mean that each end is met twice.
+use Prim.Native.Nat.{_-_, _<_, _≤_}
+use mathlib.Core.Path.{ap, sym, _∙_}
+use lib.Dec.{eqb}
+use lib.ListN.{take, replicate}
+use native.Mathlib.Omega.{arith}
+use borrow.Author.Needs.{needs}
+use Rattle.space.proofs.TwiceMet.{edges-long, edges-fine, edge-at, edge-low, ends-low}
+use Rattle.space.proofs.EndsCounted.{Round, round-start, round-met, round-few, round-end}
+use Rattle.space.proofs.Meetings.{unmet-new}
+use Rattle.space.proofs.closed.each_twice.Statement.{statement}
+use Rattle.space.proofs.closed.each_twice.Tie as tie
+
+abbrev Inv-loop : tie.InvT-loop
+Inv-loop elements list n met₀ twice₀ k₀ met twice k = (k ≤ n) × Round elements (take n list) 1 met twice k
+
+abbrev μ-loop : tie.MeasureT-loop
+μ-loop elements list n met₀ twice₀ k₀ met twice k = n - k
+
+loop-holds : tie.Need-loop-holds Inv-loop μ-loop
+loop-holds c =
+    let a = c .before .before .args in
+    (search needs, round-start (a .elements .now) (take (a .n) (a .list .now)) 1 (replicate 512 0) unmet-new)
+
+mul-wide : tie.Need-mul-wide Inv-loop μ-loop
+mul-wide c = search needs
+
+shared-slice-read-wide : tie.Need-shared-slice-read-wide Inv-loop μ-loop
+shared-slice-read-wide c = search needs
+
+wide-requires : tie.Need-wide-requires Inv-loop μ-loop
+wide-requires c κs = search needs
+
+meet-ends-requires : tie.Need-meet-ends-requires Inv-loop μ-loop
+meet-ends-requires c κs =
+    let a = c .before .before .before .before .before .before .before .args in
+    let p = c .before .before .before .before .before .before .before .pre in
+    let k = c .before .before .before .before .loop .k in
+    let h : k < a .n = search needs in
+    let e = c .before .wide .ensures .0 in
+    (p .0, edge-low (a .list .now) (a .n) (p .1) k _ h e (p .3), ends-low (a .list .now) (a .n) (p .1) k _ h e (a .elements .now) (p .4), search needs)
+
+add-twice : tie.Need-add-twice Inv-loop μ-loop
+add-twice c =
+    let a = c .before .before .before .before .before .before .before .before .args in
+    let at = c .before .before .before .before .before .loop in
+    let f = round-few (a .elements .now) (take (a .n) (a .list .now)) 1 (at .met) (at .twice) (at .k) (at .inv .1) in
+    search needs
+
+add-k : tie.Need-add-k Inv-loop μ-loop
+add-k c = search needs
+
+loop-less : tie.Need-loop-less Inv-loop μ-loop
+loop-less c = search needs
+
+loop-again : tie.Need-loop-again Inv-loop μ-loop
+loop-again c =
+    let a = c .before .before .before .before .before .before .before .before .args in
+    let p = c .before .before .before .before .before .before .before .before .pre in
+    let at = c .before .before .before .before .before .loop in
+    let h : at .k < a .n = search needs in
+    let e = c .before .before .wide .ensures .0 in
+    let l = edges-long (a .list .now) (a .n) (p .1) in (
+      search needs,
+      round-met (a .elements .now) (take (a .n) (a .list .now)) 1 (at .met) _ (at .twice) (at .k) (c .before .before .wide .result) _ (at .inv .1) (omega (arith, l, h))
+          (edge-at (a .list .now) (a .n) (p .1) (at .k) _ h e)
+          (ends-low (a .list .now) (a .n) (p .1) (at .k) _ h e (a .elements .now) (p .4))
+          (c .meet-ends .ensures .0) (c .meet-ends .ensures .1),
+    )
+
+returns : tie.Need-returns Inv-loop μ-loop
+returns c =
+    let a = c .before .before .before .before .args in
+    let p = c .before .before .before .before .pre in
+    let at = c .before .loop in
+    let l = edges-long (a .list .now) (a .n) (p .1) in
+    ap (eqb (at .twice)) (sym l) ∙ round-end (a .elements .now) (take (a .n) (a .list .now)) 1 (at .met) (at .twice) (at .k) (at .inv .1) (omega (arith, l)) (λ j q. edges-fine (a .list .now) (a .n) (p .1) (a .elements .now) (p .3) (p .4) j q .1)
+
+pub each-twice-spec : {M : Type 1} → statement M
+each-twice-spec =
+    tie.close
+    (tie.spec
+    Inv-loop
+    μ-loop
+    loop-holds
+    mul-wide
+    shared-slice-read-wide
+    wide-requires
+    meet-ends-requires
+    add-twice
+    add-k
+    loop-less
+    loop-again
+    returns)
