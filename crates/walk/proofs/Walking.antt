@@ -1,4 +1,4 @@
--- The walk over the memory's words is the rules' walk over the table, step by step: each edge has the same ends in both.
+-- The walk over the memory's words meets the corners of the rules' walk over the table, step by step: each edge has the same ends in both.
 use Prim.Native.Nat.{ℕ, zero, suc, _≤_}
 use mathlib.Core.Path.{_≡_, refl, sym, ap, ap₂, _∙_}
 use mathlib.Core.Bool.{Bool, true, false, not, _&&_, _||_}
@@ -13,7 +13,7 @@ use Rattle.rules.specs.Walk.{edgesAt, otherEnd, otherEdge, walk, firstEdge}
 use Rattle.rules.specs.Questions.{pairs}
 use Rattle.rules.proofs.Laws.{if-true, if-false, either, and-left, and-right, le-test, not-eq, eqb-self}
 use Rattle.rules.proofs.VertexSet.{keep-rises}
-use Rattle.walk.specs.Walks.{lowEnd, highEnd, hasEnd, endAcross, edgeBeside, noEdge, firstWay, stepsFrom, cornersOf, numbersFrom}
+use Rattle.walk.specs.Walks.{lowEnd, highEnd, hasEnd, endAcross, edgeBeside, noEdge, firstWay, cornersFrom, numbersFrom}
 use Rattle.walk.proofs.EdgeLoops.{found-fits}
 use Rattle.walk.proofs.Faces.{CornerAt, Met, EdgeAt}
 
@@ -49,6 +49,15 @@ second-is (y ∷ ys) h =
     above (z ∷ zs) k =
         let l = le-test (suc y) z (and-left (ltb y z) (all (ltb y) zs) k) in
         (ap not (not-eq z y (λ e. let b : ⊥ = omega (arith, e, l) in b)), above zs (and-right (ltb y z) (all (ltb y) zs) k))
+
+-- ---- the corners that the rules' steps lead to
+
+abbrev pub cornersOf : List (ℕ × ℕ) → List ℕ
+cornersOf ss = map (λ (s : ℕ × ℕ). s .1) ss
+
+stopped : (b : Bool) (ss : List (ℕ × ℕ)) (ws : List ℕ) → cornersOf ss ≡ ws → cornersOf (if b then [] else ss) ≡ (if b then [] else ws)
+stopped true ss ws h = refl
+stopped false ss ws h = h
 
 -- ---- the edges at a corner
 
@@ -117,27 +126,28 @@ module _ (t : Table) (es : List ℕ) where
 
       -- ---- the walk
 
-      pub walk-is : (n start v e : ℕ) → Met t es e → walk n t xs start v e ≡ stepsFrom n es xs start v e
-      unfolding walk stepsFrom
+      pub walk-is : (n start v e : ℕ) → Met t es e → cornersOf (walk n t xs start v e) ≡ cornersFrom n es xs start v e
+      unfolding walk cornersFrom
       walk-is zero start v e M = refl
       walk-is (suc n) start v e M =
-          ap (λ (w : ℕ). on w (walk n t xs start w (otherEdge t w e xs))) (across-is v e M)
-          ∙ ap (λ (x : ℕ). on (endAcross es v e) (walk n t xs start (endAcross es v e) x)) (beside-is (endAcross es v e) e)
-          ∙ ap (on (endAcross es v e)) (walk-is n start (endAcross es v e) (edgeBeside es e (endAcross es v e) xs) (beside-met (endAcross es v e) e))
+          let w = endAcross es v e in
+          ap (λ (y : ℕ). on y (walk n t xs start y (otherEdge t y e xs))) (across-is v e M)
+          ∙ ap (λ (x : ℕ). on w (walk n t xs start w x)) (beside-is w e)
+          ∙ ap (λ (l : List ℕ). w ∷ l) (stopped (eqb w start) _ _ (walk-is n start w (edgeBeside es e w xs) (beside-met w e)))
         where
-          on : ℕ → List (ℕ × ℕ) → List (ℕ × ℕ)
-          on w rest = (e, w) ∷ (if eqb w start then [] else rest)
+          on : ℕ → List (ℕ × ℕ) → List ℕ
+          on w rest = cornersOf ((e, w) ∷ (if eqb w start then [] else rest))
 
       across-corner : (v e : ℕ) → Met t es e → CornerAt t es (endAcross es v e)
       across-corner v e M = either (CornerAt t es) (eqb (lowEnd es e) v) (highEnd es e) (lowEnd es e) (M .high) (M .low)
 
-      pub walk-corners : (n start v e : ℕ) → Met t es e → AllOf (CornerAt t es) (cornersOf (stepsFrom n es xs start v e))
-      unfolding stepsFrom
+      pub walk-corners : (n start v e : ℕ) → Met t es e → AllOf (CornerAt t es) (cornersFrom n es xs start v e)
+      unfolding cornersFrom
       walk-corners zero start v e M = tt
       walk-corners (suc n) start v e M =
           let w = endAcross es v e in
-          let rest = stepsFrom n es xs start w (edgeBeside es e w xs) in
-          (across-corner v e M, either (λ (l : List (ℕ × ℕ)). AllOf (CornerAt t es) (cornersOf l)) (eqb w start) [] rest tt (walk-corners n start w (edgeBeside es e w xs) (beside-met w e)))
+          let rest = cornersFrom n es xs start w (edgeBeside es e w xs) in
+          (across-corner v e M, either (AllOf (CornerAt t es)) (eqb w start) [] rest tt (walk-corners n start w (edgeBeside es e w xs) (beside-met w e)))
 
   -- ---- as vertex numbers
 

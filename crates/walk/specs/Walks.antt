@@ -2,13 +2,11 @@
 use Prim.Native.Nat.{ℕ, zero, suc, _+_, _*_, _≤_, _<_}
 use mathlib.Core.Path.{_≡_}
 use mathlib.Core.Bool.{Bool, not, _&&_, _||_}
-use mathlib.Core.List.{List, [], _∷_, map}
+use mathlib.Core.List.{List, [], _∷_}
 use lib.Dec.{ltb, eqb}
 use lib.ListN.{length, getD, take}
 use Rattle.rules.specs.Lists.{if_then_else_, keep}
 use Rattle.rules.specs.Held.{AllOf}
-use Rattle.rules.specs.Walk.{eachOnce}
-use Rattle.rules.specs.Questions.{Asked, no-answer, answer}
 use Rattle.space.specs.Closed.{Low}
 use Rattle.walk.specs.Boundaries.{rowBoundary, BoundaryFits}
 use Rattle.walk.specs.declared.Steps.{Steps}
@@ -55,27 +53,23 @@ firstWay es v xs = lowerWay es v (edgeBeside es noEdge v xs) (edgeBeside es (edg
 
 -- ---- the walk
 
--- each edge taken, and the corner that it leads to
-unfoldable pub stepsFrom : ℕ → List ℕ → List ℕ → ℕ → ℕ → ℕ → List (ℕ × ℕ)
-stepsFrom zero es xs start v e = []
-stepsFrom (suc n) es xs start v e =
+-- the corners met from v by the edge e, until the corner start is met again; at most n of them
+unfoldable pub cornersFrom : ℕ → List ℕ → List ℕ → ℕ → ℕ → ℕ → List ℕ
+cornersFrom zero es xs start v e = []
+cornersFrom (suc n) es xs start v e =
     let w = endAcross es v e in
-    let rest = stepsFrom n es xs start w (edgeBeside es e w xs) in
-    (e, w) ∷ (if eqb w start then [] else rest)
+    let rest = cornersFrom n es xs start w (edgeBeside es e w xs) in
+    w ∷ (if eqb w start then [] else rest)
 
-abbrev pub edgesOf : List (ℕ × ℕ) → List ℕ
-edgesOf ss = map (λ (s : ℕ × ℕ). s .0) ss
+-- those of the whole walk
+unfoldable pub cornersAround : List ℕ → List ℕ → List ℕ
+cornersAround es xs = cornersFrom (length xs) es xs (lowestEnd es noEdge xs) (lowestEnd es noEdge xs) (firstWay es (lowestEnd es noEdge xs) xs)
 
-abbrev pub cornersOf : List (ℕ × ℕ) → List ℕ
-cornersOf ss = map (λ (s : ℕ × ℕ). s .1) ss
-
--- the code holds these steps
-pub record Walked (ss : List (ℕ × ℕ)) (r : Steps) : Type 0 where
-  pub roomOfEdges : length (r .edges) ≡ 32
-  pub roomOfCorners : length (r .corners) ≡ 32
+-- the code holds these corners
+pub record Walked (ws : List ℕ) (r : Steps) : Type 0 where
+  pub long : length (r .corners) ≡ 32
   pub fit : r .n ≤ 32
-  pub edges : take (r .n) (r .edges) ≡ edgesOf ss
-  pub corners : take (r .n) (r .corners) ≡ cornersOf ss
+  pub corners : take (r .n) (r .corners) ≡ ws
   pub low : Low (r .corners) (r .n)
 
 -- ---- the reply
@@ -85,15 +79,8 @@ abbrev pub numbersFrom : List ℕ → ℕ → List ℕ → List ℕ
 numbersFrom es v [] = []
 numbersFrom es v (w ∷ ws) = getD es (v * 36 + 4) 0 ∷ getD es (w * 36 + 4) 0 ∷ numbersFrom es w ws
 
--- 7 unless the walk takes every edge once
-abbrev pub inOrder : List ℕ → List ℕ → ℕ → List (ℕ × ℕ) → Asked (List ℕ)
-inOrder es xs start ss = if eachOnce xs ss then answer (numbersFrom es start (cornersOf ss)) else no-answer 7
-
-unfoldable pub stepsOf : List ℕ → List ℕ → List (ℕ × ℕ)
-stepsOf es xs = stepsFrom (length xs) es xs (lowestEnd es noEdge xs) (lowestEnd es noEdge xs) (firstWay es (lowestEnd es noEdge xs) xs)
-
-unfoldable pub wordsInOrder : List ℕ → ℕ → Asked (List ℕ)
-wordsInOrder es f = inOrder es (rowBoundary es f) (lowestEnd es noEdge (rowBoundary es f)) (stepsOf es (rowBoundary es f))
+unfoldable pub wordsInOrder : List ℕ → ℕ → List ℕ
+wordsInOrder es f = numbersFrom es (lowestEnd es noEdge (rowBoundary es f)) (cornersAround es (rowBoundary es f))
 
 -- ---- what the walk needs
 
