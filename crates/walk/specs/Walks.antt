@@ -1,15 +1,12 @@
--- The walk round a face over the words of the lent memory: the rules' own, with the ends of an edge read from its row. Definitions only.
-use Prim.Native.Nat.{ℕ, zero, suc, _+_, _*_, _≤_, _<_}
-use mathlib.Core.Path.{_≡_}
+-- The walk round a face over the words of the lent memory: the rules' own for a face that is one ring, with the ends of an edge read from its row. Definitions only.
+use Prim.Native.Nat.{ℕ, zero, suc, _+_, _*_, _<_}
 use mathlib.Core.Bool.{Bool, not, _&&_, _||_}
 use mathlib.Core.List.{List, [], _∷_}
 use lib.Dec.{ltb, eqb}
-use lib.ListN.{length, getD, take}
+use lib.ListN.{length, getD}
 use Rattle.rules.specs.Lists.{if_then_else_, keep}
 use Rattle.rules.specs.Held.{AllOf}
-use Rattle.space.specs.Closed.{Low}
 use Rattle.walk.specs.Boundaries.{rowBoundary, BoundaryFits}
-use Rattle.walk.specs.declared.Steps.{Steps}
 
 -- ---- an edge's two ends
 
@@ -53,34 +50,16 @@ firstWay es v xs = lowerWay es v (edgeBeside es noEdge v xs) (edgeBeside es (edg
 
 -- ---- the walk
 
--- the corners met from v by the edge e, until the corner start is met again; at most n of them
-unfoldable pub cornersFrom : ℕ → List ℕ → List ℕ → ℕ → ℕ → ℕ → List ℕ
-cornersFrom zero es xs start v e = []
-cornersFrom (suc n) es xs start v e =
+-- from v by the edge e, n steps: two vertex numbers for each
+unfoldable pub numbersFrom : ℕ → List ℕ → List ℕ → ℕ → ℕ → List ℕ
+numbersFrom zero es xs v e = []
+numbersFrom (suc n) es xs v e =
     let w = endAcross es v e in
-    let rest = cornersFrom n es xs start w (edgeBeside es e w xs) in
-    w ∷ (if eqb w start then [] else rest)
+    getD es (v * 36 + 4) 0 ∷ getD es (w * 36 + 4) 0 ∷ numbersFrom n es xs w (edgeBeside es e w xs)
 
--- those of the whole walk
-unfoldable pub cornersAround : List ℕ → List ℕ → List ℕ
-cornersAround es xs = cornersFrom (length xs) es xs (lowestEnd es noEdge xs) (lowestEnd es noEdge xs) (firstWay es (lowestEnd es noEdge xs) xs)
-
--- the code holds these corners
-pub record Walked (ws : List ℕ) (r : Steps) : Type 0 where
-  pub long : length (r .corners) ≡ 32
-  pub fit : r .n ≤ 32
-  pub corners : take (r .n) (r .corners) ≡ ws
-  pub low : Low (r .corners) (r .n)
-
--- ---- the reply
-
--- the walk from the corner v to those that follow, as two vertex numbers for each edge
-abbrev pub numbersFrom : List ℕ → ℕ → List ℕ → List ℕ
-numbersFrom es v [] = []
-numbersFrom es v (w ∷ ws) = getD es (v * 36 + 4) 0 ∷ getD es (w * 36 + 4) 0 ∷ numbersFrom es w ws
-
-unfoldable pub wordsInOrder : List ℕ → ℕ → List ℕ
-wordsInOrder es f = numbersFrom es (lowestEnd es noEdge (rowBoundary es f)) (cornersAround es (rowBoundary es f))
+-- as many steps as there are edges: they lead round a ring, and no further
+unfoldable pub wordsInOrder : List ℕ → List ℕ → List ℕ
+wordsInOrder es xs = numbersFrom (length xs) es xs (lowestEnd es noEdge xs) (firstWay es (lowestEnd es noEdge xs) xs)
 
 -- ---- what the walk needs
 
