@@ -11,3 +11,4 @@ pub mod renumbering;
 pub mod seeded;
 pub mod session;
 pub mod strange;
+pub mod taken_apart;

@@ -5,6 +5,7 @@ use crate::model::memory::{self, Lent, Memory};
 use crate::model::table::Table;
 use crate::random::Random;
 use crate::strange;
+use crate::taken_apart;
 
 /// What a memory was made as.
 #[derive(Clone, Copy, Debug, PartialEq, Eq)]
@@ -39,7 +40,7 @@ pub fn memory(r: &mut Random, kind: Kind) -> Memory {
         Kind::OtherLengths => other_lengths(r),
         Kind::Session => cube(r),
         Kind::Strange => memory::write(&strange::table(r)),
-        Kind::TakenApart => memory::write(&strange::taken_apart(r)),
+        Kind::TakenApart => memory::write(&taken_apart::any(r)),
         Kind::Broken => memory::write(&strange::broken(r)),
     }
 }

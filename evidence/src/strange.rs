@@ -3,7 +3,7 @@
 //! one entry keeps from being sound.
 
 use crate::dividers;
-use crate::model::floats::{Hyperplane, Point, TOLERANCE};
+use crate::model::floats::{Hyperplane, Point};
 use crate::model::table::{Element, Polytope, Table, BOUNDARY_ROOM, ELEMENT_ROOM, HYPERPLANE_ROOM, VERTEX_ROOM};
 use crate::random::Random;
 use std::f64::consts::TAU;
@@ -24,7 +24,7 @@ pub fn table(r: &mut Random) -> Table {
     table
 }
 
-fn empty(dimension: usize) -> Table {
+pub(crate) fn empty(dimension: usize) -> Table {
     Table { dimension, vertices: vec![], hyperplanes: vec![], elements: vec![] }
 }
 
@@ -46,40 +46,7 @@ fn spike(r: &mut Random) -> Table {
     table
 }
 
-/// A solid of faces that the last hyperplane takes apart, most of them into a side that is refused: what is met first, the
-/// one side or another face, depends on the sides kept.
-pub fn taken_apart(r: &mut Random) -> Table {
-    let mut table = empty(3);
-    add_hyperplanes(r, &mut table, 6);
-    table.hyperplanes.push(Hyperplane { normal: [0.6, 0.8, 0.0, 0.0], distance: 0.0 });
-    let faces = [0.0, 100.0, 200.0, 300.0].map(|along| {
-        let ring: Vec<Point> = ring_taken_apart(r).into_iter().map(|[s, t]| beside_the_last(s, t + along)).collect();
-        let edges = add_ring(r, &mut table, &ring);
-        add(r, &mut table, 2, edges)
-    });
-    add(r, &mut table, 3, faces.into_iter().flatten().collect());
-    table
-}
-
-/// At a signed distance from the last hyperplane, and so far along it.
-fn beside_the_last(s: f64, along: f64) -> Point {
-    [0.6 * s - 0.8 * along, 0.8 * s + 0.6 * along, 0.0, 0.0]
-}
-
-/// Signed distances and places along: one corner on a side, which leaves 33 edges on the other; a corner that the first
-/// crossing matches, so that its side is not closed; four crossings; a triangle. From either side.
-fn ring_taken_apart(r: &mut Random) -> Vec<[f64; 2]> {
-    let side = r.pick(&[1.0, -1.0]);
-    let ring = match r.below(4) {
-        0 => (0..32).map(|place| [if place == 0 { -1.0 } else { 1.0 }, place.into()]).collect(),
-        1 => vec![[-1.0, 0.0], [1.0, 0.0], [1.25 * TOLERANCE, 0.0], [1.0, 2.0]],
-        2 => vec![[-1.0, 0.0], [1.0, 0.0], [-1.0, 4.0], [1.0, 6.0]],
-        _ => vec![[-1.0, 0.0], [1.0, 0.0], [1.0, 2.0]],
-    };
-    ring.into_iter().map(|[s, along]| [side * s, along]).collect()
-}
-
-fn add_hyperplanes(r: &mut Random, table: &mut Table, count: usize) {
+pub(crate) fn add_hyperplanes(r: &mut Random, table: &mut Table, count: usize) {
     while table.hyperplanes.len() < count {
         let hyperplane = dividers::hyperplane(r, table);
         table.hyperplanes.push(hyperplane);
@@ -116,7 +83,7 @@ fn add_round_ring(r: &mut Random, table: &mut Table, size: usize) -> Vec<u16> {
 }
 
 /// New corners and the edges from each to the next; a ring of two has two edges only where facts tell them apart.
-fn add_ring(r: &mut Random, table: &mut Table, points: &[Point]) -> Vec<u16> {
+pub(crate) fn add_ring(r: &mut Random, table: &mut Table, points: &[Point]) -> Vec<u16> {
     let corners: Vec<u16> = points.iter().map(|point| add_corner(table, point)).collect();
     let ends = (0..corners.len()).map(|place| vec![corners[place], corners[(place + 1) % corners.len()]]);
     ends.filter_map(|ends| add(r, table, 1, ends)).collect()
@@ -151,7 +118,7 @@ fn add_some_of(r: &mut Random, table: &mut Table, rank: usize, below: &[u16]) ->
 }
 
 /// The number of a new element, or none where an equal one is there or the boundary is too small.
-fn add(r: &mut Random, table: &mut Table, rank: usize, mut boundary: Vec<u16>) -> Option<u16> {
+pub(crate) fn add(r: &mut Random, table: &mut Table, rank: usize, mut boundary: Vec<u16>) -> Option<u16> {
     boundary.sort_unstable();
     let is_facet = rank + 1 == table.dimension;
     let hyperplane = is_facet.then(|| r.below(table.hyperplanes.len()) as u16);
@@ -184,10 +151,15 @@ pub fn crowded(r: &mut Random, table: &Table) -> Table {
     let mut table = table.clone();
     if table.elements.len() <= ELEMENT_ROOM / 2 {
         let [vertices, elements] = [r.pick(&[8, VERTEX_ROOM]), 24].map(|most| r.below(most));
-        add_corners(r, &mut table, VERTEX_ROOM - vertices);
-        add_edges(r, &mut table, ELEMENT_ROOM - elements);
+        fill(r, &mut table, vertices, elements);
     }
     table
+}
+
+/// Leaves room for so many vertices, if there was so much, and elements.
+pub fn fill(r: &mut Random, table: &mut Table, vertices: usize, elements: usize) {
+    add_corners(r, table, VERTEX_ROOM - vertices);
+    add_edges(r, table, ELEMENT_ROOM - elements);
 }
 
 fn add_corners(r: &mut Random, table: &mut Table, count: usize) {
