@@ -16,9 +16,8 @@ use Rattle.rules.specs.Promises.{Reaches, itself, lower, border, Bordered}
 use Rattle.rules.proofs.Borders.{sound-bordered}
 use Rattle.rules.proofs.Good.{above-zero, sound-good}
 use Rattle.rules.proofs.Growing.{all-get}
-use Rattle.rules.proofs.Laws.{or-case, or-left, or-right, eq-test, test-le, le-test, not-le, and-true, refute, eqb-self, unlike-eq}
+use Rattle.rules.proofs.Laws.{or-case, or-left, or-right, eq-test, test-le, le-test, not-le, and-true, refute, eqb-self, unlike-eq, both-ways}
 use Rattle.rules.proofs.Reach.{some-at, is-below}
-use Rattle.space.proofs.SameRows.{bool-both}
 use Rattle.space.proofs.Room.{elements-size, sizeOf, listOf, rank-word, size-word, list-word}
 use Rattle.elements.specs.Marks.{isMarked, marking, markingAll, NoneMarked, DownTo, members}
 use Rattle.elements.specs.Below.{Lent, Used, boundaryWord, boundaryWords, BoundaryReady, Passed, Onward, Below}
@@ -248,7 +247,7 @@ going-end es root y ws z g = record {
   of = λ t lent u x.
       let P = subst (λ (k : ℕ). Going es k y ws) (let q : root + 1 - 1 ≡ root = omega arith in q) g .of t lent u in
       let i = is-below desk t (lent .sound) root x u in
-      bool-both (isMarked ws x) (isBelow t root x) (λ h. i .1 (P .reached x h))
+      both-ways (isMarked ws x) (isBelow t root x) (λ h. i .1 (P .reached x h))
       (λ h. all-reached ws (λ v n m l. P .closed v n (omega (arith, z)) m l) (i .0 h) (P .top));
 }
 

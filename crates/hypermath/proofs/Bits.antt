@@ -11,7 +11,7 @@ use lib.Ieee.Compare.{differs-from-itself, nan-differs}
 use lib.Ieee.Fits.{down-pos}
 use lib.Ieee.Scale.{round-same}
 use Rattle.rules.specs.Floats.{plusZero, tolerance, within, sameBits, matches}
-use Rattle.rules.proofs.Laws.{truly, falsely, eq-test, eqb-self, refute}
+use Rattle.rules.proofs.Laws.{truly, falsely, eq-test, eqb-self, refute, both-ways}
 use Rattle.rules.proofs.Selves.{bits-self, same-float}
 
 -- only a NaN differs from itself
@@ -50,16 +50,10 @@ nan-second a b h k = go a b (sym (differs a) ∙ h) (sym (differs b) ∙ k)
     go (fin s m c) (inf t) e f = absurd (false≢true f)
     go (fin s m c) (fin t n d) e f = absurd (false≢true f)
 
--- two tests that hold together
-same-test : (a b : Bool) → (a ≡ true → b ≡ true) → (b ≡ true → a ≡ true) → a ≡ b
-same-test true b f g = sym (f refl)
-same-test false true f g = g refl
-same-test false false f g = refl
-
 -- neither is: the bits are equal exactly where the values are
 pub bits-tell : (a b : Float) → fits binary64 a ≡ true → fits binary64 b ≡ true → eqb (toBits binary64 a) (toBits binary64 b) ≡ sameBits a b
 bits-tell a b f g =
-    same-test (eqb (toBits binary64 a) (toBits binary64 b)) (sameBits a b)
+    both-ways (eqb (toBits binary64 a) (toBits binary64 b)) (sameBits a b)
     (λ h. subst (λ (y : Float). sameBits a y ≡ true)
     (sym (ofBits-toBits binary64 a (truly _ f)) ∙ ap (ofBits binary64) (eq-test (toBits binary64 a) (toBits binary64 b) h) ∙ ofBits-toBits binary64 b (truly _ g)) (bits-self a))
     (λ h. subst (λ (y : Float). eqb (toBits binary64 a) (toBits binary64 y) ≡ true) (same-float a b h) (eqb-self (toBits binary64 a)))

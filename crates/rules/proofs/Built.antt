@@ -60,7 +60,7 @@ after-trans : {A : Type 0} {a b : Table} (o : Outcome A) → Built a b → After
 after-trans (refused n) p q = q
 after-trans (done x t) p q = built-trans p q
 
-after-next : {A B : Type 0} (t : Table) (o : Outcome A) (f : A → Step B) → After t o → ((a : A) → Builds (f a)) → After t (next o f)
+pub after-next : {A B : Type 0} (t : Table) (o : Outcome A) (f : A → Step B) → After t o → ((a : A) → Builds (f a)) → After t (next o f)
 after-next t (refused n) f h g = h
 after-next t (done a t′) f h g = after-trans (f a t′) h (g a t′)
 
@@ -70,11 +70,11 @@ share-element : (L : Limits) (e : Element) (o : Option ℕ) → Builds (shareEle
 share-element L e (some i) t = unchanged
 share-element L e none t = either (After t) (ltb (elementCount t) (L .elements)) _ _ (element-more t e unchanged) tt
 
-add-element : (L : Limits) (e : Element) → Builds (addElement L e)
+pub add-element : (L : Limits) (e : Element) → Builds (addElement L e)
 unfolding addElement
 add-element L e t = share-element L e (find (sameElement e) (t .elements)) t
 
-add-polytope : (L : Limits) (r : ℕ) (b : List ℕ) (h : Option ℕ) (m : Bool) → Builds (addPolytope L r b h m)
+pub add-polytope : (L : Limits) (r : ℕ) (b : List ℕ) (h : Option ℕ) (m : Bool) → Builds (addPolytope L r b h m)
 unfolding addPolytope
 add-polytope L r b h m t =
     either (After t) (leb (length b) r) _ _ unchanged
@@ -82,7 +82,7 @@ add-polytope L r b h m t =
     (either (After t) (not (closed t r b)) _ _ tt
     (after-next t (addElement L (polytope r b h m) t) _ (add-element L (polytope r b h m) t) (λ i t′. unchanged))))
 
-add-vertex : (L : Limits) (p : List Float) → Builds (addVertex L p)
+pub add-vertex : (L : Limits) (p : List Float) → Builds (addVertex L p)
 unfolding addVertex
 add-vertex L p t = go (find (λ q. pointMatches q p) (t .points)) refl
   where
@@ -97,7 +97,7 @@ share-plane : (L : Limits) (h : Plane) (o : Option ℕ) → Builds (sharePlane L
 share-plane L h (some n) t = unchanged
 share-plane L h none t = either (After t) (ltb (length (t .planes)) (L .hyperplanes)) _ _ (plane-more t h unchanged) tt
 
-add-plane : (L : Limits) (h : Plane) → Builds (addPlane L h)
+pub add-plane : (L : Limits) (h : Plane) → Builds (addPlane L h)
 unfolding addPlane
 add-plane L h t =
     let P = primordials (t .dimension) in share-plane L h (findFrom P (λ g. planeMatches g h) (drop P (t .planes))) t
@@ -105,17 +105,17 @@ add-plane L h t =
 -- ---- rules 4 to 7
 
 module _ (L : Limits) (c : Cutting) where
-  side-builds : (kept : Bool) (e : Element) (x : ElementOrNone) (s : List ℕ) → Builds (sideOfCut L kept e x s)
+  pub side-builds : (kept : Bool) (e : Element) (x : ElementOrNone) (s : List ℕ) → Builds (sideOfCut L kept e x s)
   side-builds false e x s t = unchanged
   side-builds true e x s t = add-polytope L (rankOf e) (including x s) (planeOf e) (isPrimordial e) t
 
-  rule7-builds : (e : Element) (g : Gathered) (x : ElementOrNone) → Builds (rule7 L c e g x)
+  pub rule7-builds : (e : Element) (g : Gathered) (x : ElementOrNone) → Builds (rule7 L c e g x)
   unfolding rule7
   rule7-builds e g x t =
       after-next t (sideOfCut L (c .keepInside) e x (g .inside) t) _ (side-builds (c .keepInside) e x (g .inside) t) (λ i t₁.
       after-next t₁ (sideOfCut L (c .keepOutside) e x (g .outside) t₁) _ (side-builds (c .keepOutside) e x (g .outside) t₁) (λ o t₂. unchanged))
 
-  rule6-builds : (e : Element) (g : Gathered) (fs : List ℕ) → Builds (rule6 L c e g fs)
+  pub rule6-builds : (e : Element) (g : Gathered) (fs : List ℕ) → Builds (rule6 L c e g fs)
   unfolding rule6
   rule6-builds e g [] t =
       after-next t (newIntersection L c (rankOf e) (g .intersections) t) _
@@ -123,12 +123,12 @@ module _ (L : Limits) (c : Cutting) where
   rule6-builds e g (f ∷ []) t = rule7-builds e g (given f) t
   rule6-builds e g (f ∷ f′ ∷ fs) t = unchanged
 
-  cross-edge : (p q : List Float) (x : Crossing) (g : Gathered) → Builds (crossEdge L p q x g)
+  pub cross-edge : (p q : List Float) (x : Crossing) (g : Gathered) → Builds (crossEdge L p q x g)
   cross-edge p q NoCrossing g t = unchanged
   cross-edge p q (At s) g t =
       after-next t (addVertex L (crossingPoint s p q) t) _ (add-vertex L (crossingPoint s p q) t) (λ v t′. unchanged)
 
-  cut-edge : (e : Element) → Builds (cutEdge L c e)
+  pub cut-edge : (e : Element) → Builds (cutEdge L c e)
   unfolding cutEdge cutEnds
   cut-edge e t =
       let a = getD (boundaryOf e) 0 0 in
@@ -137,11 +137,11 @@ module _ (L : Limits) (c : Cutting) where
       (cross-edge (pointAt t a) (pointAt t b) (edgeTest (distanceOf c (pointAt t a)) (distanceOf c (pointAt t b))) _ t)
       (λ g. rule6-builds e g (g .flush))
 
-  cut-boundary : (ask : ℕ → Step ElementCutOutput) → ((b : ℕ) → Builds (ask b)) → (bs : List ℕ) (g : Gathered) → Builds (cutBoundary ask bs g)
+  pub cut-boundary : (ask : ℕ → Step ElementCutOutput) → ((b : ℕ) → Builds (ask b)) → (bs : List ℕ) (g : Gathered) → Builds (cutBoundary ask bs g)
   cut-boundary ask h [] g t = unchanged
   cut-boundary ask h (b ∷ bs) g t = after-next t (ask b t) _ (h b t) (λ a. cut-boundary ask h bs (gathering b a g))
 
-  cut-element : (r e : ℕ) → Builds (cutElement L c r e)
+  pub cut-element : (r e : ℕ) → Builds (cutElement L c r e)
   unfolding cutElement cutCorner cutHigher
   cut-element zero e t = unchanged
   cut-element (suc zero) e t = cut-edge (element t e) t

@@ -34,7 +34,7 @@ use Rattle.rules.proofs.RoundTrip.{memory-back}
 -- ---- hypotheses as the repeat has them
 
 -- a number above 0 is one more than another
-one-more : (n : ℕ) → 0 < n → (k : ℕ) × (n ≡ suc k)
+pub one-more : (n : ℕ) → 0 < n → (k : ℕ) × (n ≡ suc k)
 one-more zero l = absurd (lt-irrefl 0 l)
 one-more (suc k) l = (k, refl)
 

@@ -16,15 +16,10 @@ use Rattle.rules.specs.Questions.{reaches, isBelow, subElements, withRan
 use Rattle.rules.specs.Promises.{border, Reaches, itself, lower, LeastSet, vertexBelow, isCommon, Greatest}
 use Rattle.rules.proofs.Borders.{sound-bordered}
 use Rattle.rules.proofs.Corners.{any-up}
-use Rattle.rules.proofs.Laws.{and-left, and-right, and-true, or-case, or-left, or-right, le-test, not-le, eq-test, test-eq, eqb-self}
+use Rattle.rules.proofs.Laws.{both-ways, and-left, and-right, and-true, or-case, or-left, or-right, le-test, not-le, eq-test, test-eq, eqb-self}
 use Rattle.rules.proofs.Reach.{some-at, at-some, reached, is-below, no-boundary}
 
 -- ---- members
-
-both-ways : (a b : Bool) → (a ≡ true → b ≡ true) → (b ≡ true → a ≡ true) → a ≡ b
-both-ways true b f g = sym (f refl)
-both-ways false true f g = absurd (false≢true (g refl))
-both-ways false false f g = refl
 
 pub member-kept : (p : ℕ → Bool) (xs : List ℕ) (x : ℕ) → member x (keep p xs) ≡ true → (member x xs ≡ true) × (p x ≡ true)
 member-kept p [] x h = absurd (false≢true h)

@@ -41,7 +41,7 @@ module _ {A : Type 0} (p : A → A → Bool) (self : (x : A) → p x x ≡ true)
   none-at (x ∷ xs) zero d y l h = or-false (p x y) (any (λ z. p z y) xs) h .0
   none-at (x ∷ xs) (suc i) d y l h = none-at xs i d y (le-of-suc-le-suc l) (or-false (p x y) (any (λ z. p z y) xs) h .1)
 
-  find-own : (n i : ℕ) (xs : List A) (d : A) → i < length xs → distinct p xs ≡ true → findFrom n (p (getD xs i d)) xs ≡ some (n + i)
+  pub find-own : (n i : ℕ) (xs : List A) (d : A) → i < length xs → distinct p xs ≡ true → findFrom n (p (getD xs i d)) xs ≡ some (n + i)
   find-own n i [] d l h = absurd (not-suc-le-zero l)
   find-own n zero (x ∷ xs) d l h = if-true (p x x) (some n) _ (self x) ∙ ap {B = Option ℕ} some (sym (add-zero n))
   find-own n (suc i) (x ∷ xs) d l h =

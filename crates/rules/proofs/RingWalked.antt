@@ -70,7 +70,7 @@ kept-length p (x ∷ xs) = go (p x) (kept-length p xs)
     go true l = suc-le-suc l
     go false l = le-trans l (le-of-lt (le-refl (suc (length xs))))
 
-all-of : (p : ℕ → Bool) (xs : List ℕ) → ((x : ℕ) → member x xs ≡ true → p x ≡ true) → all p xs ≡ true
+pub all-of : (p : ℕ → Bool) (xs : List ℕ) → ((x : ℕ) → member x xs ≡ true → p x ≡ true) → all p xs ≡ true
 all-of p [] h = refl
 all-of p (x ∷ xs) h = and-true (p x) (all p xs) (h x (or-left (eqb x x) (member x xs) (eqb-self x))) (all-of p xs (λ y m. h y (or-right (eqb y x) (member y xs) m)))
 

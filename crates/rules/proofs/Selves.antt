@@ -90,3 +90,20 @@ same-floats [] (y ∷ ys) h = absurd (false≢true h)
 same-floats (x ∷ xs) [] h = absurd (false≢true h)
 same-floats (x ∷ xs) (y ∷ ys) h =
     ap₂ (λ (z : Float) (zs : List Float). z ∷ zs) (same-float x y (and-left (sameBits x y) (alike sameBits xs ys) h)) (same-floats xs ys (and-right (sameBits x y) (alike sameBits xs ys) h))
+
+same-plane : (h k : Option ℕ) → samePlane h k ≡ true → h ≡ k
+same-plane none none e = refl
+same-plane none (some k) e = absurd (false≢true e)
+same-plane (some h) none e = absurd (false≢true e)
+same-plane (some h) (some k) e = ap {B = Option ℕ} some (eq-test h k e)
+
+pub same-element : (y z : Element) → sameElement y z ≡ true → y ≡ z
+unfolding sameElement
+same-element (corner v) (corner w) k = ap corner (eq-test v w k)
+same-element (corner v) (polytope q c j n) k = absurd (false≢true k)
+same-element (polytope r b h m) (corner w) k = absurd (false≢true k)
+same-element (polytope r b h m) (polytope q c j n) k =
+    let k₃ = and-left (eqb r q && samePlane h j && Bool·beq m n) (alike eqb b c) k in
+    let k₂ = and-left (eqb r q && samePlane h j) (Bool·beq m n) k₃ in
+    λ i. polytope (eq-test r q (and-left (eqb r q) (samePlane h j) k₂) i) (alike-eq b c (and-right (eqb r q && samePlane h j && Bool·beq m n) (alike eqb b c) k) i)
+    (same-plane h j (and-right (eqb r q) (samePlane h j) k₂) i) (beq-same m n (and-right (eqb r q && samePlane h j) (Bool·beq m n) k₃) i)

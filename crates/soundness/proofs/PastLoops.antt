@@ -12,9 +12,8 @@ use lib.ListN.{length, getD, take, drop, set, replicate, getD-replicate, length-
 use lib.Seq.{getD-set-same, getD-set-other, getD-take, getD-drop, length-take-le}
 use borrow.Author.Tests.{lt-ltb, le-ltb, ltb-true, ltb-false}
 use Rattle.rules.proofs.Growing.{all-get}
-use Rattle.rules.proofs.Laws.{eq-test, test-eq, unlike-eq, and-left, and-right}
+use Rattle.rules.proofs.Laws.{eq-test, test-eq, unlike-eq, and-left, and-right, both-ways}
 use Rattle.space.proofs.NoBits.{no-bits}
-use Rattle.space.proofs.SameRows.{bool-both}
 use Rattle.soundness.specs.Words.{blank}
 
 -- ---- the mask, made up to entry k
@@ -110,7 +109,7 @@ module _ (es : List ℕ) (at n : ℕ) (seen₀ : List ℕ) where
     after k h = ap (λ (b : Bool). cond b 0 (getD es (at + 4 + k) 0)) (le-ltb (32 - n + k) 32 (let z : 32 ≤ 32 - n + k = omega (arith, h, few) in z))
 
     pub joining-end : (seen : List ℕ) (j : ℕ) → Joining es at n seen₀ seen j → 32 ≤ j → blank seen ≡ (blank seen₀ && blank rest)
-    joining-end seen j J h = bool-both (blank seen) (blank seen₀ && blank rest) down up
+    joining-end seen j J h = both-ways (blank seen) (blank seen₀ && blank rest) down up
       where
         none : (k : ℕ) → blank seen ≡ true → k < 32 → (eqb (getD seen₀ k 0) 0 && eqb (pastWord es at n k) 0) ≡ true
         none k b l =

@@ -15,11 +15,10 @@ use Rattle.rules.specs.Lists.{rows, if_then_else_, all, allFrom, occurrences, r
 use Rattle.rules.specs.Memory.{readElement, planeNamed}
 use Rattle.rules.specs.Sound.{endsOf, closed, soundBoundary, soundFacet, namesPlane, namesNone, soundElement}
 use Rattle.rules.specs.Table.{rank, rankOf, Element, corner, polytope, boundary, boundaryOf, element, Table}
-use Rattle.rules.proofs.Laws.{eq-test, and-left, and-right, not-eq, test-le}
+use Rattle.rules.proofs.Laws.{eq-test, and-left, and-right, not-eq, test-le, both-ways}
 use Rattle.space.specs.Closed.{rawEnds, closedRaw}
 use Rattle.soundness.specs.Words.{boundaryIn, boundaryWords, facetWords, elementSound, elementsSound}
 use Rattle.soundness.proofs.ReadBack.{rows-length, and-when}
-use Rattle.space.proofs.SameRows.{bool-both}
 use borrow.Author.Tests.{ltb-true, le-ltb}
 
 -- ---- an entry of a table read from rows
@@ -217,6 +216,6 @@ module _ (t : Table) (es : List ℕ) (n : ℕ) (long : length es ≡ 18432) (fit
 
   pub elements-same : allFrom 0 (soundElement t) (t .elements) ≡ elementsSound desk (t .dimension) n h es
   elements-same =
-      bool-both (allFrom 0 (soundElement t) (t .elements)) (elementsSound desk (t .dimension) n h es)
+      both-ways (allFrom 0 (soundElement t) (t .elements)) (elementsSound desk (t .dimension) n h es)
       (λ a. sym (elements-when (table-two a)) ∙ a)
       (λ b. elements-when (words-two b) ∙ b)

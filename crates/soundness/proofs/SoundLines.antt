@@ -17,12 +17,11 @@ use Rattle.rules.specs.Lists.{rows, alike, pad, joined, all, if_then_else_, kee
 use Rattle.rules.specs.Memory.{planeWidth, planeRow, readPlane, readElement, planeNamed, planeNumber, elementWidth, elementRow}
 use Rattle.rules.specs.Sound.{soundPoint, soundPlane}
 use Rattle.rules.specs.Table.{corner, vertexOf, isCorner, Element, polytope, sameElement}
-use Rattle.rules.proofs.Laws.{test-eq, not-eq, eq-test, eqb-self, le-test, and-left, and-right}
-use Rattle.rules.proofs.Selves.{bits-self, eq-alike, alike-eq, element-self}
+use Rattle.rules.proofs.Laws.{test-eq, not-eq, eq-test, eqb-self, le-test, and-left, and-right, both-ways}
+use Rattle.rules.proofs.Selves.{bits-self, eq-alike, alike-eq, element-self, same-element}
 use Rattle.soundness.specs.Words.{pointWords, blankFloats, blank, pointsSound, planeWords, planesSound, inOrder, recordWords, recordsSound}
 use Rattle.space.proofs.Laid.{length-padded}
 use Rattle.soundness.proofs.ReadBack.{laid-alike, all-and, all-same, rows-wide, and-swap, alike-front, map-map, all-map, alike-split, and-one, and-zero, alike-fill, and-assoc}
-use Rattle.space.proofs.SameRows.{bool-both, same-equal}
 use borrow.Author.Tests.{lt-leb, leb-false}
 
 -- the round trip of rows with a test of each
@@ -131,8 +130,8 @@ Own L (r ∷ rs) = (elementWords L (readElement r) ≡ r) × Own L rs
 module _ (L : Limits) where
   same-rows : (r s : List ℕ) → elementWords L (readElement r) ≡ r → elementWords L (readElement s) ≡ s → sameElement (readElement r) (readElement s) ≡ alike eqb r s
   same-rows r s p q =
-      bool-both (sameElement (readElement r) (readElement s)) (alike eqb r s)
-      (λ h. subst (λ (y : List ℕ). alike eqb r y ≡ true) (sym p ∙ ap (elementWords L) (same-equal (readElement r) (readElement s) h) ∙ q) (eq-alike r))
+      both-ways (sameElement (readElement r) (readElement s)) (alike eqb r s)
+      (λ h. subst (λ (y : List ℕ). alike eqb r y ≡ true) (sym p ∙ ap (elementWords L) (same-element (readElement r) (readElement s) h) ∙ q) (eq-alike r))
       (λ h. subst (λ (y : List ℕ). sameElement (readElement r) (readElement y) ≡ true) (alike-eq r s h) (element-self (readElement r)))
 
   any-same : (r : List ℕ) (rs : List (List ℕ)) → elementWords L (readElement r) ≡ r → Own L rs → any (λ y. sameElement y (readElement r)) (map readElement rs) ≡ any (λ y. alike eqb y r) rs

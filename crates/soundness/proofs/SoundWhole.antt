@@ -15,10 +15,9 @@ use Rattle.rules.specs.Lists.{alike, all, rows, if_then_else_, pad, joined, all
 use Rattle.rules.specs.Memory.{readElement, planeNamed, Memory, readPlane, soundMemory, rightSize, sameMemory, encode, decode, planeRow}
 use Rattle.rules.specs.Sound.{roomFits, sound, cornersInOrder, soundPoint, soundPlane, soundElement}
 use Rattle.rules.specs.Table.{boundaryOf, Element, corner, polytope, Plane, Table, primordials, sameElement, vertexOf, isCorner}
-use Rattle.rules.proofs.Laws.{and-left, and-right, and-true, eqb-self, test-eq, test-le, le-test}
+use Rattle.rules.proofs.Laws.{and-left, and-right, and-true, eqb-self, test-eq, test-le, le-test, both-ways}
 use Rattle.soundness.specs.Words.{countsFit, wordsSound, cornersSound, rowsDistinct, recordsSound, pointsSound, planesSound, elementsSound, recordWords, blank}
 use Rattle.soundness.proofs.ReadBack.{rows-length, and-one, rows-wide}
-use Rattle.space.proofs.SameRows.{bool-both}
 use Rattle.space.proofs.Sizes.{size-known}
 use Rattle.soundness.proofs.SoundElements.{elements-same}
 use Rattle.soundness.proofs.SoundLines.{points-same, planes-same, records-same, order-same, distinct-same, records-own}
@@ -29,7 +28,7 @@ both : (S A1 A2 A3 A4 F B2 B3 B4 B5 B6 B7 C P H E O R D : Bool)
     → B5 ≡ O → (S ≡ true → C ≡ true → B6 ≡ R) → (S ≡ true → C ≡ true → E ≡ true → B7 ≡ D)
     → ((S && (((A1 && A2) && A3) && A4)) && ((((((F && B2) && B3) && B4) && B5) && B6) && B7)) ≡ (((((((S && C) && P) && H) && E) && O) && R) && D)
 both S A1 A2 A3 A4 F B2 B3 B4 B5 B6 B7 C P H E O R D a1 c p h e o r dd =
-    bool-both _ _
+    both-ways _ _
     (λ k.
     let x = and-left (S && (((A1 && A2) && A3) && A4)) ((((((F && B2) && B3) && B4) && B5) && B6) && B7) k in
     let y = and-right (S && (((A1 && A2) && A3) && A4)) ((((((F && B2) && B3) && B4) && B5) && B6) && B7) k in

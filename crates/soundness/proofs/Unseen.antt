@@ -9,12 +9,11 @@ use lib.Dec.{eqb}
 use lib.ListN.{length, getD, take, drop}
 use Rattle.rules.specs.Lists.{all}
 use Rattle.rules.proofs.Indexed.{all-front-no, all-front-go, all-front-end}
-use Rattle.rules.proofs.Laws.{eq-test, test-eq}
+use Rattle.rules.proofs.Laws.{eq-test, test-eq, both-ways}
 use Rattle.space.proofs.NoBits.{no-bits}
-use Rattle.space.proofs.SameRows.{bool-both}
 
 pub eq-turned : (x y : ℕ) → eqb x y ≡ eqb y x
-eq-turned x y = bool-both (eqb x y) (eqb y x) (λ h. test-eq y x (sym (eq-test x y h))) (λ h. test-eq x y (sym (eq-test y x h)))
+eq-turned x y = both-ways (eqb x y) (eqb y x) (λ h. test-eq y x (sym (eq-test x y h))) (λ h. test-eq x y (sym (eq-test y x h)))
 
 module _ {A : Type 0} (p : A → Bool) (z : A) (n : ℕ) (l : List A) (fit : n ≤ length l) where
   step : {b : Bool} (clear passed : Bool) (i : ℕ) → b ≡ (clear && all p (drop i (take n l))) → i < n → p (getD l i z) ≡ passed

@@ -1,6 +1,6 @@
 -- Two rows are alike, word by word, exactly where their elements are equal; so the search for an equal row is the search for an equal element.
 use Prim.Native.Nat.{_-_, ℕ, suc, _*_}
-use mathlib.Core.Bool.{true, false≢true, false, Bool, Bool·beq, _&&_}
+use mathlib.Core.Bool.{true, Bool}
 use mathlib.Core.List.{map, List, [], _∷_}
 use mathlib.Core.Option.{Option, none, some}
 use mathlib.Core.Path.{_≡_, refl, ap, sym, subst, _∙_, ap₂}
@@ -10,47 +10,18 @@ use Rattle.rules.specs.Held.{fitting, elementWords, Fits, elementsOf}
 use Rattle.rules.specs.Limits.{Limits, Readable}
 use Rattle.rules.specs.Lists.{alike, find, all, findFrom, if_then_else_, rows, joined}
 use Rattle.rules.specs.Memory.{readElement, elementWidth}
-use Rattle.rules.specs.Table.{samePlane, Element, sameElement, corner, polytope, Table, elementCount}
-use Rattle.rules.proofs.Laws.{eq-test, and-left, and-right}
+use Rattle.rules.specs.Table.{Element, sameElement, Table, elementCount}
+use Rattle.rules.proofs.Laws.{and-left, and-right, both-ways}
 use Rattle.rules.proofs.RoundTrip.{element-back}
 use Rattle.rules.proofs.Rows.{rows-back}
-use Rattle.rules.proofs.Selves.{alike-eq, element-self, eq-alike}
-
-same-plane : (h k : Option ℕ) → samePlane h k ≡ true → h ≡ k
-same-plane none none q = refl
-same-plane none (some k) q = absurd (false≢true q)
-same-plane (some h) none q = absurd (false≢true q)
-same-plane (some h) (some k) q = ap some (eq-test h k q)
-
-same-mark : (m n : Bool) → Bool·beq m n ≡ true → m ≡ n
-same-mark true true q = refl
-same-mark true false q = absurd (false≢true q)
-same-mark false true q = absurd (false≢true q)
-same-mark false false q = refl
-
-pub same-equal : (e x : Element) → sameElement e x ≡ true → e ≡ x
-unfolding sameElement
-same-equal (corner v) (corner w) q = ap corner (eq-test v w q)
-same-equal (corner v) (polytope r b h m) q = absurd (false≢true q)
-same-equal (polytope r b h m) (corner w) q = absurd (false≢true q)
-same-equal (polytope r b h m) (polytope s c k n) q =
-    let q₂ = and-left (eqb r s && samePlane h k && Bool·beq m n) (alike eqb b c) q in
-    let q₁ = and-left (eqb r s && samePlane h k) (Bool·beq m n) q₂ in
-    λ i. polytope (eq-test r s (and-left (eqb r s) (samePlane h k) q₁) i) (alike-eq b c (and-right (eqb r s && samePlane h k && Bool·beq m n) (alike eqb b c) q) i)
-    (same-plane h k (and-right (eqb r s) (samePlane h k) q₁) i) (same-mark m n (and-right (eqb r s && samePlane h k) (Bool·beq m n) q₂) i)
-
--- two tests that imply each other
-pub bool-both : (a b : Bool) → (a ≡ true → b ≡ true) → (b ≡ true → a ≡ true) → a ≡ b
-bool-both true b p q = sym (p refl)
-bool-both false true p q = q refl
-bool-both false false p q = refl
+use Rattle.rules.proofs.Selves.{alike-eq, element-self, eq-alike, same-element}
 
 module _ (L : Limits) (U : Readable L) where
   pub words-same : (e x : Element) → fitting L e ≡ true → fitting L x ≡ true → alike eqb (elementWords L e) (elementWords L x) ≡ sameElement e x
   words-same e x p q =
-      bool-both (alike eqb (elementWords L e) (elementWords L x)) (sameElement e x)
+      both-ways (alike eqb (elementWords L e) (elementWords L x)) (sameElement e x)
       (λ h. (subst (λ (y : Element). sameElement e y ≡ true) (sym (element-back L U e p) ∙ ap readElement (alike-eq (elementWords L e) (elementWords L x) h) ∙ element-back L U x q) (element-self e)))
-      (λ h. (subst (λ (y : Element). alike eqb (elementWords L e) (elementWords L y) ≡ true) (same-equal e x h) (eq-alike (elementWords L e))))
+      (λ h. (subst (λ (y : Element). alike eqb (elementWords L e) (elementWords L y) ≡ true) (same-element e x h) (eq-alike (elementWords L e))))
 
   find-map : (e : Element) (n : ℕ) (xs : List Element) → fitting L e ≡ true → all (fitting L) xs ≡ true → findFrom n (alike eqb (elementWords L e)) (map (elementWords L) xs) ≡ findFrom n (sameElement e) xs
   find-map e n [] p q = refl

@@ -1,0 +1,13 @@
+pub mod Backwards
+pub mod ClosedIn
+pub mod Contains
+pub mod ContainsCut
+pub mod Crossings
+pub mod EachInOther
+pub mod Embeds
+pub mod Images
+pub mod LeftAsIs
+pub mod Promises
+pub mod SideBySide
+pub mod TwoCarvings
+pub mod TwoCarvingsReplies

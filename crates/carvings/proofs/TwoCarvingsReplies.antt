@@ -1,0 +1,197 @@
+-- One slice is two carvings, at the public replies: the table in memory after each call is the one that the cut left.
+use Prim.Native.Nat.{ℕ, _<_}
+use mathlib.Core.Bool.{Bool, true, false, false≢true}
+use mathlib.Core.List.{List, [], _∷_}
+use mathlib.Core.Path.{_≡_, refl, ap, sym, _∙_, subst}
+use native.Mathlib.Nat.{le-trans}
+use lib.ListN.{length}
+use Rattle.rules.specs.Limits.{Limits, Readable}
+use Rattle.rules.specs.Lists.{member}
+use Rattle.rules.specs.Table.{Plane, Table, elementCount, rank}
+use Rattle.rules.specs.Sound.{sound}
+use Rattle.rules.specs.Memory.{Memory, encode, decode}
+use Rattle.rules.specs.Cut.{done, cut}
+use Rattle.rules.specs.Replies.{cutNumber, cutReply, dividerFits, dividerOf, written}
+use Rattle.rules.specs.Promises.{Finite, Passes}
+use Rattle.carvings.specs.Promises.{Sliceable, SliceRepliesAsTwoCarvings, SliceDoneAsCarvings}
+use Rattle.carvings.specs.Renumbered.{Renumbering, Corresponds}
+use Rattle.rules.specs.declared.CutReply.{CutReply}
+use Rattle.rules.specs.declared.CutReply.the-variants.{Refused, Answered}
+use Rattle.rules.specs.declared.Hyperplane.{Hyperplane}
+use Rattle.rules.specs.declared.ElementCutOutput.{ElementCutOutput}
+use Rattle.rules.proofs.Built.{built-extends}
+use Rattle.rules.proofs.Calls.{not-infinite}
+use Rattle.carvings.proofs.Crossings.{Points}
+use Rattle.carvings.proofs.Embeds.{done-table}
+use Rattle.rules.proofs.Extends.{count-more}
+use Rattle.rules.proofs.Good.{Good}
+use Rattle.rules.proofs.Laws.{le-test}
+use Rattle.rules.proofs.OneCall.{Did, it, good-before, memory-built, memory-sound, memory-table, divider-sound, passed, sound-table}
+use Rattle.rules.proofs.Refusals.{cut-numbers}
+use Rattle.carvings.proofs.TwoCarvings.{slice-is-two-carvings, slice-taken-as-carvings}
+
+module _ (L : Limits) (t u : Table) where
+  same-counts : u .dimension ≡ t .dimension → elementCount u ≡ elementCount t → u .points ≡ t .points → u .planes ≡ t .planes → encode L u .counts ≡ encode L t .counts
+  unfolding encode
+  same-counts d e p q = λ k. d k ∷ e k ∷ length (p k) ∷ length (q k) ∷ []
+
+  same-points : u .points ≡ t .points → encode L u .points ≡ encode L t .points
+  unfolding encode
+  same-points p = ap (λ (ps : Points). encode L (record { dimension = 0; points = ps; elements = []; planes = [] }) .points) p
+
+  same-planes : u .planes ≡ t .planes → encode L u .planes ≡ encode L t .planes
+  unfolding encode
+  same-planes q = ap (λ (hs : List Plane). encode L (record { dimension = 0; points = []; elements = []; planes = hs }) .planes) q
+
+module _ (L : Limits) (R : Readable L) where
+  -- a memory on which a cut with this divider and root is past the fixed refusals
+  sliceable : (h : Hyperplane) (root : ℕ) (m : Memory) → Finite (h .distance) → 0 < rank (decode L m) root → Passes L h root m → Good L (decode L m)
+      → Sliceable L (dividerOf (decode L m .dimension) h) root (decode L m)
+  sliceable h root m finite ranked p good = record {
+    is-sound = sound-table L m (p .sound);
+    divider = divider-sound L (decode L m .dimension) h (le-test (decode L m .dimension) (L .dimensions) (good .high)) (p .fits) (not-infinite (h .distance) finite);
+    finite = finite;
+    in-use = p .used;
+    no-corner = ranked;
+  }
+
+  pub slice-replies-as-two-carvings : SliceRepliesAsTwoCarvings L
+  slice-replies-as-two-carvings h root m slice first second a a₁ a₂ finite ranked e e₁ e₂ = (
+    ap (λ (x : Memory). x .counts) (W .writes) ∙ same-counts L s w (rn .dimension) (rn .count) (rn .points) (rn .planes) ∙ sym (ap (λ (x : Memory). x .counts) (S .writes)),
+    ap (λ (x : Memory). x .points) (W .writes) ∙ same-points L s w (rn .points) ∙ sym (ap (λ (x : Memory). x .points) (S .writes)),
+    ap (λ (x : Memory). x .planes) (W .writes) ∙ same-planes L s w (rn .planes) ∙ sym (ap (λ (x : Memory). x .planes) (S .writes)),
+    found .0,
+    subst (λ (x : Table). Renumbering (elementCount t) x (decode L second) (found .0)) (sym (memory-table L R h true true root m a slice e))
+        (subst (λ (x : Table). Renumbering (elementCount t) s x (found .0)) (sym (memory-table L R h false true root first a₂ second e₂)) rn),
+    found .2,
+  )
+    where
+      S : Did L h true true root m a slice
+      S = it L R h true true root m a slice e
+
+      U : Did L h true false root m a₁ first
+      U = it L R h true false root m a₁ first e₁
+
+      W : Did L h false true root first a₂ second
+      W = it L R h false true root first a₂ second e₂
+
+      t : Table
+      t = decode L m
+
+      s : Table
+      s = S .table-after
+
+      w : Table
+      w = W .table-after
+
+      good : Good L t
+      good = good-before L R h true true root m a slice e
+
+      -- the second carving, on the table that the first one left
+      after-first : cut L (dividerOf (decode L m .dimension) h) false true root (U .table-after) ≡ done a₂ w
+      after-first =
+          subst (λ (x : Table). cut L (dividerOf (decode L m .dimension) h) false true root x ≡ done a₂ w) (memory-table L R h true false root m a₁ first e₁)
+          (subst (λ (d : ℕ). cut L (dividerOf d h) false true root (decode L first) ≡ done a₂ w) (built-extends (memory-built L R h true false root m a₁ first e₁) .dimension) (W .cuts))
+
+      found : (f : ℕ → ℕ) × Renumbering (elementCount (decode L m)) s w f × Corresponds f a a₁ a₂
+      found =
+          slice-is-two-carvings L (dividerOf (decode L m .dimension) h) root (decode L m) s (U .table-after) w a a₁ a₂
+          (sliceable h root m finite ranked (S .passes) good) (S .cuts) (U .cuts) after-first
+
+      rn : Renumbering (elementCount (decode L m)) s w (found .0)
+      rn = found .1
+
+  -- a reply whose number is 0 is an answer
+  answered : (h : Hyperplane) (i o : Bool) (root : ℕ) (m : Memory) → cutNumber (cutReply L h i o root m .0) ≡ 0 → (a : ElementCutOutput) × (cutReply L h i o root m ≡ (Answered a, cutReply L h i o root m .1))
+  answered h i o root m = go (cutReply L h i o root m .0) (cutReply L h i o root m .1) refl
+    where
+      go : (r : CutReply) (m′ : Memory) → cutReply L h i o root m ≡ (r, m′) → cutNumber r ≡ 0 → (a : ElementCutOutput) × (cutReply L h i o root m ≡ (Answered a, m′))
+      go (Refused n) m′ e z =
+          absurd (false≢true (subst (λ (k : ℕ). member k (3 ∷ 4 ∷ 5 ∷ 7 ∷ 8 ∷ 9 ∷ 10 ∷ 11 ∷ []) ≡ true) z (cut-numbers L h i o root m n (ap (λ (x : CutReply × Memory). x .0) e))))
+      go (Answered a) m′ e z = (a, e)
+
+  module _ (h : Hyperplane) (root : ℕ) (m : Memory) (finite : Finite (h .distance)) (ranked : 0 < rank (decode L m) root) where
+    abbrev divider : Plane
+    divider = dividerOf (decode L m .dimension) h
+
+    -- what the tables promise, of a memory on which some cut was done
+    taken : (i o : Bool) (a : ElementCutOutput) (m′ : Memory) → cutReply L h i o root m ≡ (Answered a, m′)
+        → ((b : ElementCutOutput) (slice : Table) → cut L divider true true root (decode L m) ≡ done b slice
+        → (a₁ : ElementCutOutput) × (first : Table) × (a₂ : ElementCutOutput) × (second : Table)
+        × (cut L divider true false root (decode L m) ≡ done a₁ first) × (cut L divider false true root first ≡ done a₂ second))
+        × ((a₁ a₂ : ElementCutOutput) (first second : Table) → cut L divider true false root (decode L m) ≡ done a₁ first → cut L divider false true root first ≡ done a₂ second
+        → (b : ElementCutOutput) × (slice : Table) × (cut L divider true true root (decode L m) ≡ done b slice))
+    taken i o a m′ e =
+        slice-taken-as-carvings L divider root (decode L m) (sliceable h root m finite ranked (it L R h i o root m a m′ e .passes) (good-before L R h i o root m a m′ e))
+
+    -- a cut that is done on the table of such a memory
+    cut-done : (p : Passes L h root m) (i o : Bool) (b : ElementCutOutput) (u : Table) → cut L divider i o root (decode L m) ≡ done b u → cutReply L h i o root m ≡ (Answered b, encode L u)
+    cut-done p i o b u q = passed L h i o root m p ∙ ap (written L m) q
+
+    -- the second cut, on the memory of the first one
+    module _ (i o : Bool) (a : ElementCutOutput) (m′ : Memory) (e : cutReply L h i o root m ≡ (Answered a, m′)) where
+      on-after : (i′ o′ : Bool) → cut L (dividerOf (decode L m′ .dimension) h) i′ o′ root (decode L m′) ≡ cut L divider i′ o′ root (it L R h i o root m a m′ e .table-after)
+      on-after i′ o′ =
+          ap (λ (d : ℕ). cut L (dividerOf d h) i′ o′ root (decode L m′)) (built-extends (memory-built L R h i o root m a m′ e) .dimension)
+          ∙ ap (cut L divider i′ o′ root) (memory-table L R h i o root m a m′ e)
+
+      passes-after : Passes L h root m′
+      passes-after =
+          let x = built-extends (memory-built L R h i o root m a m′ e) in
+          let p = it L R h i o root m a m′ e .passes in
+          record {
+            sound = memory-sound L R h i o root m a m′ e;
+            used = le-trans (p .used) (count-more x);
+            fits = subst (λ (d : ℕ). dividerFits L d h ≡ true) (sym (x .dimension)) (p .fits);
+          }
+
+    -- the carvings' replies, where their cuts are done
+    module _ (p : Passes L h root m) (a₁ a₂ : ElementCutOutput) (U W : Table) (q₁ : cut L divider true false root (decode L m) ≡ done a₁ U) (q₂ : cut L divider false true root U ≡ done a₂ W) where
+      first-reply : cutReply L h true false root m ≡ (Answered a₁, encode L U)
+      first-reply = cut-done p true false a₁ U q₁
+
+      left-U : it L R h true false root m a₁ (encode L U) first-reply .table-after ≡ U
+      left-U = done-table (sym (it L R h true false root m a₁ (encode L U) first-reply .cuts) ∙ q₁)
+
+      second-reply : cutReply L h false true root (encode L U) ≡ (Answered a₂, encode L W)
+      second-reply =
+          passed L h false true root (encode L U) (passes-after true false a₁ (encode L U) first-reply)
+          ∙ ap (written L (encode L U)) (on-after true false a₁ (encode L U) first-reply false true ∙ ap (cut L divider false true root) left-U ∙ q₂)
+
+      both-done : (cutNumber (cutReply L h true false root m .0) ≡ 0) × (cutNumber (cutReply L h false true root (cutReply L h true false root m .1) .0) ≡ 0)
+      both-done = (
+        ap (λ (x : CutReply × Memory). cutNumber (x .0)) first-reply,
+        ap (λ (x : CutReply × Memory). cutNumber (cutReply L h false true root (x .1) .0)) first-reply ∙ ap (λ (x : CutReply × Memory). cutNumber (x .0)) second-reply,
+      )
+
+    slice-first : cutNumber (cutReply L h true true root m .0) ≡ 0
+        → (cutNumber (cutReply L h true false root m .0) ≡ 0) × (cutNumber (cutReply L h false true root (cutReply L h true false root m .1) .0) ≡ 0)
+    slice-first z = let e = answered h true true root m z in go (e .0) (cutReply L h true true root m .1) (e .1)
+      where
+        go : (a : ElementCutOutput) (m′ : Memory) → cutReply L h true true root m ≡ (Answered a, m′)
+            → (cutNumber (cutReply L h true false root m .0) ≡ 0) × (cutNumber (cutReply L h false true root (cutReply L h true false root m .1) .0) ≡ 0)
+        go a m′ e =
+            let d = it L R h true true root m a m′ e in
+            let w = taken true true a m′ e .0 a (d .table-after) (d .cuts) in both-done (d .passes) (w .0) (w .2) (w .1) (w .3) (w .4) (w .5)
+
+    carvings-first : cutNumber (cutReply L h true false root m .0) ≡ 0 → cutNumber (cutReply L h false true root (cutReply L h true false root m .1) .0) ≡ 0
+        → cutNumber (cutReply L h true true root m .0) ≡ 0
+    carvings-first z z₂ =
+        let m₁ : Memory = cutReply L h true false root m .1 in
+        let e₁ = answered h true false root m z in
+        let e₂ = answered h false true root m₁ z₂ in
+        go (e₁ .0) (e₂ .0) m₁ (cutReply L h false true root m₁ .1) (e₁ .1) (e₂ .1)
+      where
+        sliced : (p : Passes L h root m) (a : ElementCutOutput) (S : Table) → cut L divider true true root (decode L m) ≡ done a S → cutNumber (cutReply L h true true root m .0) ≡ 0
+        sliced p a S e = ap (λ (x : CutReply × Memory). cutNumber (x .0)) (cut-done p true true a S e)
+
+        go : (a₁ a₂ : ElementCutOutput) (m₁ m₂ : Memory) → cutReply L h true false root m ≡ (Answered a₁, m₁) → cutReply L h false true root m₁ ≡ (Answered a₂, m₂)
+            → cutNumber (cutReply L h true true root m .0) ≡ 0
+        go a₁ a₂ m₁ m₂ e₁ e₂ =
+            let d₁ = it L R h true false root m a₁ m₁ e₁ in
+            let d₂ = it L R h false true root m₁ a₂ m₂ e₂ in
+            let w = taken true false a₁ m₁ e₁ .1 a₁ a₂ (d₁ .table-after) (d₂ .table-after) (d₁ .cuts) (sym (on-after true false a₁ m₁ e₁ false true) ∙ d₂ .cuts) in
+            sliced (d₁ .passes) (w .0) (w .1) (w .2)
+
+  pub slice-done-as-carvings : SliceDoneAsCarvings L
+  slice-done-as-carvings h root m finite ranked = (slice-first h root m finite ranked, carvings-first h root m finite ranked)
