@@ -75,23 +75,30 @@ impl Call {
 
     /// Which refusal or kind of answer a reply of this call is.
     pub fn outcome(&self, word: u64) -> String {
-        let is_set = word >> 8 & 1 == 1;
         match (word as u8, self) {
             (0, Call::IsSound) => "sound".into(),
             (0, Call::Cube { .. }) => "done".into(),
-            (0, Call::Cut { .. }) if is_set => "flush".into(),
-            (0, Call::Cut { .. }) => parts_outcome(word),
-            (0, Call::PrimordialFacet { .. }) => if is_set { "yes" } else { "no" }.into(),
+            (0, Call::Cut { .. }) => answer_outcome(answer(word)),
+            (0, Call::PrimordialFacet { .. }) => if is_set(word) { "yes" } else { "no" }.into(),
             (0, _) => if word == 0 { "empty list" } else { "list" }.into(),
             (number, _) => format!("refused {number}"),
         }
     }
 }
 
-fn parts_outcome(word: u64) -> String {
-    let places = [(16, "inside"), (32, "outside"), (48, "intersection")];
-    let name = |(shift, name)| if (word >> shift) as u16 == raw::NONE { "-" } else { name };
-    places.map(name).join(" ")
+fn answer_outcome(answer: Answer) -> String {
+    match answer {
+        Answer::Flush => "flush".into(),
+        Answer::NonFlush { inside, outside, intersection } => {
+            let places = [(inside, "inside"), (outside, "outside"), (intersection, "intersection")];
+            places.map(|(place, name)| place.map_or("-", |_| name)).join(" ")
+        }
+    }
+}
+
+/// Bit 8 of a reply.
+fn is_set(word: u64) -> bool {
+    word >> 8 & 1 == 1
 }
 
 fn done_word(reply: Result<(), Refusal>) -> u64 {
@@ -118,4 +125,20 @@ fn cut_word(reply: Result<Answer, Refusal>) -> u64 {
             place(inside) << 16 | place(outside) << 32 | place(intersection) << 48
         }
     }
+}
+
+/// What the number of a cut's reply says.
+pub fn cut_reply(word: u64) -> Result<Answer, Refusal> {
+    match word as u8 {
+        0 => Ok(answer(word)),
+        number => Err(number),
+    }
+}
+
+fn answer(word: u64) -> Answer {
+    let place = |shift: u32| Some((word >> shift) as u16).filter(|&element| element != raw::NONE);
+    if is_set(word) {
+        return Answer::Flush;
+    }
+    Answer::NonFlush { inside: place(16), outside: place(32), intersection: place(48) }
 }

@@ -2,9 +2,13 @@
 
 pub mod arguments;
 pub mod call;
+pub mod carvings;
 pub mod dividers;
 pub mod memories;
 pub mod model;
 pub mod random;
+pub mod renumbering;
+pub mod seeded;
 pub mod session;
 pub mod strange;
+pub mod taken_apart;

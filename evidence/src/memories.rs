@@ -5,6 +5,7 @@ use crate::model::memory::{self, Lent, Memory};
 use crate::model::table::Table;
 use crate::random::Random;
 use crate::strange;
+use crate::taken_apart;
 
 /// What a memory was made as.
 #[derive(Clone, Copy, Debug, PartialEq, Eq)]
@@ -13,6 +14,7 @@ pub enum Kind {
     OtherLengths,
     Session,
     Strange,
+    TakenApart,
     Broken,
 }
 
@@ -38,8 +40,24 @@ pub fn memory(r: &mut Random, kind: Kind) -> Memory {
         Kind::OtherLengths => other_lengths(r),
         Kind::Session => cube(r),
         Kind::Strange => memory::write(&strange::table(r)),
+        Kind::TakenApart => memory::write(&taken_apart::any(r)),
         Kind::Broken => memory::write(&strange::broken(r)),
     }
+}
+
+/// How many cuts are made of it, one on what the other leaves. Few sessions go on until a room is full, for the cost grows
+/// with the table.
+pub fn steps(r: &mut Random, kind: Kind) -> usize {
+    match kind {
+        Kind::RandomWords | Kind::OtherLengths | Kind::Broken => r.from_to(1, 2),
+        Kind::Session if r.one_in(1000) => 100,
+        Kind::Session | Kind::Strange | Kind::TakenApart => r.from_to(1, 7),
+    }
+}
+
+/// The same table, crowded.
+pub fn crowded(r: &mut Random, table: &Table) -> Memory {
+    memory::write(&strange::crowded(r, table))
 }
 
 /// A session starts from a cube; the cuts come call by call.

@@ -24,7 +24,7 @@ pub fn table(r: &mut Random) -> Table {
     table
 }
 
-fn empty(dimension: usize) -> Table {
+pub(crate) fn empty(dimension: usize) -> Table {
     Table { dimension, vertices: vec![], hyperplanes: vec![], elements: vec![] }
 }
 
@@ -46,7 +46,7 @@ fn spike(r: &mut Random) -> Table {
     table
 }
 
-fn add_hyperplanes(r: &mut Random, table: &mut Table, count: usize) {
+pub(crate) fn add_hyperplanes(r: &mut Random, table: &mut Table, count: usize) {
     while table.hyperplanes.len() < count {
         let hyperplane = dividers::hyperplane(r, table);
         table.hyperplanes.push(hyperplane);
@@ -83,7 +83,7 @@ fn add_round_ring(r: &mut Random, table: &mut Table, size: usize) -> Vec<u16> {
 }
 
 /// New corners and the edges from each to the next; a ring of two has two edges only where facts tell them apart.
-fn add_ring(r: &mut Random, table: &mut Table, points: &[Point]) -> Vec<u16> {
+pub(crate) fn add_ring(r: &mut Random, table: &mut Table, points: &[Point]) -> Vec<u16> {
     let corners: Vec<u16> = points.iter().map(|point| add_corner(table, point)).collect();
     let ends = (0..corners.len()).map(|place| vec![corners[place], corners[(place + 1) % corners.len()]]);
     ends.filter_map(|ends| add(r, table, 1, ends)).collect()
@@ -118,7 +118,7 @@ fn add_some_of(r: &mut Random, table: &mut Table, rank: usize, below: &[u16]) ->
 }
 
 /// The number of a new element, or none where an equal one is there or the boundary is too small.
-fn add(r: &mut Random, table: &mut Table, rank: usize, mut boundary: Vec<u16>) -> Option<u16> {
+pub(crate) fn add(r: &mut Random, table: &mut Table, rank: usize, mut boundary: Vec<u16>) -> Option<u16> {
     boundary.sort_unstable();
     let is_facet = rank + 1 == table.dimension;
     let hyperplane = is_facet.then(|| r.below(table.hyperplanes.len()) as u16);
@@ -144,6 +144,22 @@ fn fill_a_room(r: &mut Random, table: &mut Table) {
             add_edges(r, table, ELEMENT_ROOM - left);
         }
     }
+}
+
+/// The same table with little room left for elements and, half of the time, for vertices; not one that has many already.
+pub fn crowded(r: &mut Random, table: &Table) -> Table {
+    let mut table = table.clone();
+    if table.elements.len() <= ELEMENT_ROOM / 2 {
+        let [vertices, elements] = [r.pick(&[8, VERTEX_ROOM]), 24].map(|most| r.below(most));
+        fill(r, &mut table, vertices, elements);
+    }
+    table
+}
+
+/// Leaves room for so many vertices, if there was so much, and elements.
+pub fn fill(r: &mut Random, table: &mut Table, vertices: usize, elements: usize) {
+    add_corners(r, table, VERTEX_ROOM - vertices);
+    add_edges(r, table, ELEMENT_ROOM - elements);
 }
 
 fn add_corners(r: &mut Random, table: &mut Table, count: usize) {

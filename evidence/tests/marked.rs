@@ -1,29 +1,14 @@
 //! The marked examples of document 01, on the model alone.
 
-use evidence::model::cube::with_primordial_cube_radius;
+mod common;
+
+use common::{at_x, cube, parts, BOTH, INSIDE, OUTSIDE};
 use evidence::model::cut::{cut, Answer, Kept};
 use evidence::model::floats::{side, Hyperplane, Side, TOLERANCE};
-use evidence::model::memory::{Lent, Memory};
+use evidence::model::memory::Lent;
 use evidence::model::questions::{edges_in_order, greatest_common_subelements};
 
-const BOTH: Kept = Kept { inside: true, outside: true };
 const NEITHER: Kept = Kept { inside: false, outside: false };
-const INSIDE: Kept = Kept { inside: true, outside: false };
-const OUTSIDE: Kept = Kept { inside: false, outside: true };
-
-fn cube(dimension: u8) -> Lent {
-    let mut lent = Lent::new(Memory::clear());
-    with_primordial_cube_radius(&mut lent, dimension, 1.0).unwrap();
-    lent
-}
-
-fn at_x(distance: f64) -> Hyperplane {
-    Hyperplane { normal: [1.0, 0.0, 0.0, 0.0], distance }
-}
-
-fn parts(inside: Option<u16>, outside: Option<u16>, intersection: Option<u16>) -> Answer {
-    Answer::NonFlush { inside, outside, intersection }
-}
 
 /// The answer, and the counts of elements, vertices and hyperplanes after it.
 fn counted(mut lent: Lent, divider: Hyperplane, kept: Kept, root: u16) -> (Answer, Vec<u16>) {

@@ -3,10 +3,11 @@
 
 use evidence::arguments;
 use evidence::call::Call;
-use evidence::memories::{self, Kind};
+use evidence::memories;
 use evidence::model::memory::{Lent, Memory};
 use evidence::model::table::Table;
 use evidence::random::Random;
+use evidence::seeded;
 use std::collections::BTreeMap;
 use std::process::ExitCode;
 
@@ -67,22 +68,7 @@ impl Pair {
 }
 
 fn main() -> ExitCode {
-    let numbers: Vec<u64> = std::env::args().skip(1).filter_map(|word| word.parse().ok()).collect();
-    let (n, seed) = match numbers[..] {
-        [n, seed] => (n, seed),
-        _ => {
-            eprintln!("calls N SEED");
-            return ExitCode::from(2);
-        }
-    };
-    let mut met = Met::new();
-    match compare(n, seed, &mut met) {
-        Ok(()) => report(n, &met),
-        Err(difference) => {
-            println!("seed {seed}, {difference}");
-            ExitCode::FAILURE
-        }
-    }
+    seeded::run("calls", compare, report)
 }
 
 /// Each step is one call of every entry point on one memory; a memory stands for some steps.
@@ -93,7 +79,7 @@ fn compare(n: u64, seed: u64, met: &mut Met) -> Result<(), String> {
         if left == 0 {
             let kind = memories::kind(&mut r);
             pair = Pair::new(memories::memory(&mut r, kind));
-            left = steps_of(&mut r, kind);
+            left = memories::steps(&mut r, kind);
         }
         left -= 1;
         let mut damaged = if r.one_in(4) { damaged_copy(&mut r, &pair) } else { None };
@@ -101,15 +87,6 @@ fn compare(n: u64, seed: u64, met: &mut Met) -> Result<(), String> {
         compare_step(&mut r, stand, met).map_err(|difference| format!("step {step}: {difference}"))?;
     }
     Ok(())
-}
-
-/// Few sessions go on until a room is full, for the cost grows with the table.
-fn steps_of(r: &mut Random, kind: Kind) -> usize {
-    match kind {
-        Kind::RandomWords | Kind::OtherLengths | Kind::Broken => r.from_to(1, 2),
-        Kind::Session if r.one_in(1000) => 100,
-        Kind::Session | Kind::Strange => r.from_to(1, 7),
-    }
 }
 
 fn damaged_copy(r: &mut Random, pair: &Pair) -> Option<Pair> {
@@ -156,14 +133,12 @@ fn compare_call(call: &Call, pair: &mut Pair, room: &[u16], met: &mut Met) -> Re
 }
 
 /// How often each outcome was met. One that was never met makes the run fail.
-fn report(n: u64, met: &Met) -> ExitCode {
+fn report(n: u64, met: &Met) -> bool {
     let mut is_whole = true;
     for (name, outcomes) in OUTCOMES {
         println!("{name}");
         for outcome in outcomes {
-            let times = met.get(&(name, outcome.to_string())).copied().unwrap_or(0);
-            println!("{times:>12}  {outcome}{}", if times == 0 { "  NEVER MET" } else { "" });
-            is_whole &= times > 0;
+            is_whole &= seeded::is_met(met.get(&(name, outcome.to_string())), outcome);
         }
     }
     let named =
@@ -173,9 +148,5 @@ fn report(n: u64, met: &Met) -> ExitCode {
         is_whole = false;
     }
     println!("{n} calls of each of {} entry points, no difference", OUTCOMES.len());
-    if is_whole {
-        ExitCode::SUCCESS
-    } else {
-        ExitCode::FAILURE
-    }
+    is_whole
 }

@@ -43,10 +43,12 @@ impl Memory {
 
     /// Word for word, floats by their bits.
     pub fn is_same(&self, other: &Self) -> bool {
-        self.counts == other.counts
-            && self.elements == other.elements
-            && same_bits(&self.points, &other.points)
-            && same_bits(&self.planes, &other.planes)
+        self.is_same_but_for_elements(other) && self.elements == other.elements
+    }
+
+    /// Three of the four slices.
+    pub fn is_same_but_for_elements(&self, other: &Self) -> bool {
+        self.counts == other.counts && same_bits(&self.points, &other.points) && same_bits(&self.planes, &other.planes)
     }
 
     /// Lengths, and every word that is not zero with its place, floats by their bits.
