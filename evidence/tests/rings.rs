@@ -99,33 +99,54 @@ fn a_ring_that_lacks_an_edge_is_not() {
     }
 }
 
-/// Solids with four corners each, as one body, the last element.
-fn tetrahedra(dimension: usize, count: u16) -> Table {
-    let at = |y: f64| [[-1.0, y, 0.0, 0.0], [1.0, y - 1.0, 0.0, 0.0], [1.0, y + 1.0, 0.0, 0.0], [1.0, y, 1.0, 0.0]];
-    let points: Vec<Point> = (0..count).flat_map(|place| at(10.0 * f64::from(place))).collect();
-    let mut table = corners(dimension, &points);
+/// The tetrahedron with three of its corners outside and one inside, at such a y.
+fn tetrahedron(y: f64) -> [Point; 4] {
+    [[-1.0, y, 0.0, 0.0], [1.0, y - 1.0, 0.0, 0.0], [1.0, y + 1.0, 0.0, 0.0], [1.0, y, 1.0, 0.0]]
+}
+
+/// One body of the triangles with these corners, in each the lowest first. It is the last element.
+fn body(dimension: usize, points: &[Point], triangles: &[[u16; 3]]) -> Table {
+    let mut table = corners(dimension, points);
+    let mut ends: Vec<[u16; 3]> =
+        triangles.iter().flat_map(|[a, b, c]| [[*a, *b, 0], [*a, *c, 0], [*b, *c, 0]]).collect();
+    ends.sort_unstable();
+    ends.dedup();
+    let edges = add_edges(&mut table, &ends);
+    let edge = |a, b| edges[ends.iter().position(|ends| *ends == [a, b, 0]).unwrap()];
     let mut faces = vec![];
-    for corner in (0..count).map(|place| 4 * place) {
-        let ends = [[0, 1, 0], [0, 2, 0], [0, 3, 0], [1, 2, 0], [1, 3, 0], [2, 3, 0]];
-        let edges = add_edges(&mut table, &ends.map(|[a, b, hyperplane]| [corner + a, corner + b, hyperplane]));
-        for triangle in [[0, 1, 3], [0, 2, 4], [1, 2, 5], [3, 4, 5]] {
-            faces.push(add(&mut table, 2, &triangle.map(|place: usize| edges[place]), 0));
-        }
+    for [a, b, c] in triangles {
+        faces.push(add(&mut table, 2, &[edge(*a, *b), edge(*a, *c), edge(*b, *c)], 0));
     }
     add(&mut table, 3, &faces, 0);
     table
 }
 
-/// Whichever sides are kept, for the face of the cut is worked out in any case.
+/// How a cut of the body is replied to, whichever sides are kept, for the face of the cut is worked out in any case.
+fn cut_at_zero(table: &Table) -> [(u64, bool); 4] {
+    assert_eq!(is_sound(table), 0);
+    let root = table.elements.len() as u16 - 1;
+    [0, 1, 2, 3].map(|kept| call(&Call::Cut { divider: AT_ZERO, inside: kept & 1, outside: kept & 2, root }, table))
+}
+
 #[test]
 fn two_tetrahedra_as_one_body_cut_through_both_are_refused() {
-    for (dimension, kept) in [3, 4].into_iter().flat_map(|dimension| (0..4).map(move |kept| (dimension, kept))) {
-        let (one, two) = (tetrahedra(dimension, 1), tetrahedra(dimension, 2));
-        let cut = |root| Call::Cut { divider: AT_ZERO, inside: kept & 1, outside: kept & 2, root };
-        assert_eq!([is_sound(&one), is_sound(&two)], [0, 0]);
-        assert_eq!(call(&cut(14), &one).0 as u8, 0);
-        assert_eq!(call(&cut(28), &two), (7, true));
+    let one = [[0, 1, 2], [0, 1, 3], [0, 2, 3], [1, 2, 3]];
+    let two = [one, one.map(|triangle| triangle.map(|corner| corner + 4))].concat();
+    for dimension in 3..=4 {
+        let taken = cut_at_zero(&body(dimension, &tetrahedron(0.0), &one));
+        assert!(taken.iter().all(|(word, is_as_it_came)| *word as u8 == 0 && !is_as_it_came));
+        let points = [tetrahedron(0.0), tetrahedron(10.0)].concat();
+        assert_eq!(cut_at_zero(&body(dimension, &points, &two)), [(7, true); 4]);
     }
+}
+
+/// The smallest body that is known: it has five corners.
+#[test]
+fn two_tips_over_one_triangle_cut_below_both_are_refused() {
+    let points = [[-1.0, 0.0, 0.0], [-1.0, 6.0, 0.0], [1.0, 2.0, 0.0], [1.0, 4.0, 0.0], [1.0, 3.0, 2.0]];
+    let triangles = [[0, 2, 3], [0, 2, 4], [0, 3, 4], [1, 2, 3], [1, 2, 4], [1, 3, 4]];
+    let table = body(3, &points.map(|[x, y, z]| [x, y, z, 0.0]), &triangles);
+    assert_eq!((table.elements.len(), cut_at_zero(&table)), (21, [(7, true); 4]));
 }
 
 /// A ring of six edges, one of them in the plane; inside, a triangle and a pair of edges are left of it.
