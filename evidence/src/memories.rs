@@ -32,6 +32,7 @@ pub fn kind(r: &mut Random) -> Kind {
         Kind::Strange,
         Kind::Strange,
         Kind::Strange,
+        Kind::Strange,
         Kind::TwoRings,
         Kind::TwoRings,
         Kind::TwoRings,

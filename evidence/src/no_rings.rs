@@ -72,7 +72,7 @@ fn edges(r: &mut Random, table: &mut Table) -> Vec<u16> {
     } else {
         let least = if table.dimension == 2 { 2 } else { 3 };
         let [ring, more] = [least, 2].map(|least| {
-            let most = r.pick(&[3, 6, 15]);
+            let most = r.pick(&[3, 3, 6, 15]);
             let size = r.from_to(least, most);
             add_new_corners(r, table, size)
         });
@@ -85,12 +85,12 @@ fn edges(r: &mut Random, table: &mut Table) -> Vec<u16> {
 /// The corners of a ring or a path apart from a ring, or of one that meets it.
 fn beside(r: &mut Random, ring: &[u16], more: &[u16]) -> Vec<u16> {
     let fewer = &more[..r.from_to(1, more.len())];
-    match r.below(6) {
-        0 => closed(more),
-        1 => more.to_vec(),
-        2 => closed(&[&ring[..1], fewer].concat()),
-        3 => [&ring[..1], fewer].concat(),
-        4 => [&ring[..1], fewer, &ring[1..2]].concat(),
+    match r.below(7) {
+        0 | 1 => closed(more),
+        2 => more.to_vec(),
+        3 => closed(&[&ring[..1], fewer].concat()),
+        4 => [&ring[..1], fewer].concat(),
+        5 => [&ring[..1], fewer, &ring[1..2]].concat(),
         _ => [&more[..1], &ring[..1], &more[1..]].concat(),
     }
 }

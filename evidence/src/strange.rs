@@ -17,7 +17,7 @@ pub fn table(r: &mut Random) -> Table {
     let dimension = r.from_to(1, 4);
     let mut table = with_hyperplanes(r, dimension);
     add_elements(r, &mut table);
-    if r.one_in(16) {
+    if r.one_in(10) {
         fill_a_room(r, &mut table);
     }
     table

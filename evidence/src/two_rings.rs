@@ -17,7 +17,7 @@ pub fn any(r: &mut Random) -> Table {
         }
         2 => face(r, dimension, &open()),
         _ => {
-            let [first, second] = [0; 2].map(|_| r.pick(&[1, 1, 1, 2, 3]));
+            let [first, second] = [[1, 1, 2, 3], [1, 1, 1, 2]].map(|sizes| r.pick(&sizes));
             face(r, dimension, &back_to_the_plane(first, second))
         }
     }
