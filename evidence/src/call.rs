@@ -84,6 +84,18 @@ impl Call {
             (number, _) => format!("refused {number}"),
         }
     }
+
+    /// The edges, by their ends, of the face for which alone the call is refused, a table's or one that a cut would add.
+    pub fn refused_face(&self, lent: &Lent, word: u64) -> Option<Vec<[u16; 2]>> {
+        match (word as u8, self) {
+            (3, Call::IsSound) => lent.face_of_no_ring(),
+            (7, Call::Cut { divider, inside, outside, root }) => {
+                let kept = Kept { inside: *inside != 0, outside: *outside != 0 };
+                cut::refused_face(lent.table().ok()?, *divider, kept, *root)
+            }
+            _ => None,
+        }
+    }
 }
 
 fn answer_outcome(answer: Answer) -> String {
