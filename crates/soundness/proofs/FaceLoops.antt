@@ -1,24 +1,23 @@
 -- The loops over the edges of a face: each number fits. Of few edges the ends are met, so the face is one ring exactly when as many are met for the
 -- second time as there are edges. More of them join paths: the last edge has to be the first to close one, and as many ends be met for the second time.
-use Prim.Native.Nat.{ℕ, suc, _+_, _-_, _*_, _%_, _<_, _≤_}
+use Prim.Native.Nat.{ℕ, suc, _+_, _-_, _*_, _<_, _≤_}
 use mathlib.Core.Bool.{Bool, true, false, _&&_}
 use mathlib.Core.List.{List}
 use mathlib.Core.Path.{_≡_, refl, sym, ap, subst, _∙_}
-use native.Mathlib.Nat.{mod-lt, div-add-mod', not-suc-le-zero}
 use native.Mathlib.Omega.{arith}
 use lib.Dec.{eqb, ltb}
-use lib.ListN.{length, getD, take, drop, set, length-drop, length-set}
-use lib.Seq.{getD-take, getD-drop, length-take-le, getD-set-same, getD-set-other}
+use lib.ListN.{length, getD, take, drop, length-drop}
+use lib.Seq.{getD-take, getD-drop, length-take-le}
 use borrow.Author.Tests.{ltb-true}
 use Rattle.rules.specs.Limits.{desk}
 use Rattle.rules.specs.Lists.{all, rises}
 use Rattle.rules.proofs.Growing.{all-get}
-use Rattle.rules.proofs.Laws.{and-left, and-right, eq-test, unlike-eq}
+use Rattle.rules.proofs.Laws.{and-left, and-right}
 use Rattle.space.specs.Closed.{metTwice, bothMet, seconds, ringRaw, joining, joined, Unmet, Stamped, EndsLow}
 use Rattle.space.proofs.EndsCounted.{Round, round-met, round-end}
 use Rattle.space.proofs.PathsJoined.{Paths, paths-go, paths-stamped}
 use Rattle.space.proofs.Rings.{never-closed, no-edges, answers-thrice, answers-early, answers-last}
-use Rattle.soundness.specs.Words.{numbersFit, fewWords, faceWords, stampOf, pathStamp, Fresh, Served, EdgesLow}
+use Rattle.soundness.specs.Words.{numbersFit, fewWords, faceWords, stampOf, pathStamp, Fresh, EdgesLow}
 use Rattle.soundness.proofs.BoundaryLoops.{numbers-ends}
 
 -- ---- edge after edge
@@ -109,14 +108,8 @@ module _ (es : List ℕ) (from to e : ℕ) (fit : to ≤ length es) where
 pub unmet-above : (s s′ : ℕ) (met : List ℕ) → s ≤ s′ → Unmet s met → Unmet s′ met
 unmet-above s s′ met l u = record { long = u .long; under = λ v h. let k = u .under v h in let z : getD met v 0 < s′ = omega (arith, k, l) in z }
 
--- where the stamps do not begin again, the next one is two above
-pub unmet-next : (e : ℕ) (met : List ℕ) → (e % 64 ≡ 63 → ⊥) → Unmet (stampOf e + 2) met → Unmet (stampOf (e + 1)) met
-unmet-next e met n u =
-    let a = div-add-mod' e 64 in
-    let b = div-add-mod' (e + 1) 64 in
-    let c = mod-lt e (let z : 0 < 64 = omega arith in z) in
-    let d = mod-lt (e + 1) (let z : 0 < 64 = omega arith in z) in
-    unmet-above (stampOf e + 2) (stampOf (e + 1)) met (let z : 2 * (e % 64) + 1 + 2 ≤ 2 * ((e + 1) % 64) + 1 = omega (arith, a, b, c, d, n) in z) u
+pub stamp-next : (e : ℕ) (met : List ℕ) → Unmet (stampOf e) met → Unmet (stampOf (e + 1)) met
+stamp-next e met u = unmet-above (stampOf e) (stampOf (e + 1)) met (let z : 2 * e + 1 ≤ 2 * (e + 1) + 1 = omega arith in z) u
 
 pub path-next : (e : ℕ) (paths : List ℕ) → Unmet (pathStamp e) paths → Unmet (pathStamp (e + 1)) paths
 path-next e paths u = unmet-above (pathStamp e) (pathStamp (e + 1)) paths (let z : 513 * e + 1 ≤ 513 * (e + 1) + 1 = omega arith in z) u
@@ -124,33 +117,6 @@ path-next e paths u = unmet-above (pathStamp e) (pathStamp (e + 1)) paths (let z
 pub stamped-next : (e : ℕ) (paths : List ℕ) → Stamped (pathStamp e) paths → Unmet (pathStamp (e + 1)) paths
 stamped-next e paths u = record { long = u .long; under = λ v h. let k = u .under v h in let z : getD paths v 0 < 513 * (e + 1) + 1 = omega (arith, k) in z }
 
--- what no corner is met for has served as well
-pub served-none : (e : ℕ) (met paths : List ℕ) → Fresh e met paths → Served e met paths
-served-none e met paths f = record { counted = unmet-above (stampOf e) (stampOf e + 2) met (omega arith) (f .counted); joined = path-next e paths (f .joined) }
-
--- ---- the bytes cleared
-
--- those before v
-pub record Cleared (met : List ℕ) (v : ℕ) : Type 0 where
-  pub long : length met ≡ 512
-  pub zero : (j : ℕ) → j < v → getD met j 0 ≡ 0
-
-pub cleared-none : (met : List ℕ) → length met ≡ 512 → Cleared met 0
-cleared-none met l = record { long = l; zero = λ j h. absurd (not-suc-le-zero h) }
-
-pub cleared-go : (met : List ℕ) (v : ℕ) → Cleared met v → v < 512 → Cleared (set met v 0) (v + 1)
-cleared-go met v C h = record { long = length-set met v 0 ∙ C .long; zero = λ j l. go j l (eqb j v) refl }
-  where
-    go : (j : ℕ) → j < v + 1 → (b : Bool) → eqb j v ≡ b → getD (set met v 0) j 0 ≡ 0
-    go j l true t =
-        let m = C .long in
-        ap (λ (i : ℕ). getD (set met v 0) i 0) (eq-test j v t) ∙ getD-set-same met v 0 0 (let z : v < length met = omega (arith, m, h) in z)
-    go j l false t =
-        let u = unlike-eq j v t in
-        getD-set-other met v j 0 0 u ∙ C .zero j (let z : j < v = omega (arith, l, u) in z)
-
-pub cleared-all : (met : List ℕ) (v : ℕ) → Cleared met v → 512 ≤ v → Unmet 1 met
-cleared-all met v C h = record {
-  long = C .long;
-  under = λ j l. let z = C .zero j (let y : j < v = omega (arith, l, h) in y) in let x : getD met j 0 < 1 = omega (arith, z) in x;
-}
+-- an element for which no corner is met
+pub fresh-next : (e : ℕ) (met paths : List ℕ) → Fresh e met paths → Fresh (e + 1) met paths
+fresh-next e met paths f = record { counted = stamp-next e met (f .counted); joined = path-next e paths (f .joined) }

@@ -1,5 +1,5 @@
 -- The soundness of the lent memory, told by its words and rows alone: nothing is read into a table. Definitions only.
-use Prim.Native.Nat.{ℕ, _+_, _*_, _%_, _<_, suc}
+use Prim.Native.Nat.{ℕ, _+_, _*_, _<_, suc}
 use mathlib.Core.Path.{_≡_}
 use mathlib.Core.Bool.{Bool, _&&_, true, not, cond}
 use mathlib.Core.List.{List, [], _∷_}
@@ -98,23 +98,17 @@ fewWords L es e b = numbersFit L es e 2 b && metTwice es b
 abbrev pub faceWords : Limits → List ℕ → ℕ → List ℕ → Bool
 faceWords L es e b = numbersFit L es e 2 b && ringRaw es b
 
--- the stamp of an element where corners are counted: two above the one before it, from 1 on again every 64 elements
+-- the stamp of an element, above every word that was written for the elements before it: where corners are counted, and where paths are joined
 abbrev pub stampOf : ℕ → ℕ
-stampOf e = 2 * (e % 64) + 1
+stampOf e = 2 * e + 1
 
--- and where paths are joined: above every word that was written for the elements before it
 abbrev pub pathStamp : ℕ → ℕ
 pathStamp e = 513 * e + 1
 
--- the bytes and the words of the corners are ready for element e
+-- the words of the corners are ready for element e: those for counting, and those for joining
 pub record Fresh (e : ℕ) (met paths : List ℕ) : Type 0 where
   pub counted : Unmet (stampOf e) met
   pub joined : Unmet (pathStamp e) paths
-
--- and they have served it
-pub record Served (e : ℕ) (met paths : List ℕ) : Type 0 where
-  pub counted : Unmet (stampOf e + 2) met
-  pub joined : Unmet (pathStamp (e + 1)) paths
 
 unfoldable pub facetWords : ℕ → ℕ → ℕ → ℕ → ℕ → Bool
 facetWords d h r plane mark = if eqb (suc r) d then ltb plane h else (eqb plane noPlane && not (eqb mark 1))

@@ -1,10 +1,9 @@
-// A boundary that is sound: its numbers, and test 7 in the same pass, with a byte or a word for each corner that the edges of a face meet.
+// A boundary that is sound: its numbers, and test 7 in the same pass, with a word for each corner that the edges of a face meet.
 use space::closed::CLOSES;
 use space::closed::THRICE;
 use space::closed::few_edges;
 use space::closed::join_ends;
 use space::closed::meet_ends;
-use space::words::ELEMENTS;
 use space::words::WIDTH;
 use space::words::wide;
 ghost use Prim.Native.Nat.{_+_, _*_, _<_, _≤_};
@@ -13,35 +12,14 @@ ghost use mathlib.Core.Bool.{true};
 ghost use lib.ListN.{length, take, drop};
 ghost use Rattle.rules.specs.Limits.{desk};
 ghost use Rattle.space.specs.Closed.{Unmet};
-ghost use Rattle.soundness.specs.Words.{numberFits, numbersFit, fewWords, faceWords, stampOf, pathStamp, Fresh, Served, boundaryWords, EdgesLow};
-
-// After so many elements the bytes of corners are cleared, so that a stamp fits a byte.
-const STAMPS: usize = 64;
+ghost use Rattle.soundness.specs.Words.{numberFits, numbersFit, fewWords, faceWords, stampOf, pathStamp, Fresh, boundaryWords, EdgesLow};
 
 // An element's stamp is two above the one before it, so that the corners met for a face are told from those met for an earlier one.
-fn stamp_of(e: usize) -> u8
-    ensures { λ r. ⌜ (r ≡ stampOf e) × (r < 255) ⌝ }
+fn stamp_of(e: usize) -> u16
+    requires { ⌜ e < 512 ⌝ }
+    ensures { λ r. ⌜ (r ≡ stampOf e) × (r < 65535) ⌝ }
 {
-    (2 * (e % STAMPS) + 1) as u8
-}
-
-fn clear(met: &mut [u8; 512])
-    requires { ⌜ length (now met) ≡ 512 ⌝ }
-    ensures { λ _. ⌜ Unmet 1 (now (met .exit)) ⌝ }
-{
-    for v in 0..ELEMENTS {
-        met[v] = 0;
-    }
-}
-
-// The bytes are ready for the element after e.
-pub fn pass_on(met: &mut [u8; 512], e: usize)
-    requires { ⌜ Unmet (stampOf e + 2) (now met) ⌝ }
-    ensures { λ _. ⌜ Unmet (stampOf (e + 1)) (now (met .exit)) ⌝ }
-{
-    if e % STAMPS == STAMPS - 1 {
-        clear(met);
-    }
+    (2 * e + 1) as u16
 }
 
 // Where paths are joined, an element's stamp is above every word that was written before: those of one face are 512 at most above its own.
@@ -83,9 +61,9 @@ pub fn numbers_fit(elements: &[u16], from: usize, to: usize, e: usize, rank: usi
 }
 
 // The numbers of a face of few edges: the ends of each are met in the same pass.
-fn few_fits(elements: &[u16], from: usize, to: usize, e: usize, met: &mut [u8; 512]) -> bool
+fn few_fits(elements: &[u16], from: usize, to: usize, e: usize, met: &mut [u16; 512]) -> bool
     requires { ⌜ (from ≤ to) × (to ≤ from + 32) × (to ≤ length (now elements)) × (length (now elements) ≡ 18432) × (e < 512) × EdgesLow (now elements) e × Unmet (stampOf e) (now met) ⌝ }
-    ensures { λ r. ⌜ (r ≡ fewWords desk (now (elements .entry)) e (drop from (take to (now (elements .entry))))) × (r ≡ true → Unmet (stampOf e + 2) (now (met .exit))) ⌝ }
+    ensures { λ r. ⌜ (r ≡ fewWords desk (now (elements .entry)) e (drop from (take to (now (elements .entry))))) × (r ≡ true → Unmet (stampOf (e + 1)) (now (met .exit))) ⌝ }
 {
     let stamp = stamp_of(e);
     let mut low = 0usize;
@@ -138,11 +116,11 @@ pub fn boundary_sound(
     e: usize,
     d: usize,
     rank: usize,
-    met: &mut [u8; 512],
+    met: &mut [u16; 512],
     paths: &mut [u32; 512],
 ) -> bool
     requires { ⌜ (length (now elements) ≡ 18432) × (at + n ≤ 18432) × (n ≤ 32) × (e < 512) × (rank ≡ 1 → ⊥) × EdgesLow (now elements) e × Fresh e (now met) (now paths) ⌝ }
-    ensures { λ r. ⌜ (r ≡ boundaryWords desk (now (elements .entry)) d e rank (drop at (take (at + n) (now (elements .entry))))) × (r ≡ true → Served e (now (met .exit)) (now (paths .exit))) ⌝ }
+    ensures { λ r. ⌜ (r ≡ boundaryWords desk (now (elements .entry)) d e rank (drop at (take (at + n) (now (elements .entry))))) × (r ≡ true → Fresh (e + 1) (now (met .exit)) (now (paths .exit))) ⌝ }
 {
     if n <= rank {
         return false;

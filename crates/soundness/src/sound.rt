@@ -1,7 +1,6 @@
 // Document 01, "A table is sound when", over the words of the lent memory: one function for each of its lines.
 use crate::boundaries::boundary_sound;
 use crate::boundaries::numbers_fit;
-use crate::boundaries::pass_on;
 use crate::chains::row_new;
 use crate::floats::floats_sound;
 use space::chains::INDEX;
@@ -24,7 +23,7 @@ ghost use Rattle.rules.specs.Memory.{soundMemory};
 ghost use Rattle.rules.specs.Held.{memoryOf};
 ghost use Rattle.rules.specs.Replies.{isSoundReply};
 ghost use Rattle.space.specs.Chains.{Indexed};
-ghost use Rattle.soundness.specs.Words.{blank, countsFit, Mask, Gathered, headWords, cornerNamed, Fresh, Served, facetWords, EdgesLow, polytopeWords, rowSound, rowsInUse, rowsDistinct, rowsSound};
+ghost use Rattle.soundness.specs.Words.{blank, countsFit, Mask, Gathered, headWords, cornerNamed, Fresh, facetWords, EdgesLow, polytopeWords, rowSound, rowsInUse, rowsDistinct, rowsSound};
 
 // How many words stand before a boundary: rank, mark, hyperplane, count.
 const HEAD: usize = 4;
@@ -162,13 +161,13 @@ fn higher_sound(
     e: usize,
     d: usize,
     rank: usize,
-    met: &mut [u8; 512],
+    met: &mut [u16; 512],
     paths: &mut [u32; 512],
     past: &[u16; 64],
     seen: &mut [u16; 32],
 ) -> bool
     requires { ⌜ (length (now elements) ≡ 18432) × (e < 512) × (rank ≡ 1 → ⊥) × EdgesLow (now elements) e × Fresh e (now met) (now paths) × Mask (now past) × (length (now seen) ≡ 32) ⌝ }
-    ensures { λ r. ⌜ (r ≡ polytopeWords desk (now (elements .entry)) d e rank (take 36 (drop (e * 36) (now (elements .entry))))) × (r ≡ true → Served e (now (met .exit)) (now (paths .exit))) × (r ≡ true → Gathered (take 36 (drop (e * 36) (now (elements .entry)))) (now (seen .entry)) (now (seen .exit))) ⌝ }
+    ensures { λ r. ⌜ (r ≡ polytopeWords desk (now (elements .entry)) d e rank (take 36 (drop (e * 36) (now (elements .entry))))) × (r ≡ true → Fresh (e + 1) (now (met .exit)) (now (paths .exit))) × (r ≡ true → Gathered (take 36 (drop (e * 36) (now (elements .entry)))) (now (seen .entry)) (now (seen .exit))) ⌝ }
 {
     let at = e * WIDTH;
     let n = wide(elements[at + 3]);
@@ -185,13 +184,13 @@ fn polytope_sound(
     e: usize,
     d: usize,
     rank: usize,
-    met: &mut [u8; 512],
+    met: &mut [u16; 512],
     paths: &mut [u32; 512],
     past: &[u16; 64],
     seen: &mut [u16; 32],
 ) -> bool
     requires { ⌜ (length (now elements) ≡ 18432) × (e < 512) × EdgesLow (now elements) e × Fresh e (now met) (now paths) × Mask (now past) × (length (now seen) ≡ 32) ⌝ }
-    ensures { λ r. ⌜ (r ≡ polytopeWords desk (now (elements .entry)) d e rank (take 36 (drop (e * 36) (now (elements .entry))))) × (r ≡ true → Served e (now (met .exit)) (now (paths .exit))) × (r ≡ true → Gathered (take 36 (drop (e * 36) (now (elements .entry)))) (now (seen .entry)) (now (seen .exit))) ⌝ }
+    ensures { λ r. ⌜ (r ≡ polytopeWords desk (now (elements .entry)) d e rank (take 36 (drop (e * 36) (now (elements .entry))))) × (r ≡ true → Fresh (e + 1) (now (met .exit)) (now (paths .exit))) × (r ≡ true → Gathered (take 36 (drop (e * 36) (now (elements .entry)))) (now (seen .entry)) (now (seen .exit))) ⌝ }
 {
     if rank == 1 {
         return edge_sound(elements, e, past, seen);
@@ -206,13 +205,13 @@ fn row_sound(
     d: usize,
     h: usize,
     k: usize,
-    met: &mut [u8; 512],
+    met: &mut [u16; 512],
     paths: &mut [u32; 512],
     past: &[u16; 64],
     seen: &mut [u16; 32],
 ) -> bool
     requires { ⌜ (length (now elements) ≡ 18432) × (e < 512) × EdgesLow (now elements) e × Fresh e (now met) (now paths) × Mask (now past) × (length (now seen) ≡ 32) ⌝ }
-    ensures { λ r. ⌜ (r ≡ rowSound desk (now (elements .entry)) d h k e (take 36 (drop (e * 36) (now (elements .entry))))) × (r ≡ true → Served e (now (met .exit)) (now (paths .exit))) × (r ≡ true → Gathered (take 36 (drop (e * 36) (now (elements .entry)))) (now (seen .entry)) (now (seen .exit))) ⌝ }
+    ensures { λ r. ⌜ (r ≡ rowSound desk (now (elements .entry)) d h k e (take 36 (drop (e * 36) (now (elements .entry))))) × (r ≡ true → Fresh (e + 1) (now (met .exit)) (now (paths .exit))) × (r ≡ true → Gathered (take 36 (drop (e * 36) (now (elements .entry)))) (now (seen .entry)) (now (seen .exit))) ⌝ }
 {
     let at = e * WIDTH;
     let rank = wide(elements[at]);
@@ -239,7 +238,7 @@ fn rows_in_use(elements: &[u16], d: usize, n: usize, v: usize, h: usize, index: 
     ensures { λ r. ⌜ (r ≡ (rowsInUse desk d n v h (now (elements .entry)) && rowsDistinct desk n (now (elements .entry)))) × (r ≡ true → Indexed (now (elements .entry)) n (now (index .exit))) ⌝ }
 {
     let past = past_mask();
-    let mut met = [0u8; 512];
+    let mut met = [0u16; 512];
     let mut paths = [0u32; 512];
     let mut seen = [0u16; 32];
     let mut k = 0usize;
@@ -247,7 +246,6 @@ fn rows_in_use(elements: &[u16], d: usize, n: usize, v: usize, h: usize, index: 
         if !row_sound(elements, i, d, h, k, &mut met, &mut paths, &past, &mut seen) {
             return false;
         }
-        pass_on(&mut met, i);
         if !row_new(elements, i, index) {
             return false;
         }

@@ -6,9 +6,8 @@ use native.Mathlib.Omega.{arith}
 use borrow.Author.Needs.{needs}
 use borrow.Author.Tests.{le-ltb, lt-ltb}
 use Rattle.space.specs.Closed.{few}
-use Rattle.soundness.specs.Words.{stampOf}
 use Rattle.soundness.proofs.BoundaryLoops.{boundary-by, boundary-few, boundary-face, boundary-body}
-use Rattle.soundness.proofs.FaceLoops.{path-next, served-none, unmet-above}
+use Rattle.soundness.proofs.FaceLoops.{stamp-next, path-next, fresh-next}
 use Rattle.soundness.proofs.boundaries.boundary_sound.Statement.{statement}
 use Rattle.soundness.proofs.boundaries.boundary_sound.Tie as tie
 
@@ -43,7 +42,7 @@ returns-2 c =
     let a = s .args in
     let p = s .pre in (
       boundary-body (a .elements .now) (a .at) (a .n) (a .d) (a .e) (a .rank) (p .0) (p .1) (p .4) (c .before .if2 .taken) (lt-ltb _ _ (c .before .before .if1 .left)) (c .numbers-fit .ensures),
-      λ t. served-none (a .e) (a .met .now) (a .paths .now) (p .6),
+      λ t. fresh-next (a .e) (a .met .now) (a .paths .now) (p .6),
     )
 
 few-edges-requires : tie.Need-few-edges-requires
@@ -84,7 +83,7 @@ returns-4 c =
     let h = c .before .before .if3 .left in
     let q = c .before .before .before .few-edges .ensures in (
       boundary-face (a .elements .now) (a .at) (a .n) (a .d) (a .e) (a .rank) (p .0) (p .1) (f .if2 .left) (lt-ltb _ _ (f .before .if1 .left)) (let z : few (a .d) < a .n = omega (arith, h, q) in z) (c .face-fits .ensures .0),
-      λ t. record { counted = unmet-above (stampOf (a .e)) (stampOf (a .e) + 2) (a .met .now) (omega arith) (p .6 .counted); joined = c .face-fits .ensures .1 t },
+      λ t. record { counted = stamp-next (a .e) (a .met .now) (p .6 .counted); joined = c .face-fits .ensures .1 t },
     )
 
 pub boundary-sound-spec : {M : Type 1} → statement M

@@ -1,5 +1,5 @@
 -- The numbers that are left fit exactly when all do, until one does not; the ends of those before are met.
-use Prim.Native.Nat.{ℕ, _-_, _≤_}
+use Prim.Native.Nat.{ℕ, _+_, _-_, _≤_}
 use mathlib.Core.Bool.{false≢true}
 use mathlib.Core.Path.{_≡_, sym, subst, _∙_}
 use native.Mathlib.Omega.{arith}
@@ -11,7 +11,7 @@ use Rattle.space.proofs.EndsCounted.{Round, round-start, round-few, round-out}
 use Rattle.soundness.specs.Words.{numbersFit, stampOf}
 use Rattle.soundness.proofs.BoundaryFits.{left, fits-start, fits-go, fits-no, fits-end}
 use Rattle.soundness.proofs.BoundaryLoops.{number-ends, number-low}
-use Rattle.soundness.proofs.FaceLoops.{few-go, few-end}
+use Rattle.soundness.proofs.FaceLoops.{few-go, few-end, unmet-above}
 use Rattle.soundness.proofs.OnePass.{no-first}
 use Rattle.soundness.proofs.boundaries.few_fits.Statement.{statement}
 use Rattle.soundness.proofs.boundaries.few_fits.Tie as tie
@@ -105,7 +105,7 @@ returns-2 c =
     let e : at .i ≡ a .to = omega (arith, at .inv .1, c .loop-test .left) in (
       few-end (a .elements .now) (a .from) (a .to) (a .e) (p .2) (at .met) (at .twice) (at .i) (stampOf (a .e)) (at .inv .4) e (p .5)
           (fits-end (a .elements .now) (a .to) (a .e) 2 (p .2) (at .low) (at .i) (at .inv .3) (c .loop-test .left)),
-      λ t. round-out _ _ (stampOf (a .e)) (at .met) _ _ (at .inv .4),
+      λ t. unmet-above (stampOf (a .e) + 2) (stampOf (a .e + 1)) (at .met) (omega arith) (round-out _ _ (stampOf (a .e)) (at .met) _ _ (at .inv .4)),
     )
 
 pub few-fits-spec : {M : Type 1} → statement M

@@ -5,7 +5,7 @@ use native.Mathlib.Omega.{arith}
 use lib.ListN.{take, drop}
 use Rattle.rules.specs.Limits.{desk}
 use Rattle.soundness.specs.Words.{polytopeWords}
-use Rattle.soundness.proofs.FaceLoops.{served-none}
+use Rattle.soundness.proofs.FaceLoops.{fresh-next}
 use Rattle.soundness.proofs.sound.polytope_sound.Statement.{statement}
 use Rattle.soundness.proofs.sound.polytope_sound.Tie as tie
 
@@ -18,7 +18,7 @@ returns : tie.Need-returns
 returns c =
     let a = c .before .before .before .before .args in (
       c .edge-sound .ensures .0 (a .d) ∙ ap (λ (r : ℕ). polytopeWords desk (a .elements .now) (a .d) (a .e) r (take 36 (drop (a .e * 36) (a .elements .now)))) (sym (c .before .before .if1 .taken)),
-      λ t. served-none (a .e) (a .met .now) (a .paths .now) (c .before .before .before .before .pre .3),
+      λ t. fresh-next (a .e) (a .met .now) (a .paths .now) (c .before .before .before .before .pre .3),
       c .edge-sound .ensures .1,
     )
 

@@ -25,18 +25,15 @@ Inv-loop elements d n v h index₀ past met₀ paths₀ seen₀ k₀ i₀ index 
 abbrev μ-loop : tie.MeasureT-loop
 μ-loop elements d n v h index₀ past met₀ paths₀ seen₀ k₀ i₀ index met paths seen k i = n - i
 
--- where the function began, where a row is taken up, and where it was found to be sound, to have served, and to be new
+-- where the function began, where a row is taken up, and where it was found to be sound
 abbrev start : tie.At-loop Inv-loop μ-loop → tie.Start Inv-loop μ-loop
 start c = c .before .before .before .before
 
 abbrev taken-up : tie.After-row-sound Inv-loop μ-loop → tie.In-loop Inv-loop μ-loop
 taken-up c = c .before .before .before .before .before
 
-abbrev tested : tie.After-pass-on Inv-loop μ-loop → tie.Else1 Inv-loop μ-loop
+abbrev tested : tie.After-row-new Inv-loop μ-loop → tie.Else1 Inv-loop μ-loop
 tested c = c .before .before
-
-abbrev served : tie.After-row-new Inv-loop μ-loop → tie.After-pass-on Inv-loop μ-loop
-served c = c .before .before
 
 past-mask-requires : tie.Need-past-mask-requires Inv-loop μ-loop
 past-mask-requires c κs = search needs
@@ -72,12 +69,9 @@ returns c =
     let a = start (f .before) .args in
     (no-first _ _ (pass-no (a .elements .now) (a .d) (a .n) (a .v) (a .h) (blank (at .seen)) (at .k) (at .i) (at .inv .3) (f .loop-test .taken) (sym (c .before .row-sound .ensures .0) ∙ not-true _ (c .if1 .taken))), λ e. absurd (false≢true e))
 
-pass-on-requires : tie.Need-pass-on-requires Inv-loop μ-loop
-pass-on-requires c κs = let e = c .before in e .before .row-sound .ensures .1 (not-false _ (e .if1 .left)) .counted
-
 row-new-requires : tie.Need-row-new-requires Inv-loop μ-loop
 row-new-requires c κs =
-    let f = taken-up (tested (c .before) .before) in
+    let f = taken-up (c .before .before) in
     let p = start (f .before) .pre in
     (omega (arith, p .0, f .loop-test .taken), p .1, f .before .loop .inv .8)
 
@@ -87,7 +81,7 @@ same-length-2 c = search needs
 returns-2 : tie.Need-returns-2 Inv-loop μ-loop
 returns-2 c =
     let w = c .before .before .before in
-    let f = taken-up (tested (served w) .before) in
+    let f = taken-up (tested w .before) in
     let at = f .before .loop in
     let a = start (f .before) .args in
     (no-second (rowsInUse desk (a .d) (a .n) (a .v) (a .h) (a .elements .now)) _ (sym (apart-is (a .elements .now) (a .n)) ∙ apart-no (a .elements .now) (a .n) (at .i) (f .loop-test .taken) (sym (w .row-new .ensures .0) ∙ not-true _ (c .if2 .taken))), λ e. absurd (false≢true e))
@@ -110,7 +104,7 @@ loop-less c = search needs
 loop-again : tie.Need-loop-again Inv-loop μ-loop
 loop-again c =
     let w = c .before .before .before .before in
-    let e = tested (served w) in
+    let e = tested w in
     let r = e .before in
     let f = taken-up r in
     let at = f .before .loop in
@@ -125,7 +119,7 @@ loop-again c =
       at .inv .2,
       pass-go (a .elements .now) (a .d) (a .n) (a .v) (a .h) (blank (at .seen)) _ (at .k) (at .i) _ (at .inv .3) (f .loop-test .taken) sound (gathered .clear) (c .one-if-corner .ensures .0),
       edges-on (a .elements .now) (at .i) (a .d) (a .h) (p .1) (omega (arith, p .0, f .loop-test .taken)) (row-head (a .elements .now) (a .d) (a .h) (at .k) (at .i) _ sound) (row-element (a .elements .now) (a .d) (a .h) (at .k) (at .i) _ sound) (at .inv .4),
-      record { counted = served w .pass-on .ensures; joined = r .row-sound .ensures .1 yes .joined },
+      r .row-sound .ensures .1 yes,
       gathered .long,
       apart-go (a .elements .now) (at .i) (at .inv .7) (sym (w .row-new .ensures .0) ∙ new),
       w .row-new .ensures .1 new,
@@ -171,7 +165,6 @@ rows-in-use-spec =
     row-sound-requires
     same-length
     returns
-    pass-on-requires
     row-new-requires
     same-length-2
     returns-2
