@@ -47,8 +47,10 @@ const OUTCOMES: [(&str, &[&str]); 9] = [
 ];
 
 /// What the edges of the one face make for which a call is refused, which a run has to meet too. A cut seldom meets the
-/// last.
-const FACES: [(&str, &[&str]); 2] = [("is_sound", &SHAPES), ("cut", SHAPES.split_at(10).0)];
+/// last. Before order 4 two rings, and a pair of edges beside a ring, were taken.
+const FACES: [(&str, &[&str]); 3] =
+    [("is_sound", &SHAPES), ("cut", SHAPES.split_at(10).0), (TAKEN_BEFORE, SHAPES.split_at(3).0)];
+const TAKEN_BEFORE: &str = "cut, taken before order 4";
 
 type Counts = BTreeMap<(&'static str, String), u64>;
 
@@ -134,6 +136,9 @@ fn compare_call(call: &Call, pair: &mut Pair, room: &[u16], met: &mut Met) -> Re
         *met.outcomes.entry((call.name(), call.outcome(by_model))).or_default() += 1;
         if let Some(edges) = call.refused_face(&pair.model, by_model) {
             *met.faces.entry((call.name(), shape(&edges))).or_default() += 1;
+            if call.was_taken(&pair.model) {
+                *met.faces.entry((TAKEN_BEFORE, shape(&edges))).or_default() += 1;
+            }
         }
         return Ok(());
     }

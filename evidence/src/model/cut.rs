@@ -46,6 +46,11 @@ pub fn refused_face(table: &Table, divider: Hyperplane, kept: Kept, root: u16) -
     cut.refused_face
 }
 
+/// Whether such a cut was taken before order 4.
+pub fn was_taken(table: &Table, divider: Hyperplane, kept: Kept, root: u16) -> bool {
+    Cut { is_face: Table::meets_each_corner_twice, ..Cut::new(table, divider, kept) }.root(root).is_ok()
+}
+
 fn given_on(inside: bool, element: u16) -> Answer {
     Answer::NonFlush { inside: inside.then_some(element), outside: (!inside).then_some(element), intersection: None }
 }
@@ -56,6 +61,8 @@ struct Cut {
     /// The divider's number.
     hyperplane: u16,
     kept: Kept,
+    /// Test 7 of a face.
+    is_face: fn(&Table, &[u16]) -> bool,
     refused_face: Option<Vec<[u16; 2]>>,
 }
 
@@ -83,7 +90,7 @@ impl Gathered {
 
 impl Cut {
     fn new(table: &Table, divider: Hyperplane, kept: Kept) -> Self {
-        Self { table: table.clone(), divider, hyperplane: 0, kept, refused_face: None }
+        Self { table: table.clone(), divider, hyperplane: 0, kept, is_face: Table::is_one_ring, refused_face: None }
     }
 
     fn root(&mut self, root: u16) -> Result<Answer, Refusal> {
@@ -223,7 +230,7 @@ impl Cut {
         if new.rank == 1 && new.boundary.len() != 2 {
             return Err(7);
         }
-        if new.rank == 2 && !self.table.is_one_ring(&new.boundary) {
+        if new.rank == 2 && !(self.is_face)(&self.table, &new.boundary) {
             self.refused_face = Some(self.table.ends(&new.boundary));
             return Err(7);
         }

@@ -94,6 +94,12 @@ impl Table {
         left.is_empty()
     }
 
+    /// What a face was before order 4: each corner lies on exactly two of the edges.
+    pub fn meets_each_corner_twice(&self, edges: &[u16]) -> bool {
+        let ends = self.ends(edges).concat();
+        ends.iter().all(|end| ends.iter().filter(|other| *other == end).count() == 2)
+    }
+
     /// The two corners of each edge.
     pub fn ends(&self, edges: &[u16]) -> Vec<[u16; 2]> {
         edges.iter().map(|&edge| self.boundary(edge)).map(|ends| [ends[0], ends[1]]).collect()
