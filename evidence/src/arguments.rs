@@ -7,7 +7,7 @@ use crate::random::Random;
 
 pub fn cut(r: &mut Random, table: Option<&Table>) -> Call {
     let divider = dividers::divider(r, table);
-    let [inside, outside] = [0; 2].map(|_| r.pick(&[0, 1, 1, 1, 2, 255]));
+    let [inside, outside] = [0; 2].map(|_| r.pick(&[0, 0, 1, 1, 2, 255]));
     Call::Cut { divider, inside, outside, root: cut_root(r, table) }
 }
 

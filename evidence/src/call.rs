@@ -26,8 +26,7 @@ impl Call {
             Call::IsSound => done_word(lent.table().map(|_| ())),
             Call::Cube { dimension, radius } => done_word(cube::with_primordial_cube_radius(lent, *dimension, *radius)),
             Call::Cut { divider, inside, outside, root } => {
-                let kept = Kept { inside: *inside != 0, outside: *outside != 0 };
-                cut_word(cut::cut(lent, *divider, kept, *root))
+                cut_word(cut::cut(lent, *divider, kept(*inside, *outside), *root))
             }
             Call::SubElements { root } => list_word(questions::subelements_of(lent, *root, room)),
             Call::WithRank { root, rank } => list_word(questions::subelements_with_rank(lent, *root, *rank, room)),
@@ -84,6 +83,31 @@ impl Call {
             (number, _) => format!("refused {number}"),
         }
     }
+
+    /// The edges, by their ends, of the face for which alone the call is refused, a table's or one that a cut would add.
+    pub fn refused_face(&self, lent: &Lent, word: u64) -> Option<Vec<[u16; 2]>> {
+        match (word as u8, self) {
+            (3, Call::IsSound) => lent.face_of_no_ring(),
+            (7, Call::Cut { divider, inside, outside, root }) => {
+                cut::refused_face(lent.table().ok()?, *divider, kept(*inside, *outside), *root)
+            }
+            _ => None,
+        }
+    }
+
+    /// Whether this is a cut that was taken before order 4.
+    pub fn was_taken(&self, lent: &Lent) -> bool {
+        match (lent.table(), self) {
+            (Ok(table), Call::Cut { divider, inside, outside, root }) => {
+                cut::was_taken(table, *divider, kept(*inside, *outside), *root)
+            }
+            _ => false,
+        }
+    }
+}
+
+fn kept(inside: u8, outside: u8) -> Kept {
+    Kept { inside: inside != 0, outside: outside != 0 }
 }
 
 fn answer_outcome(answer: Answer) -> String {

@@ -53,6 +53,9 @@ pub fn divider(r: &mut Random, table: Option<&Table>) -> Hyperplane {
 }
 
 fn divider_of(r: &mut Random, table: &Table) -> Hyperplane {
+    if let Some(last) = table.hyperplanes.last().filter(|_| r.one_in(8)) {
+        return *last;
+    }
     if !table.hyperplanes.is_empty() && r.one_in(5) {
         let earlier = r.pick(&table.hyperplanes);
         return beside(r, earlier);

@@ -6,6 +6,7 @@ use crate::model::table::Table;
 use crate::random::Random;
 use crate::strange;
 use crate::taken_apart;
+use crate::two_rings;
 
 /// What a memory was made as.
 #[derive(Clone, Copy, Debug, PartialEq, Eq)]
@@ -15,6 +16,7 @@ pub enum Kind {
     Session,
     Strange,
     TakenApart,
+    TwoRings,
     Broken,
 }
 
@@ -30,6 +32,11 @@ pub fn kind(r: &mut Random) -> Kind {
         Kind::Strange,
         Kind::Strange,
         Kind::Strange,
+        Kind::Strange,
+        Kind::TwoRings,
+        Kind::TwoRings,
+        Kind::TwoRings,
+        Kind::Broken,
         Kind::Broken,
     ])
 }
@@ -41,6 +48,7 @@ pub fn memory(r: &mut Random, kind: Kind) -> Memory {
         Kind::Session => cube(r),
         Kind::Strange => memory::write(&strange::table(r)),
         Kind::TakenApart => memory::write(&taken_apart::any(r)),
+        Kind::TwoRings => memory::write(&two_rings::any(r)),
         Kind::Broken => memory::write(&strange::broken(r)),
     }
 }
@@ -51,7 +59,7 @@ pub fn steps(r: &mut Random, kind: Kind) -> usize {
     match kind {
         Kind::RandomWords | Kind::OtherLengths | Kind::Broken => r.from_to(1, 2),
         Kind::Session if r.one_in(1000) => 100,
-        Kind::Session | Kind::Strange | Kind::TakenApart => r.from_to(1, 7),
+        Kind::Session | Kind::Strange | Kind::TakenApart | Kind::TwoRings => r.from_to(1, 7),
     }
 }
 

@@ -1,24 +1,23 @@
-//! Strange sound tables: rings in any order, several rings in one face, solids that do not close, corners that coincide,
-//! vertex elements among the others, rooms that are nearly full. Soundness asks for nothing geometric. And tables that
-//! one entry keeps from being sound.
+//! Strange sound tables: rings in any order, solids that do not close, corners that coincide, vertex elements among the
+//! others, rooms that are nearly full. Soundness asks for nothing geometric. And tables that one entry keeps from being
+//! sound.
 
 use crate::dividers;
 use crate::model::floats::{Hyperplane, Point};
 use crate::model::table::{Element, Polytope, Table, BOUNDARY_ROOM, ELEMENT_ROOM, HYPERPLANE_ROOM, VERTEX_ROOM};
+use crate::no_rings;
 use crate::random::Random;
 use std::f64::consts::TAU;
 
-/// A table of any dimension that is built to be sound. Where the two edges of a ring of two come out equal it is not.
+/// A table of any dimension that is built to be sound.
 pub fn table(r: &mut Random) -> Table {
     if r.one_in(15) {
         return spike(r);
     }
     let dimension = r.from_to(1, 4);
-    let mut table = empty(dimension);
-    let planes = table.primordial_hyperplanes() + r.below(3) + usize::from(dimension == 1);
-    add_hyperplanes(r, &mut table, planes);
+    let mut table = with_hyperplanes(r, dimension);
     add_elements(r, &mut table);
-    if r.one_in(16) {
+    if r.one_in(10) {
         fill_a_room(r, &mut table);
     }
     table
@@ -28,20 +27,28 @@ pub(crate) fn empty(dimension: usize) -> Table {
     Table { dimension, vertices: vec![], hyperplanes: vec![], elements: vec![] }
 }
 
-/// A face of two rings, 32 edges, where the last hyperplanes take a spike off one ring and meet a corner of the other on
-/// its way: the new face would have 33 edges and be open, so both 11 and 7 hold.
+/// As many hyperplanes as it has to have, or a few more, and no elements.
+pub(crate) fn with_hyperplanes(r: &mut Random, dimension: usize) -> Table {
+    let mut table = empty(dimension);
+    let planes = table.primordial_hyperplanes() + r.below(3) + usize::from(dimension == 1);
+    add_hyperplanes(r, &mut table, planes);
+    table
+}
+
+/// A face of 32 edges where the last hyperplanes take a spike off and meet another corner on their way: the new face would
+/// have 33 edges, four of them at that corner, so both 11 and 7 hold.
 fn spike(r: &mut Random) -> Table {
     let mut table = empty(2);
     add_hyperplanes(r, &mut table, 4);
     table.hyperplanes.extend([Hyperplane { normal: [1.0, 0.0, 0.0, 0.0], distance: 1.5 }; 4]);
     let neighbour = 0.5f64.atan2(1.0);
     let turn = |place: usize| neighbour + (TAU - 2.0 * neighbour) * place as f64 / 26.0;
-    let mut body: Vec<Point> = (0..27).map(|place| [turn(place).cos(), turn(place).sin(), 0.0, 0.0]).collect();
-    (body[0], body[26]) = ([1.0, 0.5, 0.0, 0.0], [1.0, -0.5, 0.0, 0.0]);
-    body.push([2.0, 0.0, 0.0, 0.0]);
-    let mut edges = add_ring(r, &mut table, &body);
-    let other = [[1.5, 0.25], [0.0, 0.0], [0.25, -0.25], [0.5, -0.25]].map(|[x, y]| [x, y, 0.0, 0.0]);
-    edges.extend(add_ring(r, &mut table, &other));
+    let mut ring: Vec<Point> = (0..27).map(|place| [turn(place).cos(), turn(place).sin(), 0.0, 0.0]).collect();
+    (ring[0], ring[26]) = ([1.0, 0.5, 0.0, 0.0], [1.0, -0.5, 0.0, 0.0]);
+    ring.push([2.0, 0.0, 0.0, 0.0]);
+    let on_their_way = [[1.5, 0.25], [0.0, 0.0], [0.25, -0.25], [0.5, -0.25]].map(|[x, y]| [x, y, 0.0, 0.0]);
+    ring.splice(13..13, on_their_way);
+    let edges = add_ring(r, &mut table, &ring);
     add(r, &mut table, 2, edges);
     table
 }
@@ -53,7 +60,7 @@ pub(crate) fn add_hyperplanes(r: &mut Random, table: &mut Table, count: usize) {
     }
 }
 
-fn add_elements(r: &mut Random, table: &mut Table) {
+pub(crate) fn add_elements(r: &mut Random, table: &mut Table) {
     let rings = r.pick(&[0, 1, 1, 1, 2, 5, 6]);
     let faces: Vec<Option<u16>> = (0..rings).map(|_| add_face(r, table)).collect();
     let mut below: Vec<u16> = faces.into_iter().flatten().collect();
@@ -62,31 +69,40 @@ fn add_elements(r: &mut Random, table: &mut Table) {
     }
 }
 
-/// One ring, or two that share no corner; in one dimension only their edges.
+/// A ring, its edges in any order; in one dimension only the edges.
 fn add_face(r: &mut Random, table: &mut Table) -> Option<u16> {
-    let size = if r.one_in(12) { r.from_to(BOUNDARY_ROOM - 1, BOUNDARY_ROOM) } else { r.from_to(3, 6) };
-    let mut edges = add_round_ring(r, table, size);
-    if r.one_in(5) && size < BOUNDARY_ROOM - 4 {
-        let other = if table.dimension == 2 { r.from_to(2, 4) } else { 3 };
-        edges.extend(add_round_ring(r, table, other));
-    }
+    let sizes = [r.from_to(3, 6), r.from_to(7, 12), r.from_to(BOUNDARY_ROOM - 1, BOUNDARY_ROOM)];
+    let size = sizes[r.pick(&[0, 0, 0, 0, 0, 0, 0, 0, 0, 1, 1, 2])];
+    let corners = add_new_corners(r, table, size);
+    let mut ends = round_of(&corners);
+    r.shuffle(&mut ends);
+    let edges = add_edges_between(r, table, ends);
     Some(edges).filter(|_| table.dimension > 1).and_then(|edges| add(r, table, 2, edges))
 }
 
 /// Corners in order, or in any order, so that edges cross.
-fn add_round_ring(r: &mut Random, table: &mut Table, size: usize) -> Vec<u16> {
+pub(crate) fn add_new_corners(r: &mut Random, table: &mut Table, size: usize) -> Vec<u16> {
     let mut points = round(r, size);
     if r.one_in(3) {
         r.shuffle(&mut points);
     }
-    add_ring(r, table, &points)
+    points.iter().map(|point| add_corner(table, point)).collect()
 }
 
-/// New corners and the edges from each to the next; a ring of two has two edges only where facts tell them apart.
+/// Of two edges with the same ends the second is there only where facts tell it apart.
+pub(crate) fn add_edges_between(r: &mut Random, table: &mut Table, ends: Vec<Vec<u16>>) -> Vec<u16> {
+    ends.into_iter().filter_map(|ends| add(r, table, 1, ends)).collect()
+}
+
+/// New corners and the edges from each to the next.
 pub(crate) fn add_ring(r: &mut Random, table: &mut Table, points: &[Point]) -> Vec<u16> {
     let corners: Vec<u16> = points.iter().map(|point| add_corner(table, point)).collect();
-    let ends = (0..corners.len()).map(|place| vec![corners[place], corners[(place + 1) % corners.len()]]);
-    ends.filter_map(|ends| add(r, table, 1, ends)).collect()
+    add_edges_between(r, table, round_of(&corners))
+}
+
+/// The ends of the edges from each corner to the next.
+pub(crate) fn round_of(corners: &[u16]) -> Vec<Vec<u16>> {
+    (0..corners.len()).map(|place| vec![corners[place], corners[(place + 1) % corners.len()]]).collect()
 }
 
 /// Corners on a circle of some radius, moved and tilted by whole numbers.
@@ -98,7 +114,7 @@ fn round(r: &mut Random, size: usize) -> Vec<Point> {
     (0..size).map(|place| point(turn(place))).collect()
 }
 
-fn add_corner(table: &mut Table, point: &Point) -> u16 {
+pub(crate) fn add_corner(table: &mut Table, point: &Point) -> u16 {
     let mut vertex = [0.0; 4];
     vertex[..table.dimension].copy_from_slice(&point[..table.dimension]);
     table.vertices.push(vertex);
@@ -184,6 +200,9 @@ fn add_edges(r: &mut Random, table: &mut Table, count: usize) {
 
 /// A strange table with one thing more, which breaks a line of "sound" or, now and then, none.
 pub fn broken(r: &mut Random) -> Table {
+    if r.one_in(2) {
+        return no_rings::table(r);
+    }
     let mut table = table(r);
     match r.below(9) {
         0 => table.vertices.push([1.0, 0.0, 0.0, 0.0]),
@@ -196,7 +215,7 @@ pub fn broken(r: &mut Random) -> Table {
     table
 }
 
-/// In two dimensions it may be closed, and only its count is too small.
+/// In two dimensions it may be one ring, and only its count is too small.
 fn add_face_of_two(r: &mut Random, table: &mut Table) {
     let points = round(r, 2);
     let boundary = add_ring(r, table, &points);

@@ -6,7 +6,7 @@ use crate::model::table::Table;
 use crate::random::Random;
 use crate::strange::{add, add_hyperplanes, add_ring, empty};
 
-const LAST: Hyperplane = Hyperplane { normal: [0.6, 0.8, 0.0, 0.0], distance: 0.0 };
+pub const LAST: Hyperplane = Hyperplane { normal: [0.6, 0.8, 0.0, 0.0], distance: 0.0 };
 
 /// Corners by their signed distance from the last hyperplane, and how far along it they lie.
 pub type Ring = Vec<[f64; 2]>;
@@ -67,6 +67,6 @@ pub fn solid(r: &mut Random, rings: [Ring; 4]) -> Table {
     table
 }
 
-fn point(s: f64, along: f64) -> Point {
+pub(crate) fn point(s: f64, along: f64) -> Point {
     [0.6 * s - 0.8 * along, 0.8 * s + 0.6 * along, 0.0, 0.0]
 }

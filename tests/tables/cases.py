@@ -148,6 +148,14 @@ breaks("face closed", "one on four", "bow tie", added(11, polytope(2, range(5, 1
 breaks("face closed", "three edges of one pair", "digon", added(5, polytope(2, [2, 3, 4])))
 breaks("face closed", "a triangle and an edge", "triangles", added(12, polytope(2, [6, 7, 8, 9])))
 breaks("face closed", "three loose edges", "ring", added(65, polytope(2, [32, 34, 36])))
+breaks("face closed", "two triangles as one face", "triangles", added(12, polytope(2, range(6, 12))))
+breaks("face closed", "two triangles as one facet", "triangles 3", added(12, polytope(2, range(6, 12), 0)))
+breaks("face closed", "two digons as one face", "digon", count(VERTICES_IN_USE, 4), [
+    *added(5, [0, 0, NO_PLANE, 1, 2]), *added(6, [0, 0, NO_PLANE, 1, 3]),
+    *added(7, edge(5, 6, 0)), *added(8, edge(5, 6, 1)), *added(9, polytope(2, [2, 3, 7, 8])),
+])  # fmt: skip
+DIGON_TOO = [added(12, edge(3, 4, 1)), added(13, polytope(2, [6, 7, 8, 9, 12]))]
+breaks("face closed", "a triangle and a digon as one face", "triangles", *DIGON_TOO)
 
 # ---- the fourth: hyperplane and mark
 
@@ -226,14 +234,6 @@ sound("a ring of 32 edges, vertices coincident", "ring")
 sound("four triangles in two dimensions", "tetrahedron")
 sound("edges unlike in the hyperplane alone", "digon")
 sound("edges unlike in the mark alone", "digon", added(5, edge(0, 1, 0, 1)))
-sound("two triangles as one face", "triangles", added(12, polytope(2, range(6, 12))))
-sound("two triangles as one facet", "triangles 3", added(12, polytope(2, range(6, 12), 0)))
-sound("two digons as one face", "digon", count(VERTICES_IN_USE, 4), [
-    *added(5, [0, 0, NO_PLANE, 1, 2]), *added(6, [0, 0, NO_PLANE, 1, 3]),
-    *added(7, edge(5, 6, 0)), *added(8, edge(5, 6, 1)), *added(9, polytope(2, [2, 3, 7, 8])),
-])  # fmt: skip
-DIGON_TOO = [added(12, edge(3, 4, 1)), added(13, polytope(2, [6, 7, 8, 9, 12]))]
-sound("a triangle and a digon as one face", "triangles", *DIGON_TOO)
 sound("edges to a corner after an edge", "late corner", added(4, edge(0, 3)), added(5, edge(1, 3)))
 sound("a body of four faces, not closed", "cube 3", added(27, polytope(3, [8, 17, 20, 23])))
 sound("five bodies in four dimensions", "cube 4", *BODIES)

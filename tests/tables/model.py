@@ -61,11 +61,19 @@ def is_facet(row, d):
 
 
 def is_closed(elements, edges):
-    """Each vertex met lies on exactly two edges. It is asked of edges only."""
+    """The edges make one ring: each vertex met lies on exactly two, and they hang together. It is asked of edges only."""
     if any(e >= len(elements) or elements[e][RANK] != 1 for e in edges):
         return True
     ends = [boundary(elements[e]) for e in edges]
-    return all(sum(v in pair for pair in ends) == 2 for v in {v for pair in ends for v in pair})
+    met = {v for pair in ends for v in pair}
+    if not all(sum(v in pair for pair in ends) == 2 for v in met):
+        return False
+    reached = set(ends[0]) if ends else set()
+    for _ in ends:
+        for pair in ends:
+            if reached & set(pair):
+                reached |= set(pair)
+    return reached == met
 
 
 def broken_by_corner(row):

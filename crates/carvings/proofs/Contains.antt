@@ -5,33 +5,35 @@ use mathlib.Core.Bool.{Bool, true, false}
 use mathlib.Core.List.{List, [], _∷_, _++_, map, append-assoc}
 use mathlib.Core.Option.{Option, none, some}
 use mathlib.Core.Path.{_≡_, refl, ap, sym, _∙_, subst}
-use native.Mathlib.Nat.{le-refl, le-trans, zero-add}
+use native.Mathlib.Nat.{le-refl, le-trans, zero-add, le-of-lt, suc-inj}
 use native.Mathlib.Omega.{arith}
-use lib.Dec.{ltb, leb}
+use lib.Dec.{ltb, leb, eqb}
 use lib.Ieee.{Float}
 use lib.ListN.{length}
 use Rattle.rules.specs.Limits.{Limits}
-use Rattle.rules.specs.Lists.{if_then_else_, find, rises}
+use Rattle.rules.specs.Lists.{if_then_else_, find, rises, member}
 use Rattle.rules.specs.Floats.{pointMatches}
-use Rattle.rules.specs.Table.{Element, corner, polytope, Table, element, elementCount, boundaryOf, sameElement}
+use Rattle.rules.specs.Table.{Element, corner, polytope, Table, element, elementCount, boundaryOf, sameElement, rank, boundary}
 use Rattle.rules.specs.Sound.{closed}
 use Rattle.rules.specs.Cut.{Outcome, done, refused, give, Step, next, withPoint, addElement, addPolytope, shareVertex, addVertex, given, withElement, shareElement}
 use Rattle.rules.specs.Held.{Begins, Extends}
-use Rattle.carvings.specs.Renumbered.{renumbered}
+use Rattle.carvings.specs.Renumbered.{renumbered, image}
 use Rattle.rules.specs.declared.ElementOrNone.{ElementOrNone}
 use Rattle.rules.specs.declared.ElementOrNone.the-variants.{None}
+use Rattle.rules.proofs.Apart.{distinct-apart}
 use Rattle.rules.proofs.Built.{After, Builds}
 use Rattle.carvings.proofs.ClosedIn.{closed-in}
 use Rattle.carvings.proofs.Crossings.{Points, stay, shared, pointsWith, Moves, Moved, add-element}
 use Rattle.carvings.proofs.EachInOther.{no-more}
-use Rattle.carvings.proofs.Embeds.{added, was-there, done-value, Embeds, Grown, element-grown, good-apart, embeds-new, sending, not-there}
+use Rattle.carvings.proofs.Embeds.{added, was-there, done-value, Embeds, Grown, element-grown, embeds-new, sending, not-there}
 use Rattle.rules.proofs.Extends.{Below, begins-trans, extends-trans, grown-point, begins-length}
+use Rattle.rules.proofs.FaceEdges.{of-all, Two, edge-two}
 use Rattle.rules.proofs.Fine.{Fine}
-use Rattle.rules.proofs.Good.{Good}
+use Rattle.rules.proofs.Good.{Good, good-sound, whole-at}
 use Rattle.rules.proofs.Growing.{find-found, find-new, length-snoc}
 use Rattle.carvings.proofs.Images.{image-length}
 use Rattle.rules.proofs.LaterAppends.{polytopeBy}
-use Rattle.rules.proofs.Laws.{le-test, test-le, not-le}
+use Rattle.rules.proofs.Laws.{le-test, test-le, not-le, eq-test}
 use Rattle.carvings.proofs.LeftAsIs.{left-next, Poly, few, one, poly}
 use Rattle.rules.proofs.Selves.{point-self}
 use Rattle.carvings.proofs.SideBySide.{SetIs, OneIs}
@@ -126,7 +128,7 @@ module _ (L : Limits) (T B : Table) (fine : Fine T) (good : Good L B) (on : Exte
           → (i : ℕ) × (u : Table) × ((if c then done (elementCount t) (withElement y t) else refused 9) ≡ done i u)
       room true e q = (elementCount t, withElement y t, refl)
       room false e q =
-          let em′ = embeds-new T B (good-apart L B good) t f em y ry by (not-there y t q) j lj ej in
+          let em′ = embeds-new T B (distinct-apart B (good .apart)) t f em y ry by (not-there y t q) j lj ej in
           let n = no-more (sending (elementCount t) j f) (elementCount (withElement y t)) (elementCount B) (em′ .used) (em′ .once) in
           let long : elementCount (withElement y t) ≡ suc (elementCount t) = length-snoc (t .elements) y in
           let r = le-test (elementCount B) (L .elements) (good .elementRoom) in
@@ -147,7 +149,7 @@ module _ (L : Limits) (T B : Table) (fine : Fine T) (good : Good L B) (on : Exte
         after = w .1;
         runs = w .2;
         points = m .points;
-        grown = element-grown T B (good-apart L B good) t f em y ry by (w .0) (w .1) (added L y t (w .0) (w .1) (w .2)) j lj ej;
+        grown = element-grown T B (distinct-apart B (good .apart)) t f em y ry by (w .0) (w .1) (added L y t (w .0) (w .1) (w .2)) j lj ej;
       }
 
   pub poly-went : (t : Table) (f : ℕ → ℕ) → Embeds T B t f → (r : ℕ) (b b′ : List ℕ) (h : Option ℕ) (m : Bool) → SetIs f (elementCount t) b b′
@@ -161,6 +163,15 @@ module _ (L : Limits) (T B : Table) (fine : Fine T) (good : Good L B) (on : Exte
       tests : (x y z : Bool) → leb (length b) r ≡ x → ltb (L .boundary) (length b) ≡ y → closed t r b ≡ z
           → polytopeBy L r b h m (leb (length b) r) (ltb (L .boundary) (length b)) (closed t r b) t ≡ polytopeBy L r b h m x y z t
       tests x y z p q o = λ k. polytopeBy L r b h m (p k) (q k) (o k) t
+
+      -- in B the face is there, so its edges have two ends each
+      sides : (i : ℕ) → i < elementCount B → element B i ≡ polytope r b′ h m → r ≡ 2 → (x : ℕ) → member x (image f b) ≡ true → Two (boundary B x)
+      sides i l e q x k =
+          let g = whole-at L B i r b′ h m good l e .bound in
+          let k′ : member x b′ ≡ true = subst (λ (l : List ℕ). member x l ≡ true) (sym (s .is)) k in
+          let under = le-test (suc x) i (of-all (λ y. ltb y i) b′ x (g .under) k′) in
+          let ranked = eq-test (suc (rank B x)) r (of-all (λ y. eqb (suc (rank B y)) r) b′ x (g .ranks) k′) in
+          edge-two L B (good-sound L B good) x (le-trans under (le-of-lt l)) (suc-inj (ranked ∙ q))
 
       go : Poly L r b′ h m B a′ B → Went (t .points) t f (addPolytope L r b h m t) (λ a u g. OneIs g (elementCount u) a a′)
       go (few q n v) = record {
@@ -178,7 +189,7 @@ module _ (L : Limits) (T B : Table) (fine : Fine T) (good : Good L B) (on : Exte
             value = given (z .value);
             after = z .after;
             runs = tests false false true (ap (λ (k : ℕ). leb k r) (sym long) ∙ q) (ap (λ (k : ℕ). ltb (L .boundary) k) (sym long) ∙ q₂)
-                (closed-in T B t f em r b (s .rising) (s .under) (ap (closed B r) (sym (s .is)) ∙ q₃))
+                (closed-in T B t f em r b (s .rising) (s .under) (sides i (w .0) (w .1)) (ap (closed B r) (sym (s .is)) ∙ q₃))
                 ∙ ap (λ (o : Outcome ℕ). next o (λ k. give (given k))) (z .runs);
             points = z .points;
             grown = grown-as (λ g. (i ≡ g (z .value)) × (z .value < elementCount (z .after))) (λ g. OneIs g (elementCount (z .after)) (given (z .value)) a′)

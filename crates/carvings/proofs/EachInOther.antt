@@ -11,10 +11,11 @@ use lib.ListN.{length}
 use Rattle.rules.specs.Lists.{rises, all, upFrom}
 use Rattle.rules.specs.Table.{Table, element, elementCount}
 use Rattle.carvings.specs.Renumbered.{image, renumbered, Renumbering}
+use Rattle.rules.proofs.Apart.{Apart}
 use Rattle.rules.proofs.Extends.{Below, below-with, count-more}
 use Rattle.carvings.proofs.Images.{image-length, rises-image, renumbered-agree, renumbered-same, renumbered-twice}
 use Rattle.rules.proofs.Laws.{and-true, le-test, test-le, not-le, and-left, and-right}
-use Rattle.carvings.proofs.Embeds.{Apart, Embeds}
+use Rattle.carvings.proofs.Embeds.{Embeds}
 
 -- each element comes back to itself: by induction, its boundary does, and no two elements are equal
 pub comes-back : (T t u : Table) (f g : ℕ → ℕ) → Apart t → Embeds T u t f → Embeds T t u g → (k e : ℕ) → e < k → e < elementCount t → g (f e) ≡ e

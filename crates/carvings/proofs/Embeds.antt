@@ -5,7 +5,7 @@ use mathlib.Core.Bool.{Bool, true, false, false≢true}
 use mathlib.Core.List.{List, [], _∷_}
 use mathlib.Core.Option.{Option, none, some}
 use mathlib.Core.Path.{_≡_, refl, ap, sym, _∙_, subst}
-use native.Mathlib.Nat.{le-refl, le-trans, le-of-lt, lt-irrefl, not-suc-le-zero, le-of-suc-le-suc, zero-add}
+use native.Mathlib.Nat.{le-refl, le-trans, le-of-lt, lt-irrefl, not-suc-le-zero, le-of-suc-le-suc}
 use native.Mathlib.Omega.{arith}
 use lib.Dec.{ltb, eqb}
 use lib.ListN.{length, getD}
@@ -17,27 +17,16 @@ use Rattle.rules.specs.Sound.{soundElement}
 use Rattle.rules.specs.Cut.{Outcome, done, refused, addElement, shareElement, withElement}
 use Rattle.rules.specs.Held.{Extends}
 use Rattle.carvings.specs.Renumbered.{renumbered}
+use Rattle.rules.proofs.Apart.{Apart}
 use Rattle.rules.proofs.Corners.{good-fine}
 use Rattle.rules.proofs.Extends.{Below, below-more, count-more, extends-refl, extends-trans, grown-element, element-same}
 use Rattle.rules.proofs.Fine.{Index, before-end, at-end, index-of, below-names}
 use Rattle.rules.proofs.Good.{Good, sound-at, whole}
 use Rattle.rules.proofs.Growing.{if-none, length-snoc}
 use Rattle.carvings.proofs.Images.{renumbered-agree, renumbered-once, renumbered-same}
-use Rattle.rules.proofs.Laws.{valueOf, if-true, if-false, eqb-self, not-eq}
-use Rattle.rules.proofs.Missed.{find-own}
+use Rattle.rules.proofs.Laws.{if-true, if-false, eqb-self, not-eq}
 use Rattle.rules.proofs.Selves.{element-self, same-element}
 use Rattle.rules.proofs.Stays.{found-element}
-
--- no two elements are equal
-abbrev pub Apart : Table → Type 0
-Apart t = (e e′ : ℕ) → e < elementCount t → e′ < elementCount t → element t e ≡ element t e′ → e ≡ e′
-
-pub good-apart : (L : Limits) (t : Table) → Good L t → Apart t
-good-apart L t g e e′ l l′ q =
-    let s = find-own sameElement element-self 0 e (t .elements) (corner 0) l (g .apart) in
-    let s′ = find-own sameElement element-self 0 e′ (t .elements) (corner 0) l′ (g .apart) in
-    let z : 0 + e ≡ 0 + e′ = ap valueOf (sym s ∙ ap (λ (y : Element). findFrom 0 (sameElement y) (t .elements)) q ∙ s′) in
-    sym (zero-add e) ∙ z ∙ zero-add e′
 
 -- ---- what adding an element did
 

@@ -14,6 +14,7 @@ use Rattle.rules.proofs.Extends.{Below}
 use Rattle.rules.proofs.FaceEdges.{of-all}
 use Rattle.rules.proofs.Laws.{and-left, and-right, eq-test, eqb-self, le-test, or-left, or-right, or-case, or-false, refute, both-ways}
 use Rattle.rules.proofs.Ranked.{rises-with}
+use Rattle.rules.proofs.Reach.{some-of, any-at}
 
 -- ---- tests
 
@@ -26,19 +27,6 @@ or-swap false false c = refl
 or-again : (a c : Bool) → (a || c) ≡ (a || (a || c))
 or-again true c = refl
 or-again false c = refl
-
-pub some-of : (p : ℕ → Bool) (xs : List ℕ) → any p xs ≡ true → (z : ℕ) × (member z xs ≡ true) × (p z ≡ true)
-some-of p [] h = absurd (false≢true h)
-some-of p (x ∷ xs) h =
-    or-case (p x) (any p xs) h ((z : ℕ) × (member z (x ∷ xs) ≡ true) × (p z ≡ true))
-    (λ e. (x, or-left (eqb x x) (member x xs) (eqb-self x), e))
-    (λ k. let s = some-of p xs k in (s .0, or-right (eqb (s .0) x) (member (s .0) xs) (s .1), s .2))
-
-pub any-at : (p : ℕ → Bool) (xs : List ℕ) (z : ℕ) → member z xs ≡ true → p z ≡ true → any p xs ≡ true
-any-at p [] z h k = absurd (false≢true h)
-any-at p (x ∷ xs) z h k =
-    or-case (eqb z x) (member z xs) h (any p (x ∷ xs) ≡ true)
-    (λ e. or-left (p x) (any p xs) (subst (λ (y : ℕ). p y ≡ true) (eq-test z x e) k)) (λ m. or-right (p x) (any p xs) (any-at p xs z m k))
 
 pub below-member : (n : ℕ) (xs : List ℕ) (z : ℕ) → Below n xs → member z xs ≡ true → z < n
 below-member n [] z b h = absurd (false≢true h)

@@ -18,13 +18,14 @@ use Rattle.rules.specs.Held.{Begins, Extends, OutputOf}
 use Rattle.carvings.specs.Renumbered.{Renumbering, Corresponds}
 use Rattle.rules.specs.declared.ElementCutOutput.{ElementCutOutput}
 use Rattle.rules.specs.declared.ElementCutOutput.the-variants.{Flush, NonFlush}
+use Rattle.rules.proofs.Apart.{distinct-apart}
 use Rattle.rules.proofs.Calls.{not-infinite, one-more}
 use Rattle.carvings.proofs.Contains.{Went}
 use Rattle.carvings.proofs.ContainsCut.{element-sim}
 use Rattle.rules.proofs.Corners.{good-fine}
 use Rattle.carvings.proofs.Crossings.{Points, pointsOfElement, Moved, Moves, element-moved}
 use Rattle.carvings.proofs.EachInOther.{renumbering}
-use Rattle.carvings.proofs.Embeds.{good-apart, done-value, done-table, Embeds, Grown, embeds-start}
+use Rattle.carvings.proofs.Embeds.{done-value, done-table, Embeds, Grown, embeds-start}
 use Rattle.rules.proofs.Extends.{begins-length, count-more, extends-refl, extends-trans, rank-same}
 use Rattle.rules.proofs.Fewer.{Dropped, lessOutput, lessCutting}
 use Rattle.rules.proofs.Fine.{Fine, OutputIn}
@@ -204,7 +205,7 @@ module _ (L : Limits) (h : Plane) (num : ℕ) (root r : ℕ) where
         after-plane : (f : ℕ → ℕ) × Renumbering (elementCount T) S W f × Corresponds f a a₁ a₂
         after-plane = (
           S-in-W .map,
-          renumbering T S W (S-in-W .map) (second-carving a S slice .grown .map) (good-apart L S (good-S a S slice)) (good-apart L W good-W) (S-in-W .embeds) W-in-S W-points W-planes,
+          renumbering T S W (S-in-W .map) (second-carving a S slice .grown .map) (distinct-apart S (good-S a S slice .apart)) (distinct-apart W (good-W .apart)) (S-in-W .embeds) W-in-S W-points W-planes,
           corresponds (S-in-W .map) (elementCount S) a a₁ a₂ (S-in-W .value),
         )
 

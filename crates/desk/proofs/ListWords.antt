@@ -11,7 +11,8 @@ use Rattle.rules.specs.Limits.{desk}
 use Rattle.rules.specs.Lists.{if_then_else_, all, keep, upTo, joined}
 use Rattle.rules.specs.Table.{Table, vertexOf, element, rank, boundary, boundaryOf, corner, elementCount}
 use Rattle.rules.specs.Memory.{Memory, decode, soundMemory}
-use Rattle.rules.specs.Questions.{Asked, no-answer, answer, isBelow, subElements, withRank, vertexSet, commonWithRank, someOr, greatestFrom, greatestCommon, walk, otherEnd, otherEdge, firstEdge, eachOnce, pairs, edgesInOrder}
+use Rattle.rules.specs.Questions.{Asked, no-answer, answer, isBelow, subElements, withRank, vertexSet, commonWithRank, someOr, greatestFrom, greatestCommon, pairs, edgesInOrder}
+use Rattle.rules.specs.Walk.{walk, otherEnd, otherEdge, firstEdge, startOf, around, eachOnce}
 use Rattle.rules.specs.Replies.{asked, listed, subElementsReply, withRankReply, vertexSetReply, greatestCommonReply, inNumbers, edgesInOrderReply}
 use Rattle.rules.specs.declared.ListReply.{ListReply}
 use Rattle.rules.specs.declared.ListReply.the-variants.{Refused, Listed}
@@ -121,7 +122,7 @@ module _ (m : Memory) where
       es = boundary t e
 
       start : ℕ
-      start = getD (withRank t 0 e) 0 0
+      start = startOf t es
 
       steps : List (ℕ × ℕ)
       steps = walk (length es) t es start start (firstEdge t start es)

@@ -1,25 +1,28 @@
 -- What sets of elements in use tell of their numbers, and what soundness tells of the element that is cut.
 use Prim.Native.Nat.{ℕ, zero, suc, _+_, _-_, _*_, _≤_, _<_}
-use mathlib.Core.Path.{_≡_, sym, _∙_, subst}
-use mathlib.Core.Bool.{true}
+use mathlib.Core.Path.{_≡_, refl, ap, sym, _∙_, subst}
+use mathlib.Core.Bool.{true, false≢true}
 use mathlib.Core.List.{List, [], _∷_}
-use native.Mathlib.Nat.{le-trans, le-of-suc-le-suc, not-suc-le-zero}
+use native.Mathlib.Nat.{le-trans, le-of-suc-le-suc, not-suc-le-zero, suc-inj}
 use native.Mathlib.Omega.{arith}
-use lib.Dec.{lit≤}
+use lib.Dec.{lit≤, eqb}
 use lib.ListN.{length, getD}
 use lib.Seq.{getD-take, length-take-le}
 use Rattle.rules.specs.Limits.{desk}
-use Rattle.rules.specs.Table.{Element, corner, polytope, Table, rankOf, boundaryOf, elementCount, rank, element}
+use Rattle.rules.specs.Lists.{rises, member}
+use Rattle.rules.specs.Table.{Element, corner, polytope, Table, rankOf, boundary, boundaryOf, elementCount, rank, element}
 use Rattle.rules.specs.Sound.{closed, soundElement}
 use Rattle.rules.specs.Held.{Fits, elementsOf, Ranked, AllOf, SomeOf}
 use Rattle.rules.specs.declared.ElementOrNone.{ElementOrNone}
 use Rattle.rules.specs.declared.ElementOrNone.the-variants.{None, Some}
+use Rattle.rules.proofs.Apart.{distinct-apart, plain, plain-once}
+use Rattle.rules.proofs.Borders.{rise-at}
 use Rattle.rules.proofs.Extends.{Below, below-more, below-get}
 use Rattle.rules.proofs.Good.{Good, all-below, sound-at, whole}
-use Rattle.rules.proofs.Laws.{le-test, eq-test}
+use Rattle.rules.proofs.Laws.{le-test, eq-test, or-case}
 use Rattle.rules.proofs.Ranked.{set-under}
 use Rattle.rules.proofs.StaysCut.{Owner, facts}
-use Rattle.space.specs.Closed.{Low, LowEnds, Edges}
+use Rattle.space.specs.Closed.{Low, LowEnds, EndsLow, EachEdge, Edges, Untwinned}
 use Rattle.space.proofs.Room.{listOf, list-word}
 use Rattle.gathered.specs.Sets.{sizeIn, members, InRoom}
 
@@ -35,15 +38,33 @@ low-of t c q s a = record {
       (below-get 512 (members s) k (lit≤ tt) (below-more (members s) c (all-below (elementCount t) (members s) (set-under t q (members s) a))));
 }
 
--- an element of rank 1 in a sound table has two ends
-pub edges-of : (t : Table) → Good desk t → (xs : List ℕ) → AllOf (Ranked t 2) xs → Edges t xs
-edges-of t g [] h = tt
-edges-of t g (x ∷ xs) h = (h .0 .0, go (element t x) (h .0 .1) (sound-at desk t x g (h .0 .0)), edges-of t g xs (h .1))
+-- an element of rank 1 in a sound table has two ends, the lower first
+edge-whole : (t : Table) → Good desk t → (x : ℕ) → Ranked t 2 x → (length (boundary t x) ≡ 2) × (rises (boundary t x) ≡ true)
+edge-whole t g x h = go (element t x) (h .1) (sound-at desk t x g (h .0))
   where
-    go : (y : Element) → suc (rankOf y) ≡ 2 → soundElement t x y ≡ true → length (boundaryOf y) ≡ 2
+    go : (y : Element) → suc (rankOf y) ≡ 2 → soundElement t x y ≡ true → (length (boundaryOf y) ≡ 2) × (rises (boundaryOf y) ≡ true)
     go (corner v) e s = absurd (let z : ⊥ = omega (arith, e) in z)
     go (polytope r b k m) e s =
-        eq-test (length b) 2 (subst (λ (n : ℕ). closed t n b ≡ true) (let q : r ≡ 1 = omega (arith, e) in q) (whole t x r b k m s .bound .tight))
+        let w = whole t x r b k m s .bound in
+        (eq-test (length b) 2 (subst (λ (n : ℕ). closed t n b ≡ true) (let q : r ≡ 1 = omega (arith, e) in q) (w .tight)), w .rising)
+
+pub edges-of : (t : Table) → Good desk t → (xs : List ℕ) → rises xs ≡ true → AllOf (Ranked t 2) xs → Edges t xs
+edges-of t g xs up h = (up, each xs h, alone)
+  where
+    ranked : (ys : List ℕ) → AllOf (Ranked t 2) ys → (x : ℕ) → member x ys ≡ true → Ranked t 2 x
+    ranked [] k x m = absurd (false≢true m)
+    ranked (y ∷ ys) k x m =
+        or-case (eqb x y) (member x ys) m (Ranked t 2 x) (λ q. subst (λ (z : ℕ). Ranked t 2 z) (sym (eq-test x y q)) (k .0)) (λ n. ranked ys (k .1) x n)
+
+    alone : 2 < t .dimension → Untwinned t xs
+    alone l x y mx my e =
+        let a = ranked xs h x mx in
+        let b = ranked xs h y my in
+        plain-once t (distinct-apart t (g .apart)) x y (a .0) (b .0) (plain t x (element t x) l (sound-at desk t x g (a .0)) (suc-inj (a .1))) (plain t y (element t y) l (sound-at desk t y g (b .0)) (suc-inj (b .1))) e
+
+    each : (ys : List ℕ) → AllOf (Ranked t 2) ys → EachEdge t ys
+    each [] k = tt
+    each (y ∷ ys) k = let w = edge-whole t g y (k .0) in (k .0 .0, w .0, w .1, each ys (k .1))
 
 -- those ends are within the room, as the memory has them
 module _ (t : Table) (F : Fits desk t) (g : Good desk t) where
@@ -65,19 +86,34 @@ module _ (t : Table) (F : Fits desk t) (g : Good desk t) where
             below-more b (let q : x ≤ 512 = omega (arith, u, c) in q) (all-below x b (w .under)),
           )
 
-  pub ends-low : (es : List ℕ) → es ≡ elementsOf desk t → (s : List ℕ) → sizeIn s ≤ length s → AllOf (Ranked t 2) (members s) → LowEnds es s (sizeIn s)
-  ends-low es e s l a = record { first = λ k h. one k h 0 (lit≤ tt); second = λ k h. one k h 1 (lit≤ tt) }
+  end-apart : (x : ℕ) → Ranked t 2 x → getD (elementsOf desk t) (x * 36 + 4) 0 < getD (elementsOf desk t) (x * 36 + 5) 0
+  end-apart x h = go (element t x) refl (edge-whole t g x h)
+    where
+      go : (y : Element) → element t x ≡ y → (length (boundaryOf y) ≡ 2) × (rises (boundaryOf y) ≡ true) → getD (elementsOf desk t) (x * 36 + 4) 0 < getD (elementsOf desk t) (x * 36 + 5) 0
+      go (corner v) e w = absurd (let two = w .0 in let z : ⊥ = omega (arith, two) in z)
+      go (polytope r b k m) e w =
+          let two = w .0 in
+          let long : length (listOf (element t x)) ≡ 2 = ap (λ (y : Element). length (listOf y)) e ∙ two in
+          let w₀ = list-word desk t F x (h .0) 0 (let q : 0 < length (listOf (element t x)) = omega (arith, long) in q) (lit≤ tt) ∙ ap (λ (y : Element). getD (listOf y) 0 0) e in
+          let w₁ = list-word desk t F x (h .0) 1 (let q : 1 < length (listOf (element t x)) = omega (arith, long) in q) (lit≤ tt) ∙ ap (λ (y : Element). getD (listOf y) 1 0) e in
+          let l = rise-at b (w .1) 0 1 (lit≤ tt) (let q : 1 < length b = omega (arith, two) in q) in
+          omega (arith, w₀, w₁, l)
+
+  pub ends-low : (es : List ℕ) → es ≡ elementsOf desk t → (s : List ℕ) → sizeIn s ≤ length s → rises (members s) ≡ true → AllOf (Ranked t 2) (members s) → LowEnds es s (sizeIn s)
+  ends-low es e s l up a = record {
+    rising = up;
+    each = λ k h. subst (λ (w : List ℕ). EndsLow w (getD s k 0)) (sym e) (record { apart = end-apart (getD s k 0) (ranked k h); second = end-low (getD s k 0) 1 (ranked k h) (lit≤ tt) });
+  }
     where
       at : (xs : List ℕ) (k : ℕ) → AllOf (Ranked t 2) xs → k < length xs → Ranked t 2 (getD xs k 0)
       at [] k p h = absurd (not-suc-le-zero h)
       at (x ∷ xs) zero p h = p .0
       at (x ∷ xs) (suc k) p h = at xs k (p .1) (le-of-suc-le-suc h)
 
-      one : (k : ℕ) → k < sizeIn s → (j : ℕ) → j < 2 → getD es (getD s k 0 * 36 + (4 + j)) 0 < 512
-      one k h j i =
+      ranked : (k : ℕ) → k < sizeIn s → Ranked t 2 (getD s k 0)
+      ranked k h =
           let m = length-take-le (sizeIn s) s l in
-          subst (λ (w : List ℕ). getD w (getD s k 0 * 36 + (4 + j)) 0 < 512) (sym e)
-          (end-low (getD s k 0) j (subst (Ranked t 2) (getD-take (sizeIn s) s k 0 h) (at (members s) k a (let q : k < length (members s) = omega (arith, m, h) in q))) i)
+          subst (Ranked t 2) (getD-take (sizeIn s) s k 0 h) (at (members s) k a (let q : k < length (members s) = omega (arith, m, h) in q))
 
 -- ---- the element that is cut
 

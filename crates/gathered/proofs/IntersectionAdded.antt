@@ -59,7 +59,7 @@ module _ {cs es : List ℕ} {r : ℕ} {k : Cutter} {set : List ℕ} where
         subst (Low set) (sym size) (low-of t (F .holds .fits .elementRoom) (r - 1) set (F .sets .ranked)),
         (λ two.
             subst (LowEnds es set) (sym size)
-            (ends-low t (F .holds .fits) (sound-good desk t (F .sound)) es (F .holds .elements) set (let q : sizeIn set ≤ length set = omega (arith, most, long) in q)
+            (ends-low t (F .holds .fits) (sound-good desk t (F .sound)) es (F .holds .elements) set (let q : sizeIn set ≤ length set = omega (arith, most, long) in q) (F .sets .rising)
             (subst (λ (m : ℕ). AllOf (Ranked t m) (members set)) two (F .sets .ranked)))),
       )
 
@@ -76,5 +76,5 @@ module _ {cs es : List ℕ} {r : ℕ} {k : Cutter} {set : List ℕ} where
     of = λ ps hs t F.
         subst (λ (h : Option ℕ). Came added.Made added.Refused (Holds desk cs′ ps hs es′) t (addPolytope desk (r - 1) (members set) h false t) y) (plane-is plane p F)
         (subst (λ (m : ℕ). PolytopeAdded cs es (r - 1) (take m set) plane false y cs′ es′) size A .of ps hs t (F .holds) (λ l. le-test 1 (r - 1) (rank-above t (r - 1) (members set) (F .sets) (lt-leb (length (members set)) (r - 1) l)))
-        (λ two. edges-of t (sound-good desk t (F .sound)) (members set) (subst (λ (n : ℕ). AllOf (Ranked t n) (members set)) two (F .sets .ranked))));
+        (λ two. edges-of t (sound-good desk t (F .sound)) (members set) (F .sets .rising) (subst (λ (n : ℕ). AllOf (Ranked t n) (members set)) two (F .sets .ranked))));
   }

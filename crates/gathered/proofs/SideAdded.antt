@@ -11,6 +11,7 @@ use lib.ListN.{length, getD, take}
 use lib.Seq.{getD-take, length-take-le, ext-getD}
 use lib.Ieee.{Float}
 use Rattle.rules.specs.Limits.{desk, noPlane}
+use Rattle.rules.specs.Lists.{rises}
 use Rattle.rules.specs.Table.{Element, corner, polytope, Table, rankOf, planeOf, isPrimordial, element}
 use Rattle.rules.specs.Sound.{namesNone}
 use Rattle.rules.specs.Memory.{planeNumber, planeNamed}
@@ -85,7 +86,7 @@ module _ {cs es : List ℕ} {r e : ℕ} {set : List ℕ} {x : ElementOrNone} whe
         subst (Low all) (sym size) (low-of t (F .holds .fits .elementRoom) r all (subst (AllOf (Ranked t r)) (sym (I .of)) (side-set F .ranked))),
         (λ two.
             subst (LowEnds es all) (sym size)
-            (ends-low t (F .holds .fits) g es (F .holds .elements) all (let q : sizeIn all ≤ length all = omega (arith, most, long) in q)
+            (ends-low t (F .holds .fits) g es (F .holds .elements) all (let q : sizeIn all ≤ length all = omega (arith, most, long) in q) (subst (λ (ys : List ℕ). rises ys ≡ true) (sym (I .of)) (side-set F .rising))
             (subst (λ (m : ℕ). AllOf (Ranked t m) (members all)) two (subst (AllOf (Ranked t r)) (sym (I .of)) (side-set F .ranked))))),
       )
 
@@ -112,7 +113,7 @@ module _ {cs es : List ℕ} {r e : ℕ} {set : List ℕ} {x : ElementOrNone} whe
     side-edges : (b : List ℕ) → b ≡ including x (members set) → r ≡ 2 → Edges t b
     side-edges b q two =
         subst (Edges t) (sym q)
-        (edges-of t (sound-good desk t (F .sound)) (including x (members set)) (subst (λ (n : ℕ). AllOf (Ranked t n) (including x (members set))) two (side-set F .ranked)))
+        (edges-of t (sound-good desk t (F .sound)) (including x (members set)) (side-set F .rising) (subst (λ (n : ℕ). AllOf (Ranked t n) (including x (members set))) two (side-set F .ranked)))
 
     -- the set's numbers are those of the row, so the search would find the element itself
     module _ (all : List ℕ) (n : ℕ) (size : n ≡ sizeIn all) (I : Included set x all) (O : OwnBoundary es e all n) where

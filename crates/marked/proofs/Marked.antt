@@ -8,7 +8,8 @@ use Rattle.rules.specs.Sound.{sound, roomFits, soundPoint, soundPlane, cornersI
 use Rattle.rules.specs.Memory.{elementRow, planeRow, encode, readElement, readPlane, decode, rightSize, sameMemory, soundMemory}
 use Rattle.rules.specs.Cube.{cube, cubeElement, cubePoint, facetNormal, facetPlane, radiusFits}
 use Rattle.rules.specs.Cut.{addElement, addPolytope, addVertex, planeMatches, addPlane, cutCorner, rule7, rule6, cutEnds, cutEdge, cutHigher, cutElement, cut}
-use Rattle.rules.specs.Questions.{reaches, subElements, withRank, vertexSet, commonWithRank, greatestFrom, greatestCommon, walk, edgesInOrder, primordialFacet}
+use Rattle.rules.specs.Questions.{reaches, subElements, withRank, vertexSet, commonWithRank, greatestFrom, greatestCommon, edgesInOrder, primordialFacet}
+use Rattle.rules.specs.Walk.{walk}
 use Rattle.rules.specs.Replies.{isSoundReply, cubeReply, dividerFits, cutReply, subElementsReply, withRankReply, vertexSetReply, greatestCommonReply, edgesInOrderReply, primordialFacetReply}
 use Rattle.rules.specs.Marked.{Q, segment, marked}
 use Rattle.rules.proofs.Answers.{Agree}

@@ -40,14 +40,14 @@ kept-member p (y ∷ ys) x h q = go (p y) refl (λ m. kept-member p ys x m q)
     go true k later = or-case (eqb x y) (member x ys) h (member x (y ∷ keep p ys) ≡ true) (or-left (eqb x y) _) (λ m. or-right (eqb x y) _ (later m))
     go false k later = or-case (eqb x y) (member x ys) h (member x (keep p ys) ≡ true) (λ e. absurd (false≢true (sym k ∙ ap p (sym (eq-test x y e)) ∙ q))) later
 
-member-mapped : (f : ℕ → ℕ) (xs : List ℕ) (v : ℕ) → member v (map f xs) ≡ true → (x : ℕ) × (member x xs ≡ true) × (v ≡ f x)
+pub member-mapped : (f : ℕ → ℕ) (xs : List ℕ) (v : ℕ) → member v (map f xs) ≡ true → (x : ℕ) × (member x xs ≡ true) × (v ≡ f x)
 member-mapped f [] v h = absurd (false≢true h)
 member-mapped f (y ∷ ys) v h =
     or-case (eqb v (f y)) (member v (map f ys)) h ((x : ℕ) × (member x (y ∷ ys) ≡ true) × (v ≡ f x))
     (λ e. (y, or-left (eqb y y) (member y ys) (eqb-self y), eq-test v (f y) e))
     (λ m. let r = member-mapped f ys v m in (r .0, or-right (eqb (r .0) y) (member (r .0) ys) (r .1), r .2))
 
-mapped-member : (f : ℕ → ℕ) (xs : List ℕ) (x : ℕ) → member x xs ≡ true → member (f x) (map f xs) ≡ true
+pub mapped-member : (f : ℕ → ℕ) (xs : List ℕ) (x : ℕ) → member x xs ≡ true → member (f x) (map f xs) ≡ true
 mapped-member f [] x h = absurd (false≢true h)
 mapped-member f (y ∷ ys) x h =
     or-case (eqb x y) (member x ys) h (member (f x) (map f (y ∷ ys)) ≡ true)

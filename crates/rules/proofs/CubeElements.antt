@@ -11,19 +11,22 @@ use native.Mathlib.Omega.{arith}
 use lib.Dec.{eqb, leb, ltb}
 use lib.Ieee.{Float}
 use lib.ListN.{length, length-map}
-use Rattle.rules.specs.Lists.{if_then_else_, alike, all, upTo, keep, distinct, allFrom}
-use Rattle.rules.specs.Table.{polytope, Element, isCorner, boundaryOf, sameElement, corner, samePlane, rank, rankOf, vertexOf, element}
-use Rattle.rules.specs.Sound.{endsOf, closed, soundFacet, namesPlane, namesNone, soundElement}
+use Rattle.rules.specs.Lists.{if_then_else_, alike, all, member, upTo, keep, distinct, allFrom}
+use Rattle.rules.specs.Table.{polytope, Element, isCorner, boundaryOf, sameElement, corner, samePlane, rank, rankOf, vertexOf, element, boundary}
+use Rattle.rules.specs.Walk.{endsOf, around, eachOnce, eachTwice}
+use Rattle.rules.specs.Sound.{closed, soundFacet, namesPlane, namesNone, soundElement}
 use Rattle.rules.specs.Cube.{isVertex, digits, isFacet, twos, cube, cubeElement, ofDigits}
 use Rattle.rules.specs.Marked.{room}
 use Rattle.rules.specs.Held.{AllOf}
 use Rattle.rules.proofs.Counting.{before, all-up, before-zero, upTo-suc, bit, before-suc, before-less, distinct-up, getD-up, allFrom-up}
 use Rattle.rules.proofs.CubeDigits.{digit-low, twos-length, digits-length, of-digits}
 use Rattle.rules.proofs.CubeFaces.{Tells, Face, faceNumbers, no-faces, faces-known}
-use Rattle.rules.proofs.CubeSquares.{edgeEnds, Twice, squares-closed}
+use Rattle.rules.proofs.CubeSquares.{edgeEnds, edgeOf, Twice, Ringed, square-ring}
+use Rattle.rules.proofs.FaceEdges.{Two, two}
 use Rattle.rules.proofs.Good.{Bounded, whole-sound}
 use Rattle.rules.proofs.Growing.{map-append, keep-append}
-use Rattle.rules.proofs.Laws.{and-true, eq-test, test-le, unlike-eq, not-eq, test-eq}
+use Rattle.rules.proofs.Laws.{and-true, or-case, eq-test, test-le, unlike-eq, not-eq, test-eq}
+use Rattle.rules.proofs.RingWalked.{ring-taken}
 use Rattle.rules.proofs.Selves.{alike-eq}
 
 and-fails : (a b : Bool) → (b ≡ true → ⊥) → (a && b) ≡ false
@@ -47,6 +50,10 @@ same-tells m n (x ∷ y ∷ ys) l h k = omega arith
 all-of : {P : ℕ → Type 0} (p : ℕ → Bool) (xs : List ℕ) → ((x : ℕ) → P x → p x ≡ true) → AllOf P xs → all p xs ≡ true
 all-of p [] h f = refl
 all-of p (x ∷ xs) h f = and-true (p x) (all p xs) (h x (f .0)) (all-of p xs h (f .1))
+
+of-members : (P : ℕ → Type 0) (xs : List ℕ) → AllOf P xs → (x : ℕ) → member x xs ≡ true → P x
+of-members P [] f x m = absurd (true≢false (sym m))
+of-members P (y ∷ ys) f x m = or-case (eqb x y) (member x ys) m (P x) (λ e. subst P (sym (eq-test x y e)) (f .0)) (of-members P ys (f .1) x)
 
 module _ (d : ℕ) where
   abbrev pub vertexAt : ℕ → Bool
@@ -180,15 +187,33 @@ module _ (d : ℕ) where
       abbrev ks : List ℕ
       ks = digits d n
 
+      -- the ends of an edge of a square, as the table says them
+      side-of : (x : ℕ) → member x (faceNumbers ks) ≡ true → boundary (cube d r) x ≡ edgeOf d x
+      side-of x m = let h = of-members (FaceAt n) (faceNumbers ks) (faces-at n inUse) x m .0 in ap boundaryOf (element-of x (let u : x < 3 ^ d = omega (arith, h, inUse) in u)) ∙ boundary-of x
+
+      two-sided : twos ks ≡ 2 → (x : ℕ) → member x (faceNumbers ks) ≡ true → Two (boundary (cube d r) x)
+      two-sided e x m =
+          let h = of-members (FaceAt n) (faceNumbers ks) (faces-at n inUse) x m .1 in
+          let f = faces-known (digits d x) (digit-low d x) in
+          let c = f .count in
+          subst Two (sym (side-of x m)) (two (edgeOf d x) (let z : length (edgeOf d x) ≡ 2 = omega (arith, h, c, e) in z) (f .rising))
+
+      square-closed : twos ks ≡ 2 → closed (cube d r) 2 (faceNumbers ks) ≡ true
+      square-closed e =
+          let g : Ringed d (faceNumbers ks) = subst (λ (m : ℕ). Ringed m (faceNumbers ks)) (digits-length d n) (square-ring ks (digit-low d n) e) in
+          let w : eachTwice (cube d r) (faceNumbers ks) ≡ true = subst Twice (sym (ends-of n (faceNumbers ks) inUse (faces-at n inUse))) (g .twice) in
+          and-true (eachTwice (cube d r) (faceNumbers ks)) (eachOnce (faceNumbers ks) (around (cube d r) (faceNumbers ks))) w
+          (ring-taken (cube d r) (faceNumbers ks) (record { ends = two-sided e; up = faces-known ks (digit-low d n) .rising; twice = w })
+          (λ S x m z share. g .hang S x m z (λ a b v ma mb va vb. share a b v ma mb
+          (subst (λ (l : List ℕ). member v l ≡ true) (sym (side-of a ma)) va) (subst (λ (l : List ℕ). member v l ≡ true) (sym (side-of b mb)) vb))))
+
       tight : closed (cube d r) (twos ks) (faceNumbers ks) ≡ true
       tight = go (twos ks) refl
         where
           go : (q : ℕ) → twos ks ≡ q → closed (cube d r) q (faceNumbers ks) ≡ true
           go zero e = refl
           go (suc zero) e = let c = faces-known ks (digit-low d n) .count in test-eq (length (faceNumbers ks)) 2 (omega arith)
-          go (suc (suc zero)) e =
-              subst Twice (sym (ends-of n (faceNumbers ks) inUse (faces-at n inUse)))
-              (subst (λ (m : ℕ). Twice (edgeEnds m (faceNumbers ks))) (digits-length d n) (squares-closed ks (digit-low d n) e))
+          go (suc (suc zero)) e = square-closed e
           go (suc (suc (suc q))) e = refl
 
       rank-below : (x : ℕ) → FaceAt n x → eqb (suc (rank (cube d r) x)) (twos ks) ≡ true

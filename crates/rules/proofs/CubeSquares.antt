@@ -1,19 +1,20 @@
--- In the cube's elements of rank 2, squares, each vertex met lies on exactly two edges.
--- By induction on the digits: one in front that is no 2 keeps how often a vertex is met; a 2 in front of an edge with ends a < b makes the four vertices below.
+-- The cube's elements of rank 2, squares, are rings: each vertex met lies on exactly two edges, and the edges hang together.
+-- By induction on the digits: one in front that is no 2 keeps how often a vertex is met, and what hangs together; a 2 in front of an edge with ends a < b makes the four vertices below.
 use Prim.Native.Nat.{ℕ, zero, suc, _+_, _*_, _^_, _<_}
-use mathlib.Core.Bool.{Bool, true, false, _&&_}
+use mathlib.Core.Bool.{Bool, true, false, _&&_, false≢true}
 use mathlib.Core.List.{List, [], _∷_, _++_, map}
 use mathlib.Core.Path.{_≡_, refl, sym, ap, ap₂, _∙_, subst}
 use native.Mathlib.Omega.{arith}
 use lib.Dec.{eqb, ltb}
 use lib.ListN.{length}
-use Rattle.rules.specs.Lists.{if_then_else_, all, keep, joined, occurrences, rises}
+use Rattle.rules.specs.Lists.{if_then_else_, all, keep, joined, member, occurrences, rises}
 use Rattle.rules.specs.Cube.{digits, ofDigits, twos}
+use Rattle.rules.proofs.Common.{member-mapped, mapped-member}
 use Rattle.rules.proofs.CubeDigits.{digits-step, digits-of, digit-low, of-digits, below-power}
 use Rattle.rules.proofs.CubeFaces.{faceNumbers, front, pair, faces-low, faces-two, Faces, faces-known, no-faces}
 use Rattle.rules.proofs.Extends.{Below}
 use Rattle.rules.proofs.Growing.{map-append}
-use Rattle.rules.proofs.Laws.{and-true, and-left, and-right, le-test, eq-test, not-eq, test-eq, unlike-eq, eqb-self}
+use Rattle.rules.proofs.Laws.{and-true, and-left, and-right, or-left, or-right, or-case, le-test, eq-test, not-eq, test-eq, unlike-eq, eqb-self}
 
 -- the ends of some edges of a cube of dimension d
 abbrev pub edgeEnds : ℕ → List ℕ → List ℕ
@@ -22,6 +23,21 @@ edgeEnds d edges = joined (map (λ x. faceNumbers (digits d x)) edges)
 -- each vertex met is met exactly twice
 abbrev pub Twice : List ℕ → Type 0
 Twice es = all (λ v. eqb (occurrences v es) 2) es ≡ true
+
+-- the ends of one edge
+abbrev pub edgeOf : ℕ → ℕ → List ℕ
+edgeOf d x = faceNumbers (digits d x)
+
+-- edges hang together, by the ends that b gives them
+abbrev pub Hang : (ℕ → List ℕ) → List ℕ → Type 0
+Hang b es = (S : ℕ → Bool) (e : ℕ) → member e es ≡ true → S e ≡ true
+    → ((x y v : ℕ) → member x es ≡ true → member y es ≡ true → member v (b x) ≡ true → member v (b y) ≡ true → S x ≡ true → S y ≡ true)
+    → (x : ℕ) → member x es ≡ true → S x ≡ true
+
+-- some edges of a cube of dimension d are a ring
+pub record Ringed (d : ℕ) (es : List ℕ) : Type 0 where
+  pub twice : Twice (edgeEnds d es)
+  pub hang : Hang (edgeOf d) es
 
 -- ---- a digit in front that is no 2
 
@@ -62,7 +78,53 @@ module _ (k : ℕ) where
       ap₂ (λ (ys zs : List ℕ). ys ++ zs) (ap faceNumbers (digits-step d k x (omega arith)) ∙ faces-low k (digits d x) l) (ends-front d xs l)
       ∙ sym (map-append (λ v. k + 3 * v) (faceNumbers (digits d x)) (edgeEnds d xs))
 
+  hang-front : (d : ℕ) (xs : List ℕ) → k < 2 → Hang (edgeOf d) xs → Hang (edgeOf (suc d)) (front k xs)
+  hang-front d xs l h S e m z share y n =
+      let a = member-mapped (λ v. k + 3 * v) xs e m in
+      let c = member-mapped (λ v. k + 3 * v) xs y n in
+      subst (λ (j : ℕ). S j ≡ true) (sym (c .2)) (h (λ j. S (k + 3 * j)) (a .0) (a .1) (subst (λ (j : ℕ). S j ≡ true) (a .2) z) inner (c .0) (c .1))
+    where
+      here : (x v : ℕ) → member v (edgeOf d x) ≡ true → member (k + 3 * v) (edgeOf (suc d) (k + 3 * x)) ≡ true
+      here x v q =
+          subst (λ (ys : List ℕ). member (k + 3 * v) ys ≡ true) (sym (ap faceNumbers (digits-step d k x (omega arith)) ∙ faces-low k (digits d x) l))
+          (mapped-member (λ w. k + 3 * w) (edgeOf d x) v q)
+
+      inner : (x w v : ℕ) → member x xs ≡ true → member w xs ≡ true → member v (edgeOf d x) ≡ true → member v (edgeOf d w) ≡ true → S (k + 3 * x) ≡ true → S (k + 3 * w) ≡ true
+      inner x w v mx mw vx vw q =
+          share (k + 3 * x) (k + 3 * w) (k + 3 * v) (mapped-member (λ j. k + 3 * j) xs x mx) (mapped-member (λ j. k + 3 * j) xs w mw) (here x v vx) (here w v vw) q
+
 -- ---- a 2 in front of an edge
+
+-- four edges, w-x, y-z, w-y and x-z
+module _ (b : ℕ → List ℕ) (p q r s w x y z : ℕ) (bp : b p ≡ w ∷ x ∷ []) (bq : b q ≡ y ∷ z ∷ []) (br : b r ≡ w ∷ y ∷ []) (bs : b s ≡ x ∷ z ∷ []) where
+  abbrev sides : List ℕ
+  sides = p ∷ q ∷ r ∷ s ∷ []
+
+  of-four : (u : ℕ) → member u sides ≡ true → (A : Type 0) → (u ≡ p → A) → (u ≡ q → A) → (u ≡ r → A) → (u ≡ s → A) → A
+  of-four u h A f g i j =
+      or-case (eqb u p) _ h A (λ e. f (eq-test u p e)) (λ h₁. or-case (eqb u q) _ h₁ A (λ e. g (eq-test u q e)) (λ h₂. or-case (eqb u r) _ h₂ A (λ e. i (eq-test u r e))
+      (λ h₃. or-case (eqb u s) false h₃ A (λ e. j (eq-test u s e)) (λ n. absurd (false≢true n)))))
+
+  one : (e u v : ℕ) → b e ≡ u ∷ v ∷ [] → member u (b e) ≡ true
+  one e u v h = subst (λ (us : List ℕ). member u us ≡ true) (sym h) (or-left (eqb u u) _ (eqb-self u))
+
+  next : (e u v : ℕ) → b e ≡ u ∷ v ∷ [] → member v (b e) ≡ true
+  next e u v h = subst (λ (us : List ℕ). member v us ≡ true) (sym h) (or-right (eqb v u) _ (or-left (eqb v v) _ (eqb-self v)))
+
+  four-hang : Hang b sides
+  four-hang S e m h share a n =
+      let mp : member p sides ≡ true = or-left (eqb p p) _ (eqb-self p) in
+      let mq : member q sides ≡ true = or-right (eqb q p) _ (or-left (eqb q q) _ (eqb-self q)) in
+      let mr : member r sides ≡ true = or-right (eqb r p) _ (or-right (eqb r q) _ (or-left (eqb r r) _ (eqb-self r))) in
+      let ms : member s sides ≡ true = or-right (eqb s p) _ (or-right (eqb s q) _ (or-right (eqb s r) _ (or-left (eqb s s) _ (eqb-self s)))) in
+      let to : (u v : ℕ) → u ≡ v → S u ≡ true → S v ≡ true = λ u v g. subst (λ (j : ℕ). S j ≡ true) g in
+      let first : S p ≡ true = of-four e m (S p ≡ true) (λ g. to e p g h)
+      (λ g. share r p w mr mp (one r w y br) (one p w x bp) (share q r y mq mr (one q y z bq) (next r w y br) (to e q g h)))
+      (λ g. share r p w mr mp (one r w y br) (one p w x bp) (to e r g h))
+      (λ g. share s p x ms mp (one s x z bs) (next p w x bp) (to e s g h)) in
+      let third : S r ≡ true = share p r w mp mr (one p w x bp) (one r w y br) first in
+      of-four a n (S a ≡ true) (λ g. to p a (sym g) first) (λ g. to q a (sym g) (share r q y mr mq (next r w y br) (one q y z bq) third)) (λ g. to r a (sym g) third)
+      (λ g. to s a (sym g) (share p s x mp ms (next p w x bp) (one s x z bs) first))
 
 lower : (m n : ℕ) → m < n → eqb m n ≡ false
 lower m n l = not-eq m n (λ e. omega arith)
@@ -106,11 +168,10 @@ module _ (ks : List ℕ) (low : Below 3 ks) (edge : twos ks ≡ 1) where
       ap faceNumbers (digits-step (length ks) k (ofDigits ks) (omega arith) ∙ ap (λ (js : List ℕ). k ∷ js) (digits-of ks low))
       ∙ faces-low k ks l ∙ ap (front k) e
 
-  square : Twice (edgeEnds (suc (length ks)) (faceNumbers (2 ∷ ks)))
-  square = subst (λ (xs : List ℕ). Twice (edgeEnds (suc (length ks)) xs)) (sym (faces-two ks)) (go (faceNumbers ks) refl (faces-known ks low))
+  square : Ringed (suc (length ks)) (faceNumbers (2 ∷ ks))
+  square = subst (Ringed (suc (length ks))) (sym (faces-two ks)) (go (faceNumbers ks) refl (faces-known ks low))
     where
-      go : (xs : List ℕ) → faceNumbers ks ≡ xs → Faces ks xs
-          → Twice (edgeEnds (suc (length ks)) (front 2 xs ++ pair (ofDigits ks)))
+      go : (xs : List ℕ) → faceNumbers ks ≡ xs → Faces ks xs → Ringed (suc (length ks)) (front 2 xs ++ pair (ofDigits ks))
       go [] e f = absurd (let c = f .count in omega arith)
       go (a ∷ []) e f = absurd (let c = f .count in omega arith)
       go (a ∷ b ∷ []) e f =
@@ -126,18 +187,23 @@ module _ (ks : List ℕ) (low : Below 3 ks) (edge : twos ks ≡ 1) where
           let p₂ = edge-front (length ks) b lb rb in
           let p₃ = edge-across 0 a b (omega arith) e in
           let p₄ = edge-across 1 a b (omega arith) e in
-          subst Twice (λ i. sym p₁ i ++ (sym p₂ i ++ (sym p₃ i ++ (sym p₄ i ++ []))))
-          (four (0 + 3 * a) (1 + 3 * a) (0 + 3 * b) (1 + 3 * b) (omega arith) (omega arith) (omega arith))
+          record {
+            twice = subst Twice (λ i. sym p₁ i ++ (sym p₂ i ++ (sym p₃ i ++ (sym p₄ i ++ []))))
+                (four (0 + 3 * a) (1 + 3 * a) (0 + 3 * b) (1 + 3 * b) (omega arith) (omega arith) (omega arith));
+            hang = four-hang (edgeOf (suc (length ks))) (2 + 3 * a) (2 + 3 * b) (0 + 3 * ofDigits ks) (1 + 3 * ofDigits ks)
+                (0 + 3 * a) (1 + 3 * a) (0 + 3 * b) (1 + 3 * b) p₁ p₂ p₃ p₄;
+          }
       go (a ∷ b ∷ c ∷ xs) e f = absurd (let n = f .count in omega arith)
 
-front-closed : (k : ℕ) (ks : List ℕ) → k < 2 → Twice (edgeEnds (length ks) (faceNumbers ks)) → Twice (edgeEnds (suc (length ks)) (faceNumbers (k ∷ ks)))
-front-closed k ks l h =
-    let e = ap (edgeEnds (suc (length ks))) (faces-low k ks l) ∙ ends-front k (length ks) (faceNumbers ks) l in
-    subst Twice (sym e) (twice-front k (edgeEnds (length ks) (faceNumbers ks)) h)
+front-ring : (k : ℕ) (ks : List ℕ) → k < 2 → Ringed (length ks) (faceNumbers ks) → Ringed (suc (length ks)) (faceNumbers (k ∷ ks))
+front-ring k ks l h = subst (Ringed (suc (length ks))) (sym (faces-low k ks l)) (record {
+  twice = subst Twice (sym (ends-front k (length ks) (faceNumbers ks) l)) (twice-front k (edgeEnds (length ks) (faceNumbers ks)) (h .twice));
+  hang = hang-front k (length ks) (faceNumbers ks) l (h .hang);
+})
 
-pub squares-closed : (ks : List ℕ) → Below 3 ks → twos ks ≡ 2 → Twice (edgeEnds (length ks) (faceNumbers ks))
-squares-closed [] l e = absurd (omega arith)
-squares-closed (zero ∷ ks) l e = front-closed 0 ks (omega arith) (squares-closed ks (l .1) e)
-squares-closed (suc zero ∷ ks) l e = front-closed 1 ks (omega arith) (squares-closed ks (l .1) e)
-squares-closed (suc (suc zero) ∷ ks) l e = square ks (l .1) (omega arith)
-squares-closed (suc (suc (suc k)) ∷ ks) l e = absurd (let h = l .0 in omega arith)
+pub square-ring : (ks : List ℕ) → Below 3 ks → twos ks ≡ 2 → Ringed (length ks) (faceNumbers ks)
+square-ring [] l e = absurd (omega arith)
+square-ring (zero ∷ ks) l e = front-ring 0 ks (omega arith) (square-ring ks (l .1) e)
+square-ring (suc zero ∷ ks) l e = front-ring 1 ks (omega arith) (square-ring ks (l .1) e)
+square-ring (suc (suc zero) ∷ ks) l e = square ks (l .1) (omega arith)
+square-ring (suc (suc (suc k)) ∷ ks) l e = absurd (let h = l .0 in omega arith)

@@ -1,7 +1,7 @@
 -- One table goes on from another: the same dimension, and each list begins with the old one.
 -- So an old entry keeps its number and content, and what looks only at old entries sees the same.
 use Prim.Native.Nat.{_+_, _≤_, ℕ, _<_, zero, suc}
-use mathlib.Core.Bool.{Bool, true, false}
+use mathlib.Core.Bool.{Bool, true, false, not, _&&_}
 use mathlib.Core.List.{List, [], append-nil, _++_, append-assoc, _∷_}
 use mathlib.Core.Path.{refl, sym, ap, _∙_, _≡_, ap₂}
 use native.Mathlib.Nat.{le-trans}
@@ -9,11 +9,13 @@ use native.Mathlib.Omega.{arith}
 use lib.Dec.{ltb, eqb}
 use lib.Ieee.{Float}
 use lib.ListN.{length, length-append, getD, List·getD-append}
-use Rattle.rules.specs.Lists.{if_then_else_, withMember, all, occurrences}
-use Rattle.rules.specs.Table.{Table, element, elementCount, Element, corner, rank, rankOf, boundaryOf, Plane}
-use Rattle.rules.specs.Sound.{endsOf, closed}
+use Rattle.rules.specs.Lists.{if_then_else_, withMember, all, keep, member, occurrences}
+use Rattle.rules.specs.Table.{Table, element, elementCount, Element, corner, rank, rankOf, boundary, boundaryOf, Plane}
+use Rattle.rules.specs.Walk.{endsOf, edgesAt, otherEnd, otherEdge, walk, firstEdge, lowestOf, startOf, around, eachOnce}
+use Rattle.rules.specs.Sound.{closed}
 use Rattle.rules.specs.Cut.{withElement, withPoint, withPlane}
 use Rattle.rules.specs.Held.{Begins, Extends}
+use Rattle.rules.proofs.Laws.{either}
 
 pub begins-refl : {A : Type 0} (xs : List A) → Begins xs xs
 begins-refl xs = ([], sym (append-nil xs))
@@ -81,10 +83,66 @@ pub ends-same : (t l : Table) (b : List ℕ) → Extends t l → Below (elementC
 ends-same t l [] x h = refl
 ends-same t l (e ∷ es) x h = ap₂ (λ (p q : List ℕ). p ++ q) (ap boundaryOf (element-same t l e x (h .0))) (ends-same t l es x (h .1))
 
+-- ---- and so does the walk along old edges
+
+below-keep : (n : ℕ) (p : ℕ → Bool) (xs : List ℕ) → Below n xs → Below n (keep p xs)
+below-keep n p [] h = tt
+below-keep n p (x ∷ xs) h = below-if n (p x) (x ∷ keep p xs) (keep p xs) (h .0, below-keep n p xs (h .1)) (below-keep n p xs (h .1))
+
+module _ (t l : Table) (g : Extends t l) (es : List ℕ) (old : Below (elementCount t) es) where
+  at-same : (v : ℕ) → edgesAt l v es ≡ edgesAt t v es
+  at-same v = go es old
+    where
+      go : (xs : List ℕ) → Below (elementCount t) xs → edgesAt l v xs ≡ edgesAt t v xs
+      go [] h = refl
+      go (x ∷ xs) h =
+          ap₂ (λ (b : List ℕ) (r : List ℕ). if member v b then x ∷ r else r) (ap boundaryOf (element-same t l x g (h .0))) (go xs (h .1))
+
+  end-same : (v e : ℕ) → e < elementCount t → otherEnd l v e ≡ otherEnd t v e
+  end-same v e u = ap (λ (b : List ℕ). if eqb (getD b 0 0) v then getD b 1 0 else getD b 0 0) (ap boundaryOf (element-same t l e g u))
+
+  other-same : (w e : ℕ) → otherEdge l w e es ≡ otherEdge t w e es
+  other-same w e = ap (λ (xs : List ℕ). getD (keep (λ x. not (eqb x e)) xs) 0 0) (at-same w)
+
+  module _ (some : 0 < elementCount t) where
+    walk-same : (n start v e : ℕ) → e < elementCount t → walk n l es start v e ≡ walk n t es start v e
+    unfolding walk
+    walk-same zero start v e u = refl
+    walk-same (suc n) start v e u =
+        let w = otherEnd t v e in
+        let d = otherEdge t w e es in
+        let used : d < elementCount t = below-get (elementCount t) (keep (λ x. not (eqb x e)) (edgesAt t w es)) 0 some (below-keep (elementCount t) (λ x. not (eqb x e)) (edgesAt t w es) (below-keep (elementCount t) (λ x. member w (boundary t x)) es old)) in
+        ap (λ (w′ : ℕ). (e, w′) ∷ (if eqb w′ start then [] else walk n l es start w′ (otherEdge l w′ e es))) (end-same v e u)
+        ∙ ap (λ (rest : List (ℕ × ℕ)). (e, w) ∷ (if eqb w start then [] else rest)) (ap (walk n l es start w) (other-same w e) ∙ walk-same n start w d used)
+
+    first-same : (v : ℕ) → firstEdge l v es ≡ firstEdge t v es
+    first-same v =
+        let a = getD (edgesAt t v es) 0 0 in
+        let b = getD (edgesAt t v es) 1 0 in
+        let ua : a < elementCount t = below-get (elementCount t) (edgesAt t v es) 0 some (below-keep (elementCount t) (λ x. member v (boundary t x)) es old) in
+        let ub : b < elementCount t = below-get (elementCount t) (edgesAt t v es) 1 some (below-keep (elementCount t) (λ x. member v (boundary t x)) es old) in
+        ap (λ (xs : List ℕ). if ltb (otherEnd l v (getD xs 1 0)) (otherEnd l v (getD xs 0 0)) then getD xs 1 0 else getD xs 0 0) (at-same v)
+        ∙ ap₂ (λ (p q : ℕ). if ltb p q then b else a) (end-same v b ub) (end-same v a ua)
+
+    first-used : (v : ℕ) → firstEdge t v es < elementCount t
+    first-used v =
+        let h = below-keep (elementCount t) (λ x. member v (boundary t x)) es old in
+        either (λ (x : ℕ). x < elementCount t) (ltb (otherEnd t v (getD (edgesAt t v es) 1 0)) (otherEnd t v (getD (edgesAt t v es) 0 0))) _ _
+        (below-get (elementCount t) (edgesAt t v es) 1 some h) (below-get (elementCount t) (edgesAt t v es) 0 some h)
+
+    around-same : around l es ≡ around t es
+    around-same =
+        ap (λ (ends : List ℕ). walk (length es) l es (lowestOf ends) (lowestOf ends) (firstEdge l (lowestOf ends) es)) (ends-same t l es g old)
+        ∙ ap (walk (length es) l es (startOf t es) (startOf t es)) (first-same (startOf t es))
+        ∙ walk-same (length es) (startOf t es) (startOf t es) (firstEdge t (startOf t es) es) (first-used (startOf t es))
+
 pub closed-same : (t l : Table) (r : ℕ) (b : List ℕ) → Extends t l → Below (elementCount t) b → closed l r b ≡ closed t r b
 closed-same t l zero b x h = refl
 closed-same t l (suc zero) b x h = refl
-closed-same t l (suc (suc zero)) b x h = ap (λ (es : List ℕ). all (λ v. eqb (occurrences v es) 2) es) (ends-same t l b x h)
+closed-same t l (suc (suc zero)) [] x h = refl
+closed-same t l (suc (suc zero)) (e ∷ es) x h =
+    ap₂ (λ (ends : List ℕ) (steps : List (ℕ × ℕ)). all (λ v. eqb (occurrences v ends) 2) ends && eachOnce (e ∷ es) steps)
+    (ends-same t l (e ∷ es) x h) (around-same t l x (e ∷ es) h (let u = h .0 in omega (arith, u)))
 closed-same t l (suc (suc (suc r))) b x h = refl
 
 -- ---- one entry more

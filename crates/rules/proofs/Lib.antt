@@ -1,4 +1,5 @@
 pub mod Answers
+pub mod Apart
 pub mod Borders
 pub mod Built
 pub mod Calls

@@ -27,7 +27,7 @@ use Rattle.rules.proofs.OneCorner.{stays-unmatched}
 use Rattle.rules.proofs.Reach.{is-below}
 use Rattle.rules.proofs.Common.{sub-elements-are-least, vertex-set-is-the-union, common-are-greatest}
 use Rattle.rules.proofs.Refusals.{cube-by, cubeBy, refused-cut-leaves, refused-cube-leaves, refused-list-leaves, list-fills-front, cut-numbers, cube-numbers, list-numbers, facet-numbers, sound-numbers}
-use Rattle.rules.proofs.RingWalked.{ring-is-walked}
+use Rattle.rules.proofs.RingWalked.{rule-is-one-ring, face-is-one-ring, face-is-walked}
 use Rattle.rules.proofs.Roomier.{roomier-alike}
 use Rattle.rules.proofs.RoundTrip.{written-sound, table-back, memory-back}
 use Rattle.rules.proofs.VertexSet.{vertex-set-rises, no-facet-in-one-dimension}
@@ -115,7 +115,9 @@ module _ (L : Limits) (R : Readable L) (H : HasCubes L) where
     vertex-set-rises = λ t s e. vertex-set-rises L t s e;
     common-are-greatest = λ t s es xs u h. common-are-greatest L t s es xs u h;
     walk-goes-round = walk-goes-round L;
-    ring-is-walked = ring-is-walked L;
+    rule-is-one-ring = rule-is-one-ring L;
+    face-is-one-ring = face-is-one-ring L;
+    face-is-walked = face-is-walked L;
     no-facet-in-one-dimension = no-facet-in-one-dimension L;
   }
 

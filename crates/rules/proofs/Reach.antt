@@ -7,14 +7,14 @@ use native.Mathlib.Nat.{zero-lt-suc, not-suc-le-zero, le-of-suc-le-suc, suc-inj,
 use lib.Dec.{eqb}
 use lib.ListN.{length, getD}
 use Rattle.rules.specs.Limits.{Limits}
-use Rattle.rules.specs.Lists.{any}
+use Rattle.rules.specs.Lists.{any, member}
 use Rattle.rules.specs.Table.{Table, boundary, rank, elementCount, element, Element, corner, boundaryOf, polytope}
 use Rattle.rules.specs.Sound.{sound}
 use Rattle.rules.specs.Questions.{reaches, isBelow}
 use Rattle.rules.specs.Promises.{Reaches, itself, lower, border}
 use Rattle.rules.proofs.Borders.{sound-bordered}
 use Rattle.rules.proofs.Good.{above-zero, sound-good}
-use Rattle.rules.proofs.Laws.{or-case, or-left, or-right, eq-test, test-eq}
+use Rattle.rules.proofs.Laws.{or-case, or-left, or-right, eq-test, test-eq, eqb-self}
 
 pub some-at : (p : ℕ → Bool) (b : List ℕ) → any p b ≡ true → (n : ℕ) × (n < length b) × (p (getD b n 0) ≡ true)
 some-at p [] h = absurd (false≢true h)
@@ -32,6 +32,20 @@ pub at-some : (p : ℕ → Bool) (b : List ℕ) (n : ℕ) → n < length b → p
 at-some p [] n l h = absurd (not-suc-le-zero l)
 at-some p (y ∷ ys) zero l h = or-left (p y) (any p ys) h
 at-some p (y ∷ ys) (suc n) l h = or-right (p y) (any p ys) (at-some p ys n (le-of-suc-le-suc l) h)
+
+-- the same, by members
+pub some-of : (p : ℕ → Bool) (xs : List ℕ) → any p xs ≡ true → (z : ℕ) × (member z xs ≡ true) × (p z ≡ true)
+some-of p [] h = absurd (false≢true h)
+some-of p (x ∷ xs) h =
+    or-case (p x) (any p xs) h ((z : ℕ) × (member z (x ∷ xs) ≡ true) × (p z ≡ true))
+    (λ e. (x, or-left (eqb x x) (member x xs) (eqb-self x), e))
+    (λ k. let s = some-of p xs k in (s .0, or-right (eqb (s .0) x) (member (s .0) xs) (s .1), s .2))
+
+pub any-at : (p : ℕ → Bool) (xs : List ℕ) (z : ℕ) → member z xs ≡ true → p z ≡ true → any p xs ≡ true
+any-at p [] z h k = absurd (false≢true h)
+any-at p (x ∷ xs) z h k =
+    or-case (eqb z x) (member z xs) h (any p (x ∷ xs) ≡ true)
+    (λ e. or-left (p x) (any p xs) (subst (λ (y : ℕ). p y ≡ true) (eq-test z x e) k)) (λ m. or-right (p x) (any p xs) (any-at p xs z m k))
 
 -- on any table, what is listed is reached
 pub reached : (t : Table) (r e x : ℕ) → reaches t r e x ≡ true → Reaches t e x

@@ -1,20 +1,21 @@
 -- Demand 1 and the numbers: a refusal leaves what was lent, and carries a number of its table. By cases on each reply's tests.
-use Prim.Native.Nat.{ℕ, _<_, _≤_}
+use Prim.Native.Nat.{ℕ, suc, _<_, _≤_}
 use mathlib.Core.Bool.{Bool, false, true, _||_, not, _&&_}
 use mathlib.Core.List.{List, _∷_, [], _++_}
 use mathlib.Core.Path.{_≡_, sym, _∙_, ap, refl, subst}
 use native.Mathlib.Nat.{suc-ne-zero, lt-irrefl}
 use lib.Dec.{ltb, eqb, leb}
 use lib.Ieee.{Float}
-use lib.ListN.{length, drop, getD}
+use lib.ListN.{length, drop}
 use lib.Seq.{length-front, length-take-le, drop-append-seam}
 use Rattle.rules.specs.Limits.{Limits}
 use Rattle.rules.specs.Lists.{member, if_then_else_, all}
-use Rattle.rules.specs.Table.{elementCount, Table, rank, boundary}
+use Rattle.rules.specs.Table.{elementCount, Table, rank}
+use Rattle.rules.specs.Sound.{sound}
 use Rattle.rules.specs.Memory.{Memory, soundMemory, decode, encode, rightSize}
 use Rattle.rules.specs.Cube.{cube, radiusFits}
 use Rattle.rules.specs.Cut.{cut, refused, Outcome, done}
-use Rattle.rules.specs.Questions.{Asked, no-answer, answer, subElements, withRank, vertexSet, greatestCommon, edgesInOrder, eachOnce, walk, firstEdge, pairs, primordialFacet}
+use Rattle.rules.specs.Questions.{Asked, no-answer, answer, subElements, withRank, vertexSet, greatestCommon, edgesInOrder, primordialFacet}
 use Rattle.rules.specs.Replies.{cutReply, dividerFits, dividerOf, cutNumber, cubeReply, listed, listNumber, asked, inNumbers, subElementsReply, withRankReply, vertexSetReply, greatestCommonReply, edgesInOrderReply, primordialFacetReply, facetAnswer, isSoundReply}
 use Rattle.rules.specs.Promises.{RefusedCutLeaves, CutNumbers, RefusedCubeLeaves, CubeNumbers, ListQuestion, subElementsOf, subElementsWithRank, vertexSetOf, greatestCommonOf, edgesInOrderOf, listReply, RefusedListLeaves, ListFillsFront, listRefusals, ListNumbers, FacetNumbers, SoundNumbers}
 use Rattle.rules.specs.declared.CutReply.{CutReply}
@@ -25,8 +26,9 @@ use Rattle.rules.specs.declared.Hyperplane.{Hyperplane}
 use Rattle.rules.specs.declared.ListReply.{ListReply}
 use Rattle.rules.specs.declared.ListReply.the-variants.{Listed, Refused as ListRefused}
 use Rattle.rules.proofs.Built.{RuleNumber, refused-number}
-use Rattle.rules.proofs.Laws.{holds, le-test, either}
-use Rattle.rules.proofs.OneCall.{reply-by, replyBy}
+use Rattle.rules.proofs.Laws.{holds, and-left, and-right, le-test, eq-test, either, if-true}
+use Rattle.rules.proofs.OneCall.{reply-by, replyBy, sound-table}
+use Rattle.rules.proofs.RingWalked.{face-is-walked}
 
 -- ---- the cut
 
@@ -178,33 +180,36 @@ abbrev RefusedIn : {A : Type 0} → List ℕ → Asked A → Type 0
 RefusedIn ns (no-answer n) = member n ns ≡ true
 RefusedIn ns (answer x) = Unit {0}
 
-asked-in : {A : Type 0} (L : Limits) (m : Memory) (es ns : List ℕ) (q : Asked A) → member 3 ns ≡ true → member 4 ns ≡ true → RefusedIn ns q → RefusedIn ns (asked L m es q)
-asked-in {A} L m es ns q h₃ h₄ h = go (soundMemory L m) (all (λ e. ltb e (elementCount (decode L m))) es)
+-- asked of a sound memory, with numbers in use
+asked-of : {A : Type 0} (L : Limits) (m : Memory) (es ns : List ℕ) (q : Asked A) → member 3 ns ≡ true → member 4 ns ≡ true
+    → (soundMemory L m ≡ true → all (λ e. ltb e (elementCount (decode L m))) es ≡ true → RefusedIn ns q) → RefusedIn ns (asked L m es q)
+asked-of {A} L m es ns q h₃ h₄ h = go (soundMemory L m) (all (λ e. ltb e (elementCount (decode L m))) es) refl refl
   where
-    go : (s u : Bool) → RefusedIn {A = A} ns (if not s then no-answer 3 else if not u then no-answer 4 else q)
-    go false u = h₃
-    go true false = h₄
-    go true true = h
+    go : (s u : Bool) → soundMemory L m ≡ s → all (λ e. ltb e (elementCount (decode L m))) es ≡ u
+        → RefusedIn {A = A} ns (if not s then no-answer 3 else if not u then no-answer 4 else q)
+    go false u p r = h₃
+    go true false p r = h₄
+    go true true p r = h p r
+
+asked-in : {A : Type 0} (L : Limits) (m : Memory) (es ns : List ℕ) (q : Asked A) → member 3 ns ≡ true → member 4 ns ≡ true → RefusedIn ns q → RefusedIn ns (asked L m es q)
+asked-in L m es ns q h₃ h₄ h = asked-of L m es ns q h₃ h₄ (λ s u. h)
 
 greatest-in : (t : Table) (es : List ℕ) → RefusedIn (3 ∷ 4 ∷ 6 ∷ 12 ∷ []) (greatestCommon t es)
 unfolding greatestCommon
 greatest-in t [] = refl
 greatest-in t (e ∷ es) = either (RefusedIn (3 ∷ 4 ∷ 6 ∷ 12 ∷ [])) (all (λ x. eqb (rank t x) (rank t e)) es) _ _ tt refl
 
-edges-in : (t : Table) (f : ℕ) → RefusedIn (3 ∷ 4 ∷ 6 ∷ 7 ∷ 12 ∷ []) (inNumbers (edgesInOrder t f))
+six : (t : Table) (f : ℕ) → eqb (rank t f) 2 ≡ false → edgesInOrder t f ≡ no-answer 6
 unfolding edgesInOrder
-edges-in t f = go (not (eqb (rank t f) 2)) (eachOnce (boundary t f) steps)
+six t f q = if-true (not (eqb (rank t f) 2)) _ _ (ap not q)
+
+-- the walk of a face of a sound table is answered
+edges-in : (L : Limits) (t : Table) (f : ℕ) → sound L t ≡ true → f < elementCount t → RefusedIn (3 ∷ 4 ∷ 6 ∷ 12 ∷ []) (inNumbers (edgesInOrder t f))
+edges-in L t f s u = go (eqb (rank t f) 2) refl
   where
-    start : ℕ
-    start = getD (withRank t 0 f) 0 0
-
-    steps : List (ℕ × ℕ)
-    steps = walk (length (boundary t f)) t (boundary t f) start start (firstEdge t start (boundary t f))
-
-    go : (b c : Bool) → RefusedIn (3 ∷ 4 ∷ 6 ∷ 7 ∷ 12 ∷ []) (inNumbers (if b then no-answer 6 else if c then answer (pairs t start steps) else no-answer 7))
-    go true c = refl
-    go false true = tt
-    go false false = refl
+    go : (b : Bool) → eqb (rank t f) 2 ≡ b → RefusedIn (3 ∷ 4 ∷ 6 ∷ 12 ∷ []) (inNumbers (edgesInOrder t f))
+    go true q = let w = face-is-walked L t s f u (eq-test (rank t f) 2 q) in subst (λ (a : Asked (List (ℕ × ℕ))). RefusedIn (3 ∷ 4 ∷ 6 ∷ 12 ∷ []) (inNumbers a)) (sym (w .1)) tt
+    go false q = subst (λ (a : Asked (List (ℕ × ℕ))). RefusedIn (3 ∷ 4 ∷ 6 ∷ 12 ∷ []) (inNumbers a)) (sym (six t f q)) refl
 
 list-in : (L : Limits) (q : ListQuestion) (m : Memory) → RefusedIn (listRefusals q) (list-answer L q m)
 unfolding list-answer
@@ -212,7 +217,9 @@ list-in L (subElementsOf e) m = asked-in L m (e ∷ []) _ (answer (subElements (
 list-in L (subElementsWithRank k e) m = asked-in L m (e ∷ []) _ (answer (withRank (decode L m) k e)) refl refl tt
 list-in L (vertexSetOf e) m = asked-in L m (e ∷ []) _ (answer (vertexSet (decode L m) e)) refl refl tt
 list-in L (greatestCommonOf es) m = asked-in L m es _ (greatestCommon (decode L m) es) refl refl (greatest-in (decode L m) es)
-list-in L (edgesInOrderOf e) m = asked-in L m (e ∷ []) _ (inNumbers (edgesInOrder (decode L m) e)) refl refl (edges-in (decode L m) e)
+list-in L (edgesInOrderOf e) m =
+    asked-of L m (e ∷ []) _ (inNumbers (edgesInOrder (decode L m) e)) refl refl
+    (λ s u. edges-in L (decode L m) e (sound-table L m s) (le-test (suc e) (elementCount (decode L m)) (and-left (ltb e (elementCount (decode L m))) true u)))
 
 -- a room too short is 12
 last-in : (q : ListQuestion) → member 12 (listRefusals q) ≡ true

@@ -1,23 +1,24 @@
--- A face is walked exactly when its edges are one ring. On a ring, no edge is met again before the start is: of the edges taken only two corners have an edge beyond, the walk's own and the start.
+-- Edges are walked, each once, exactly when they are one ring, wherever the walk starts; so a face of a sound table is walked. On a ring, no edge is met again before the start is: of the edges taken only two corners have an edge beyond, the walk's own and the start.
 -- So there is fuel for every step, and the edges taken when the walk is back are all. And where it takes all and comes back, what spreads from edge to edge spreads over all.
 use Prim.Native.Nat.{ℕ, zero, suc, _+_, _≤_, _<_, zero-le, suc-le-suc}
-use mathlib.Core.Bool.{Bool, true, false, not, _||_, false≢true, true≢false}
-use mathlib.Core.List.{List, [], _∷_}
-use mathlib.Core.Path.{_≡_, refl, sym, ap, subst, _∙_}
+use mathlib.Core.Bool.{Bool, true, false, not, _&&_, _||_, false≢true, true≢false}
+use mathlib.Core.List.{List, [], _∷_, _++_}
+use mathlib.Core.Path.{_≡_, refl, sym, ap, ap₂, subst, _∙_}
 use native.Mathlib.Nat.{le-trans, le-of-lt, le-refl, le-of-suc-le-suc, zero-lt-suc, add-zero, zero-add}
 use native.Mathlib.Omega.{arith}
-use lib.Dec.{eqb}
+use lib.Dec.{eqb, ltb}
 use lib.ListN.{length}
 use Rattle.rules.specs.Limits.{Limits}
-use Rattle.rules.specs.Lists.{if_then_else_, all, keep, member, occurrences}
+use Rattle.rules.specs.Lists.{if_then_else_, all, keep, member, occurrences, rises}
 use Rattle.rules.specs.Table.{Table, boundary, rank, elementCount}
-use Rattle.rules.specs.Sound.{sound}
-use Rattle.rules.specs.Questions.{answer, otherEnd, otherEdge, walk, eachOnce, pairs, edgesInOrder}
-use Rattle.rules.specs.Promises.{OneRing, RingIsWalked}
+use Rattle.rules.specs.Walk.{endsOf, otherEnd, otherEdge, walk, startOf, around, eachOnce, eachTwice}
+use Rattle.rules.specs.Sound.{sound, closed}
+use Rattle.rules.specs.Questions.{answer, pairs, edgesInOrder}
+use Rattle.rules.specs.Rings.{HangTogether, Ring, RuleIsOneRing, FaceIsOneRing, FaceIsWalked}
 use Rattle.rules.proofs.Common.{kept-member}
-use Rattle.rules.proofs.FaceEdges.{On, Face, startCorner, startEdge, is-face, start-on}
-use Rattle.rules.proofs.Laws.{and-true, eq-test, test-eq, eqb-self, not-eq, unlike-eq, not-true, or-case, or-left, or-right, or-false, neither, refute, if-true, if-false}
-use Rattle.rules.proofs.WalkRound.{lastCorner, taken, steps, end-on, edge-on, only-edge, along, told, all-taken, comes-back}
+use Rattle.rules.proofs.FaceEdges.{of-all, Two, On, Face, startEdge, Linked, is-face, start-on, edge-two, linked, takes-all}
+use Rattle.rules.proofs.Laws.{and-true, and-left, and-right, le-test, eq-test, test-eq, eqb-self, not-eq, unlike-eq, not-true, or-case, or-left, or-right, or-false, neither, refute, if-true, if-false}
+use Rattle.rules.proofs.WalkRound.{lastCorner, taken, end-on, edge-on, only-edge, along, all-taken, comes-back}
 
 -- ---- counts
 
@@ -33,7 +34,7 @@ fewer p q (x ∷ xs) h = go (q x) (p x) (h x) (fewer p q xs h)
     go false false f l = l
 
 -- and is less where it leaves a member out
-less : (p q : ℕ → Bool) (xs : List ℕ) (e : ℕ) → ((x : ℕ) → q x ≡ true → p x ≡ true) → member e xs ≡ true → p e ≡ true → q e ≡ false → length (keep q xs) < length (keep p xs)
+pub less : (p q : ℕ → Bool) (xs : List ℕ) (e : ℕ) → ((x : ℕ) → q x ≡ true → p x ≡ true) → member e xs ≡ true → p e ≡ true → q e ≡ false → length (keep q xs) < length (keep p xs)
 less p q [] e h m a b = absurd (false≢true m)
 less p q (x ∷ xs) e h m a b =
     or-case (eqb e x) (member e xs) m (length (keep q (x ∷ xs)) < length (keep p (x ∷ xs)))
@@ -193,9 +194,7 @@ module _ (t : Table) (es : List ℕ) (k : Face t es) (start first : ℕ) (at-sta
 
   -- ---- the whole walk
 
-  module _ (whole : (S : ℕ → Bool) (e : ℕ) → member e es ≡ true → S e ≡ true
-      → ((x y v : ℕ) → member x es ≡ true → member y es ≡ true → member v (boundary t x) ≡ true → member v (boundary t y) ≡ true → S x ≡ true → S y ≡ true)
-      → (x : ℕ) → member x es ≡ true → S x ≡ true) where
+  module _ (whole : HangTogether t es) where
     each-once : (n : ℕ) (past : List ℕ) (v e : ℕ) → Past past v e → length (left past) ≤ n
         → (x : ℕ) → member x es ≡ true → occurrences x past + occurrences x (taken (walk n t es start v e)) ≡ 1
     unfolding walk
@@ -238,9 +237,9 @@ module _ (t : Table) (es : List ℕ) (k : Face t es) (start first : ℕ) (at-sta
         here v e ss h x m later = or-case (eqb x e) (member x (taken ss)) m (S x ≡ true) (λ q. subst (λ (y : ℕ). S y ≡ true) (sym (eq-test x e q)) h) later
 
     -- to the first
-    around : (n v e : ℕ) → On t es v e → lastCorner v (walk n t es start v e) ≡ start
+    around-to : (n v e : ℕ) → On t es v e → lastCorner v (walk n t es start v e) ≡ start
         → ((v ≡ start → ⊥) → S e ≡ true → S first ≡ true) × ((x : ℕ) → member x (taken (walk n t es start v e)) ≡ true → S x ≡ true → S first ≡ true)
-    around =
+    around-to =
         along t es k start (λ v e ss. lastCorner v ss ≡ start → ((v ≡ start → ⊥) → S e ≡ true → S first ≡ true) × ((x : ℕ) → member x (taken ss) ≡ true → S x ≡ true → S first ≡ true))
         (λ v e a. (λ d h. absurd (d a), λ x m h. absurd (false≢true m)))
         (λ v e o q a. (λ d h. close v e o q h, λ x m h. or-case (eqb x e) false m (S first ≡ true) (λ z. close v e o q (same x e z h)) (λ z. absurd (false≢true z))))
@@ -253,41 +252,93 @@ module _ (t : Table) (es : List ℕ) (k : Face t es) (start first : ℕ) (at-sta
         close : (v e : ℕ) → On t es v e → otherEnd t v e ≡ start → S e ≡ true → S first ≡ true
         close v e o q h = share e first start (o .0) (at-start .0) (subst (λ (y : ℕ). member y (boundary t e) ≡ true) q (end-on t es k v e o .1)) (at-start .1) h
 
--- ---- the answer
+-- ---- any edges with two ends each, where each corner is met twice
 
-module _ (L : Limits) (t : Table) (s : sound L t ≡ true) (f : ℕ) (u : f < elementCount t) (r : rank t f ≡ 2) where
-  unstarted : Past t (boundary t f) (is-face L t s f u r) (startCorner t f) (startEdge t f) (start-on L t s f u r) [] (startCorner t f) (startEdge t f)
-  unstarted = record {
-    once = λ x h. absurd (false≢true h);
-    here = start-on L t s f u r;
-    fresh = refl;
-    origin = λ a. refl;
-    began = λ d. absurd (d refl);
-    turned = λ y o n d. absurd (d refl);
-    shut = λ x y c h m o d n. absurd (false≢true h);
-  }
+module _ (t : Table) (es : List ℕ) (l : Linked t es) where
+  abbrev v₀ : ℕ
+  v₀ = startOf t es
 
-  ring-taken : OneRing t f → eachOnce (boundary t f) (steps t f) ≡ true
+  abbrev e₀ : ℕ
+  e₀ = startEdge t es
+
+  k : Face t es
+  k = is-face t es l
+
+  module _ (o : On t es v₀ e₀) where
+    unstarted : Past t es k v₀ e₀ o [] v₀ e₀
+    unstarted = record {
+      once = λ x h. absurd (false≢true h);
+      here = o;
+      fresh = refl;
+      origin = λ a. refl;
+      began = λ d. absurd (d refl);
+      turned = λ y p n d. absurd (d refl);
+      shut = λ x y c h m p d n. absurd (false≢true h);
+    }
+
+  pub ring-taken : HangTogether t es → eachOnce es (around t es) ≡ true
   ring-taken whole =
-      all-of (λ e. eqb (occurrences e (taken (steps t f))) 1) (boundary t f) (λ e m.
-      test-eq (occurrences e (taken (steps t f))) 1 (sym (zero-add (occurrences e (taken (steps t f))))
-      ∙ each-once t (boundary t f) (is-face L t s f u r) (startCorner t f) (startEdge t f) (start-on L t s f u r) whole (length (boundary t f)) [] (startCorner t f) (startEdge t f) unstarted
-      (kept-length (λ x. not (member x [])) (boundary t f)) e m))
+      all-of (λ e. eqb (occurrences e (taken (around t es))) 1) es (λ e m.
+      let o = start-on t es l e m in
+      test-eq (occurrences e (taken (around t es))) 1 (sym (zero-add (occurrences e (taken (around t es))))
+      ∙ each-once t es k v₀ e₀ o whole (length es) [] v₀ e₀ (unstarted o) (kept-length (λ x. not (member x [])) es) e m))
 
-  answers : OneRing t f → (ps : List (ℕ × ℕ)) × (edgesInOrder t f ≡ answer ps)
-  unfolding edgesInOrder
-  answers whole = (
-    pairs t (startCorner t f) (steps t f),
-    if-false (not (eqb (rank t f) 2)) _ _ (ap not (test-eq (rank t f) 2 r)) ∙ if-true (eachOnce (boundary t f) (steps t f)) _ _ (ring-taken whole),
-  )
+  pub taken-ring : eachOnce es (around t es) ≡ true → HangTogether t es
+  taken-ring h S e m z share x n =
+      let o = start-on t es l e m in
+      let first = around-to t es k v₀ e₀ o S share (length es) v₀ e₀ o (comes-back t es k o h) .1 e (all-taken t es k o h e m) z in
+      forward t es k v₀ e₀ o S share (length es) v₀ e₀ o first x (all-taken t es k o h x n)
 
-  one-ring : eachOnce (boundary t f) (steps t f) ≡ true → OneRing t f
-  one-ring h S e m z share x n =
-      let k = is-face L t s f u r in
-      let o = start-on L t s f u r in
-      let first = around t (boundary t f) k (startCorner t f) (startEdge t f) o S share (length (boundary t f)) (startCorner t f) (startEdge t f) o (comes-back L t s f u r h)
-      .1 e (all-taken L t s f u r h e m) z in
-      forward t (boundary t f) k (startCorner t f) (startEdge t f) o S share (length (boundary t f)) (startCorner t f) (startEdge t f) o first x (all-taken L t s f u r h x n)
+-- ---- in a sound table
 
-pub ring-is-walked : (L : Limits) → RingIsWalked L
-ring-is-walked L t s f u r = (answers L t s f u r, λ ps h. one-ring L t s f u r (told t f ps h .each))
+module _ (t : Table) (es : List ℕ) where
+  pub twice-each : eachTwice t es ≡ true → (v : ℕ) → member v (endsOf t es) ≡ true → occurrences v (endsOf t es) ≡ 2
+  twice-each h v m = eq-test (occurrences v (endsOf t es)) 2 (of-all (λ w. eqb (occurrences w (endsOf t es)) 2) (endsOf t es) v h m)
+
+  pub each-twice : ((v : ℕ) → member v (endsOf t es) ≡ true → occurrences v (endsOf t es) ≡ 2) → eachTwice t es ≡ true
+  each-twice h = all-of (λ w. eqb (occurrences w (endsOf t es)) 2) (endsOf t es) (λ v m. test-eq (occurrences v (endsOf t es)) 2 (h v m))
+
+  -- the rule is one ring, for edges that have two ends each
+  module _ (up : rises es ≡ true) (ends : (e : ℕ) → member e es ≡ true → Two (boundary t e)) where
+    pub rule-ring : closed t 2 es ≡ true → Ring t es
+    rule-ring h =
+        let a = and-left (eachTwice t es) (eachOnce es (around t es)) h in
+        let b = and-right (eachTwice t es) (eachOnce es (around t es)) h in
+        record { twice = twice-each a; together = taken-ring t es (record { ends = ends; up = up; twice = a }) b }
+
+    pub ring-rule : Ring t es → closed t 2 es ≡ true
+    ring-rule g =
+        let a = each-twice (g .twice) in
+        and-true (eachTwice t es) (eachOnce es (around t es)) a (ring-taken t es (record { ends = ends; up = up; twice = a }) (g .together))
+
+-- one ring is told by the edges' ends alone
+module _ (t u : Table) (es : List ℕ) (alike : (e : ℕ) → member e es ≡ true → boundary u e ≡ boundary t e) where
+  pub ring-along : Ring t es → Ring u es
+  ring-along g = record {
+    twice = subst (λ (l : List ℕ). (v : ℕ) → member v l ≡ true → occurrences v l ≡ 2) (sym (ends es alike)) (g .twice);
+    together = λ S e m z share. g .together S e m z (λ x y v mx my vx vy. share x y v mx my
+        (subst (λ (l : List ℕ). member v l ≡ true) (sym (alike x mx)) vx) (subst (λ (l : List ℕ). member v l ≡ true) (sym (alike y my)) vy));
+  }
+    where
+      ends : (xs : List ℕ) → ((e : ℕ) → member e xs ≡ true → boundary u e ≡ boundary t e) → endsOf u xs ≡ endsOf t xs
+      ends [] h = refl
+      ends (x ∷ xs) h = ap₂ (λ (p q : List ℕ). p ++ q) (h x (or-left (eqb x x) (member x xs) (eqb-self x))) (ends xs (λ e m. h e (or-right (eqb e x) (member e xs) m)))
+
+pub rule-is-one-ring : (L : Limits) → RuleIsOneRing L
+rule-is-one-ring L t s es up h = (rule-ring t es up ends, ring-rule t es up ends)
+  where
+    ends : (e : ℕ) → member e es ≡ true → Two (boundary t e)
+    ends e m =
+        let a = of-all (λ x. ltb x (elementCount t) && eqb (rank t x) 1) es e h m in
+        edge-two L t s e (le-test (suc e) (elementCount t) (and-left (ltb e (elementCount t)) (eqb (rank t e) 1) a)) (eq-test (rank t e) 1 (and-right (ltb e (elementCount t)) (eqb (rank t e) 1) a))
+
+pub face-is-one-ring : (L : Limits) → FaceIsOneRing L
+face-is-one-ring L t s f u r =
+    let l = linked L t s f u r in record { twice = twice-each t (boundary t f) (l .twice); together = taken-ring t (boundary t f) l (takes-all L t s f u r) }
+
+pub face-is-walked : (L : Limits) → FaceIsWalked L
+unfolding edgesInOrder
+face-is-walked L t s f u r = (
+  pairs t (startOf t (boundary t f)) (around t (boundary t f)),
+  if-false (not (eqb (rank t f) 2)) _ _ (ap not (test-eq (rank t f) 2 r)) ∙ if-true (eachOnce (boundary t f) (around t (boundary t f))) _ _ (takes-all L t s f u r),
+)

@@ -11,10 +11,11 @@ use Rattle.rules.specs.Limits.{Limits}
 use Rattle.rules.specs.Lists.{if_then_else_, keep, member, occurrences}
 use Rattle.rules.specs.Table.{Table, boundary, rank, elementCount}
 use Rattle.rules.specs.Sound.{sound}
-use Rattle.rules.specs.Questions.{Asked, answer, no-answer, otherEnd, otherEdge, walk, eachOnce, pairs, edgesInOrder}
+use Rattle.rules.specs.Walk.{otherEnd, otherEdge, walk, startOf, around, eachOnce}
+use Rattle.rules.specs.Questions.{Asked, answer, no-answer, pairs, edgesInOrder}
 use Rattle.rules.specs.Promises.{Paired, Chain, Walked, WalkGoesRound}
 use Rattle.rules.proofs.Common.{member-kept, kept-member}
-use Rattle.rules.proofs.FaceEdges.{of-all, number, On, Face, startCorner, startEdge, is-face, start-on, start-lowest}
+use Rattle.rules.proofs.FaceEdges.{of-all, number, On, Face, startEdge, is-face, linked, starts, start-lowest}
 use Rattle.rules.proofs.Laws.{eq-test, unlike-eq, or-case}
 
 -- ---- a walk, step by step
@@ -26,9 +27,6 @@ lastCorner v (s ∷ ss) = lastCorner (s .1) ss
 
 abbrev pub taken : List (ℕ × ℕ) → List ℕ
 taken ss = map (λ (s : ℕ × ℕ). s .0) ss
-
-abbrev pub steps : Table → ℕ → List (ℕ × ℕ)
-steps t f = walk (length (boundary t f)) t (boundary t f) (startCorner t f) (startCorner t f) (startEdge t f)
 
 chained : (t : Table) (v : ℕ) (ss : List (ℕ × ℕ)) → Chain (number t v) (pairs t v ss) (number t (lastCorner v ss))
 chained t v [] = refl
@@ -106,46 +104,47 @@ answered (answer ps) = true
 -- what an answer tells
 pub record Told (t : Table) (f : ℕ) (ps : List (ℕ × ℕ)) : Type 0 where
   pub ranked : rank t f ≡ 2
-  pub each : eachOnce (boundary t f) (steps t f) ≡ true
-  pub same : pairs t (startCorner t f) (steps t f) ≡ ps
+  pub each : eachOnce (boundary t f) (around t (boundary t f)) ≡ true
+  pub same : pairs t (startOf t (boundary t f)) (around t (boundary t f)) ≡ ps
 
 pub told : (t : Table) (f : ℕ) (ps : List (ℕ × ℕ)) → edgesInOrder t f ≡ answer ps → Told t f ps
 unfolding edgesInOrder
-told t f ps h = go (eqb (rank t f) 2) (eachOnce (boundary t f) (steps t f)) refl refl h
+told t f ps h = go (eqb (rank t f) 2) (eachOnce (boundary t f) (around t (boundary t f))) refl refl h
   where
-    go : (a b : Bool) → eqb (rank t f) 2 ≡ a → eachOnce (boundary t f) (steps t f) ≡ b
-        → (if not a then no-answer 6 else if b then answer (pairs t (startCorner t f) (steps t f)) else no-answer 7) ≡ answer ps → Told t f ps
+    go : (a b : Bool) → eqb (rank t f) 2 ≡ a → eachOnce (boundary t f) (around t (boundary t f)) ≡ b
+        → (if not a then no-answer 6 else if b then answer (pairs t (startOf t (boundary t f)) (around t (boundary t f))) else no-answer 7) ≡ answer ps → Told t f ps
     go false b r e k = absurd (false≢true (ap answered k))
     go true false r e k = absurd (false≢true (ap answered k))
     go true true r e k = record { ranked = eq-test (rank t f) 2 r; each = e; same = ap given k }
 
-module _ (L : Limits) (t : Table) (s : sound L t ≡ true) (f : ℕ) (u : f < elementCount t) (r : rank t f ≡ 2) (h : eachOnce (boundary t f) (steps t f) ≡ true) where
-  once : (e : ℕ) → member e (boundary t f) ≡ true → occurrences e (taken (steps t f)) ≡ 1
-  once e m = eq-test (occurrences e (taken (steps t f))) 1 (of-all (λ x. eqb (occurrences x (taken (steps t f))) 1) (boundary t f) e h m)
+module _ (t : Table) (es : List ℕ) (k : Face t es) (o : On t es (startOf t es) (startEdge t es)) (h : eachOnce es (around t es) ≡ true) where
+  once : (e : ℕ) → member e es ≡ true → occurrences e (taken (around t es)) ≡ 1
+  once e m = eq-test (occurrences e (taken (around t es))) 1 (of-all (λ x. eqb (occurrences x (taken (around t es))) 1) es e h m)
 
-  pub all-taken : (e : ℕ) → member e (boundary t f) ≡ true → member e (taken (steps t f)) ≡ true
-  all-taken e m = met-once e (taken (steps t f)) (once e m)
+  pub all-taken : (e : ℕ) → member e es ≡ true → member e (taken (around t es)) ≡ true
+  all-taken e m = met-once e (taken (around t es)) (once e m)
 
   -- by the second edge at the start
-  pub comes-back : lastCorner (startCorner t f) (steps t f) ≡ startCorner t f
+  pub comes-back : lastCorner (startOf t es) (around t es) ≡ startOf t es
   comes-back =
-      let k = is-face L t s f u r in
-      let o = start-on L t s f u r in
-      let x = edge-on t (boundary t f) k (startCorner t f) (startEdge t f) o in
-      ends-round t (boundary t f) k (startCorner t f) (otherEdge t (startCorner t f) (startEdge t f) (boundary t f)) (x .1) (length (boundary t f)) (startCorner t f) (startEdge t f) o
-      (λ a. k .edges (startCorner t f) (startEdge t f) o .apart) (all-taken (otherEdge t (startCorner t f) (startEdge t f) (boundary t f)) (x .0))
+      let x = edge-on t es k (startOf t es) (startEdge t es) o in
+      ends-round t es k (startOf t es) (otherEdge t (startOf t es) (startEdge t es) es) (x .1) (length es) (startOf t es) (startEdge t es) o
+      (λ a. k .edges (startOf t es) (startEdge t es) o .apart) (all-taken (otherEdge t (startOf t es) (startEdge t es) es) (x .0))
 
-  goes-round : Walked t f (pairs t (startCorner t f) (steps t f))
+module _ (L : Limits) (t : Table) (s : sound L t ≡ true) (f : ℕ) (u : f < elementCount t) (r : rank t f ≡ 2) (h : eachOnce (boundary t f) (around t (boundary t f)) ≡ true) where
+  goes-round : Walked t f (pairs t (startOf t (boundary t f)) (around t (boundary t f)))
   goes-round =
-      let k = is-face L t s f u r in
-      let o = start-on L t s f u r in
+      let es = boundary t f in
+      let v = startOf t es in
+      let k = is-face t es (linked L t s f u r) in
+      let o = starts L t s f u r in
       record {
-        edges = taken (steps t f);
-        once = once;
-        own = own t (boundary t f) k (startCorner t f) (length (boundary t f)) (startCorner t f) (startEdge t f) o;
-        ends = paired t (boundary t f) k (startCorner t f) (length (boundary t f)) (startCorner t f) (startEdge t f) o;
-        round = subst (λ (a : ℕ). Chain a (pairs t (startCorner t f) (steps t f)) a) (sym (start-lowest L t s f u r))
-            (subst (λ (b : ℕ). Chain (number t (startCorner t f)) (pairs t (startCorner t f) (steps t f)) (number t b)) comes-back (chained t (startCorner t f) (steps t f)));
+        edges = taken (around t es);
+        once = once t es k o h;
+        own = own t es k v (length es) v (startEdge t es) o;
+        ends = paired t es k v (length es) v (startEdge t es) o;
+        round = subst (λ (a : ℕ). Chain a (pairs t v (around t es)) a) (sym (start-lowest L t s f u r))
+            (subst (λ (b : ℕ). Chain (number t v) (pairs t v (around t es)) (number t b)) (comes-back t es k o h) (chained t v (around t es)));
       }
 
 pub walk-goes-round : (L : Limits) → WalkGoesRound L

@@ -5,7 +5,7 @@ use mathlib.Core.Bool.{Bool, true, false}
 use mathlib.Core.Option.{Option, none, some}
 use mathlib.Core.List.{List, [], _∷_, _++_, map}
 use lib.IntN.{pos, negsuc}
-use lib.ListN.{set, drop}
+use lib.ListN.{set, drop, replicate}
 use lib.Ieee.{Float, nan, inf, fin, neg, ofBits, binary64}
 use Rattle.rules.specs.Limits.{Limits}
 use Rattle.rules.specs.Floats.{plusZero, one, tolerance, sideOf, edgeTest, crossingPoint, clamp}
@@ -73,9 +73,49 @@ wider = roomOf 3 5 10 5 5
 abbrev pub small : Limits
 small = roomOf 4 9 20 9 8
 
--- the square of radius 1 in it
+abbrev pub big : Limits
+big = roomOf 4 16 64 8 8
+
+-- the square of radius 1 in the small one
 unfoldable pub smallQ : Memory
 smallQ = encode small (cube 2 one)
+
+-- ---- edges that are no ring
+
+-- two triangles, with these faces: each its own, or the two as one
+abbrev pub sixPoints : List (List Float)
+sixPoints = points ++ (plusZero ∷ two ∷ []) ∷ (two ∷ plusZero ∷ []) ∷ []
+
+unfoldable pub triangles : List Element → Table
+triangles fs = made 2 sixPoints (corners ++ corner 4 ∷ corner 5 ∷ edge 0 1 0 ∷ edge 0 2 0 ∷ edge 1 2 0 ∷ edge 3 4 0 ∷ edge 3 5 0 ∷ edge 4 5 0 ∷ fs) planes
+
+-- two edges between the same two corners, twice over, and beside a triangle
+unfoldable pub doubled : Table
+doubled = made 2 points (corners ++ edge 0 1 0 ∷ edge 0 1 1 ∷ edge 2 3 2 ∷ edge 2 3 3 ∷ wholeFace ∷ []) planes
+
+unfoldable pub besideTriangle : Table
+besideTriangle = made 2 (points ++ (plusZero ∷ two ∷ []) ∷ [])
+    (corners ++ corner 4 ∷ edge 0 1 0 ∷ edge 0 1 1 ∷ edge 2 3 0 ∷ edge 2 4 0 ∷ edge 3 4 0 ∷ face (5 ∷ 6 ∷ 7 ∷ 8 ∷ 9 ∷ []) ∷ []) planes
+
+-- two tetrahedra as one body, each with one corner at x = -1 and three at x = 1: nothing is asked of rank 3
+abbrev pub line3 : ElementNumber → ElementNumber → Element
+line3 a b = polytope 1 (a ∷ b ∷ []) none false
+
+abbrev pub face3 : ElementNumber → ElementNumber → ElementNumber → Element
+face3 a b c = polytope 2 (a ∷ b ∷ c ∷ []) (some 0) false
+
+abbrev pub three : Float
+three = fin false 3 (pos 0)
+
+unfoldable pub tetrahedra : Table
+tetrahedra = made 3
+    ((minusOne ∷ plusZero ∷ plusZero ∷ []) ∷ (one ∷ plusZero ∷ plusZero ∷ []) ∷ (one ∷ one ∷ plusZero ∷ []) ∷ (one ∷ plusZero ∷ one ∷ [])
+    ∷ (minusOne ∷ three ∷ plusZero ∷ []) ∷ (one ∷ three ∷ plusZero ∷ []) ∷ (one ∷ three ∷ one ∷ []) ∷ (one ∷ two ∷ one ∷ []) ∷ [])
+    (corners ++ corner 4 ∷ corner 5 ∷ corner 6 ∷ corner 7
+    ∷ line3 0 1 ∷ line3 0 2 ∷ line3 0 3 ∷ line3 1 2 ∷ line3 1 3 ∷ line3 2 3 ∷ line3 4 5 ∷ line3 4 6 ∷ line3 4 7 ∷ line3 5 6 ∷ line3 5 7 ∷ line3 6 7
+    ∷ face3 8 9 11 ∷ face3 8 10 12 ∷ face3 9 10 13 ∷ face3 11 12 13 ∷ face3 14 15 17 ∷ face3 14 16 18 ∷ face3 15 16 19 ∷ face3 17 18 19
+    ∷ polytope 3 (20 ∷ 21 ∷ 22 ∷ 23 ∷ 24 ∷ 25 ∷ 26 ∷ 27 ∷ []) none false ∷ [])
+    (replicate 6 (record { normal = one ∷ plusZero ∷ plusZero ∷ []; distance = one }))
 
 -- ---- soundness: each line of document 01 broken, and nothing else
 
@@ -138,9 +178,15 @@ soundness =
     ∷ broken (ofElements (corners ++ face (5 ∷ 6 ∷ 7 ∷ 8 ∷ []) ∷ edges))
     ∷ broken (ofElements (corners ++ edges ++ edge 3 4 0 ∷ []))
     ∷ broken (ofElements (corners ++ edge 0 1 0 ∷ edge 0 1 1 ∷ face (4 ∷ 5 ∷ []) ∷ []))
-    -- an edge with three ends; a face that is not closed
+    -- an edge with three ends; a face that is not closed, once with its lowest corner inside the path and once at its end, from where the walk takes each edge once
     ∷ broken (ofElements (corners ++ polytope 1 (0 ∷ 1 ∷ 2 ∷ []) (some 0) true ∷ []))
     ∷ broken (ofElements (corners ++ edges ++ face (4 ∷ 5 ∷ 6 ∷ []) ∷ []))
+    ∷ broken (ofElements (corners ++ edges ++ face (4 ∷ 5 ∷ 7 ∷ []) ∷ []))
+    -- two triangles are two faces, and no face together; nor are two edges between two corners beside others
+    ∷ (verdict (sound small (triangles (face (6 ∷ 7 ∷ 8 ∷ []) ∷ face (9 ∷ 10 ∷ 11 ∷ []) ∷ []))), verdict true)
+    ∷ (verdict (sound small (triangles (face (6 ∷ 7 ∷ 8 ∷ 9 ∷ 10 ∷ 11 ∷ []) ∷ []))), verdict false)
+    ∷ (verdict (sound small doubled), verdict false)
+    ∷ (verdict (sound small besideTriangle), verdict false)
     -- a hyperplane not in use; none where one is due; one where none is; a mark where none is
     ∷ broken (ofElements (corners ++ edge 0 1 4 ∷ []))
     ∷ broken (ofElements (corners ++ polytope 1 (0 ∷ 1 ∷ []) none false ∷ []))
@@ -168,10 +214,6 @@ soundness =
     ∷ []
 
 -- ---- sound tables that no session reaches
-
--- two edges between the same two corners, twice over: a face that no walk goes round
-unfoldable pub doubled : Table
-doubled = made 2 points (corners ++ edge 0 1 0 ∷ edge 0 1 1 ∷ edge 2 3 2 ∷ edge 2 3 3 ∷ wholeFace ∷ []) planes
 
 -- a triangle whose lowest corner has its lower neighbour on the second edge; no edge is primordial
 unfoldable pub triangle : Table
@@ -243,10 +285,9 @@ choices =
     ∷ (showList (withRankReply small smallQ 200 8 room), listShown 0 [])
     ∷ (showList (vertexSetReply small smallQ 5 room), listShown 0 (2 ∷ 3 ∷ []))
     ∷ (showList (greatestCommonReply small smallQ (7 ∷ 7 ∷ []) room), listShown 0 (7 ∷ []))
-    -- first to the lower neighbour, by edges; a walk that leaves edges out is 7
+    -- first to the lower neighbour, by edges; a face that no walk goes round is none
     ∷ (showList (edgesInOrderReply small (encode small triangle) 6 room), listShown 0 (0 ∷ 1 ∷ 1 ∷ 2 ∷ 2 ∷ 0 ∷ []))
-    ∷ (numbers (isSoundReply small (encode small doubled) ∷ []), numbers (0 ∷ []))
-    ∷ (showList (edgesInOrderReply small (encode small doubled) 8 room), listShown 7 [])
+    ∷ (showList (edgesInOrderReply small (encode small doubled) 8 room), listShown 3 [])
     -- a primordial facet, none, and a rank that is not full
     ∷ (showFacet (primordialFacetReply small smallQ 8), verdict true)
     ∷ (showFacet (primordialFacetReply small (encode small triangle) 6), verdict false)
@@ -278,6 +319,8 @@ refusals =
     )
     -- a new edge with four ends
     ∷ (showCut small (atX plusZero) false false 10 (encode small zigzag), cutShown 7 [] (11 ∷ 5 ∷ 4 ∷ []))
+    -- a new face of two triangles; each tetrahedron's own is taken
+    ∷ (showCut big (atX plusZero) false false 28 (encode big tetrahedra), cutShown 7 [] (29 ∷ 8 ∷ 6 ∷ []))
     -- a cube: 1, then 2, then 3
     ∷ (
       numbers (cubeReply small 0 nan (encode tight square) .0 ∷ cubeReply small 5 one smallQ .0 ∷ cubeReply small 2 nan (encode tight square) .0

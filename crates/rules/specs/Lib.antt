@@ -4,11 +4,13 @@ pub mod Limits
 pub mod Lists
 pub mod Floats
 pub mod Table
+pub mod Walk
 pub mod Sound
 pub mod Memory
 pub mod Cube
 pub mod Cut
 pub mod Questions
+pub mod Rings
 pub mod Replies
 pub mod Session
 pub mod Marked

@@ -2,7 +2,7 @@
 -- proofs/Promises.antt proves the record at the end, for every room that can be read back and has place for its cubes: the desk's, and the large one.
 use Prim.Native.Nat.{ℕ, zero, suc, _*_, _≤_, _<_}
 use mathlib.Core.Path.{_≡_}
-use mathlib.Core.Bool.{Bool, true, false, _||_}
+use mathlib.Core.Bool.{Bool, true, false, _&&_, _||_}
 use mathlib.Core.List.{List, [], _∷_}
 use lib.Dec.{eqb, ltb}
 use lib.ListN.{length, getD, take, drop}
@@ -15,6 +15,7 @@ use Rattle.rules.specs.Sound.{sound}
 use Rattle.rules.specs.Memory.{Memory, elementWidth, planeWidth, encode, decode, soundMemory}
 use Rattle.rules.specs.Cut.{done, give, next, addPlane, cut, given}
 use Rattle.rules.specs.Questions.{answer, isBelow, vertexSet, greatestCommon, edgesInOrder, primordialFacet}
+use Rattle.rules.specs.Rings.{RuleIsOneRing, FaceIsOneRing, FaceIsWalked}
 use Rattle.rules.specs.Replies.{cutNumber, listNumber, isSoundReply, cubeReply, dividerFits, dividerOf, written, cutReply, subElementsReply, withRankReply, vertexSetReply, greatestCommonReply, edgesInOrderReply, primordialFacetReply}
 use Rattle.rules.specs.declared.Hyperplane.{Hyperplane}
 use Rattle.rules.specs.declared.Side.{Side}
@@ -93,7 +94,7 @@ listRefusals (subElementsOf e) = 3 ∷ 4 ∷ 12 ∷ []
 listRefusals (subElementsWithRank k e) = 3 ∷ 4 ∷ 12 ∷ []
 listRefusals (vertexSetOf e) = 3 ∷ 4 ∷ 12 ∷ []
 listRefusals (greatestCommonOf es) = 3 ∷ 4 ∷ 6 ∷ 12 ∷ []
-listRefusals (edgesInOrderOf e) = 3 ∷ 4 ∷ 6 ∷ 7 ∷ 12 ∷ []
+listRefusals (edgesInOrderOf e) = 3 ∷ 4 ∷ 6 ∷ 12 ∷ []
 
 abbrev pub ListNumbers : Limits → Type 0
 ListNumbers L = (q : ListQuestion) (m : Memory) (room : List ℕ) (n : ℕ)
@@ -335,19 +336,6 @@ abbrev pub WalkGoesRound : Limits → Type 0
 WalkGoesRound L = (t : Table) → sound L t ≡ true → (f : ElementNumber) (ps : List (VertexNumber × VertexNumber)) → f < elementCount t
     → edgesInOrder t f ≡ answer ps → Walked t f ps
 
--- the edges of a face hang together: a set that holds one of them, and with an edge each one that shares a corner with it, holds all
-abbrev pub OneRing : Table → ElementNumber → Type 0
-OneRing t f = (S : ElementNumber → Bool) (e : ElementNumber) → member e (boundary t f) ≡ true → S e ≡ true
-    → ((x y v : ElementNumber) → member x (boundary t f) ≡ true → member y (boundary t f) ≡ true
-    → member v (boundary t x) ≡ true → member v (boundary t y) ≡ true → S x ≡ true → S y ≡ true)
-    → (x : ElementNumber) → member x (boundary t f) ≡ true → S x ≡ true
-
--- a face is walked, with an answer and never 7, when its edges are one ring, and only then
-abbrev pub RingIsWalked : Limits → Type 0
-RingIsWalked L = (t : Table) → sound L t ≡ true → (f : ElementNumber) → f < elementCount t → rank t f ≡ 2
-    → (OneRing t f → (ps : List (VertexNumber × VertexNumber)) × (edgesInOrder t f ≡ answer ps))
-    × ((ps : List (VertexNumber × VertexNumber)) → edgesInOrder t f ≡ answer ps → OneRing t f)
-
 -- always no in one dimension
 abbrev pub NoFacetInOneDimension : Limits → Type 0
 NoFacetInOneDimension L = (t : Table) → sound L t ≡ true → t .dimension ≡ 1 → (e : ElementNumber) → e < elementCount t → rank t e ≡ 1
@@ -386,5 +374,7 @@ pub record Promises (L : Limits) : Type 0 where
   pub vertex-set-rises : VertexSetRises L
   pub common-are-greatest : CommonAreGreatest L
   pub walk-goes-round : WalkGoesRound L
-  pub ring-is-walked : RingIsWalked L
+  pub rule-is-one-ring : RuleIsOneRing L
+  pub face-is-one-ring : FaceIsOneRing L
+  pub face-is-walked : FaceIsWalked L
   pub no-facet-in-one-dimension : NoFacetInOneDimension L

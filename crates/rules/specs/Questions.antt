@@ -2,10 +2,10 @@
 use Prim.Native.Nat.{ℕ, zero, suc}
 use mathlib.Core.Bool.{Bool, not, _&&_, _||_}
 use mathlib.Core.List.{List, [], _∷_, map}
-use lib.Dec.{ltb, eqb}
-use lib.ListN.{length, getD}
-use Rattle.rules.specs.Lists.{if_then_else_, all, any, keep, upTo, member, occurrences}
+use lib.Dec.{eqb}
+use Rattle.rules.specs.Lists.{if_then_else_, all, any, keep, upTo}
 use Rattle.rules.specs.Table.{ElementNumber, VertexNumber, Table, isPrimordial, vertexOf, element, rank, boundary, elementCount}
+use Rattle.rules.specs.Walk.{startOf, around, eachOnce}
 
 -- an answer, or a refusal's number
 pub data Asked (A : Type 0) : Type 0 where
@@ -57,49 +57,18 @@ greatestCommon t (e ∷ es) =
 
 -- ---- edges in order, of a rank-2 element
 
--- the edges among some that have the corner v as an end
-abbrev pub edgesAt : Table → ElementNumber → List ElementNumber → List ElementNumber
-edgesAt t v es = keep (λ e. member v (boundary t e)) es
-
--- the other end of an edge
-abbrev pub otherEnd : Table → ElementNumber → ElementNumber → ElementNumber
-otherEnd t v e = let a = getD (boundary t e) 0 0 in if eqb a v then getD (boundary t e) 1 0 else a
-
--- the other edge at the corner w
-abbrev pub otherEdge : Table → ElementNumber → ElementNumber → List ElementNumber → ElementNumber
-otherEdge t w e es = getD (keep (λ x. not (eqb x e)) (edgesAt t w es)) 0 0
-
--- from v by the edge e, until the corner start is met again: each edge taken, and the corner that it leads to; at most n of them
-unfoldable pub walk : ℕ → Table → List ElementNumber → ElementNumber → ElementNumber → ElementNumber → List (ElementNumber × ElementNumber)
-walk zero t es start v e = []
-walk (suc n) t es start v e =
-    let w = otherEnd t v e in
-    let rest = walk n t es start w (otherEdge t w e es) in
-    (e, w) ∷ (if eqb w start then [] else rest)
-
--- of the two edges at the corner v, the one to the lower neighbour; of two edges to one neighbour, the first
-abbrev pub firstEdge : Table → ElementNumber → List ElementNumber → ElementNumber
-firstEdge t v es =
-    let a = getD (edgesAt t v es) 0 0 in
-    let b = getD (edgesAt t v es) 1 0 in
-    if ltb (otherEnd t v b) (otherEnd t v a) then b else a
-
--- every edge is taken once
-abbrev pub eachOnce : List ElementNumber → List (ElementNumber × ElementNumber) → Bool
-eachOnce es steps = all (λ e. eqb (occurrences e (map (λ (s : ElementNumber × ElementNumber). s .0) steps)) 1) es
-
 -- the steps as pairs of vertex numbers, the first from the corner v
 abbrev pub pairs : Table → ElementNumber → List (ElementNumber × ElementNumber) → List (VertexNumber × VertexNumber)
 pairs t v [] = []
 pairs t v (s ∷ ss) = (vertexOf (element t v), vertexOf (element t (s .1))) ∷ pairs t (s .1) ss
 
 -- from the lowest vertex, first to the lower of its two neighbours, round to the start; 6 unless the rank is 2, 7 unless the walk takes every edge once
+-- (7 is what document 01 says for any face; no face of a sound table gives it: Promises, `FaceIsWalked`)
 unfoldable pub edgesInOrder : Table → ElementNumber → Asked (List (VertexNumber × VertexNumber))
 edgesInOrder t f =
     let es = boundary t f in
-    let start = getD (withRank t 0 f) 0 0 in
-    let steps = walk (length es) t es start start (firstEdge t start es) in
-    if not (eqb (rank t f) 2) then no-answer 6 else if eachOnce es steps then answer (pairs t start steps) else no-answer 7
+    let steps = around t es in
+    if not (eqb (rank t f) 2) then no-answer 6 else if eachOnce es steps then answer (pairs t (startOf t es) steps) else no-answer 7
 
 -- ---- primordial facet: of an element of full rank, else 6
 

@@ -8,9 +8,10 @@ use lib.Dec.{leb, ltb, eqb}
 use lib.ListN.{length}
 use lib.Ieee.{Float}
 use Rattle.rules.specs.Limits.{Limits}
-use Rattle.rules.specs.Lists.{if_then_else_, all, keep, allFrom, alike, distinct, joined, upTo, occurrences, rises}
+use Rattle.rules.specs.Lists.{if_then_else_, all, keep, allFrom, alike, distinct, upTo, rises}
 use Rattle.rules.specs.Floats.{within, farthest, farthestPlane, unit}
-use Rattle.rules.specs.Table.{ElementNumber, HyperplaneNumber, Element, corner, polytope, Plane, Table, boundaryOf, vertexOf, isCorner, sameElement, rank, boundary, elementCount, primordials}
+use Rattle.rules.specs.Table.{ElementNumber, HyperplaneNumber, Element, corner, polytope, Plane, Table, boundaryOf, vertexOf, isCorner, sameElement, rank, elementCount, primordials}
+use Rattle.rules.specs.Walk.{oneRing}
 
 -- ---- the first line: dimension, room, coordinates, hyperplanes
 
@@ -36,15 +37,11 @@ cornersInOrder t = alike eqb (map vertexOf (keep isCorner (t .elements))) (upTo 
 
 -- ---- the third: a polytope's rank and boundary
 
--- the ends of some edges, each as often as an edge has it
-abbrev pub endsOf : Table → List ElementNumber → List ElementNumber
-endsOf t edges = joined (map (boundary t) edges)
-
--- rank 1 has exactly two; in rank 2 each vertex met lies on exactly two edges. Test 7 of the cut is the same
+-- rank 1 has exactly two; in rank 2 the edges make one ring. Test 7 of the cut is the same
 abbrev pub closed : Table → ℕ → List ElementNumber → Bool
 closed t zero b = true
 closed t (suc zero) b = eqb (length b) 2
-closed t (suc (suc zero)) b = all (λ v. eqb (occurrences v (endsOf t b)) 2) (endsOf t b)
+closed t (suc (suc zero)) b = oneRing t b
 closed t (suc (suc (suc r))) b = true
 
 -- the boundary numbers of element e, of rank r, rise strictly, are below its own, have rank one less, and are more than its rank in count

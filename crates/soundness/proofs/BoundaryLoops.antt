@@ -7,14 +7,15 @@ use native.Mathlib.Nat.{not-suc-le-zero, le-of-suc-le-suc, le-trans, le-of-eq}
 use native.Mathlib.Omega.{arith}
 use lib.Dec.{eqb, ltb, leb, lit≤}
 use lib.ListN.{length, drop, take, getD, length-drop}
-use lib.Seq.{getD-take, length-take-le, drop-drop, take-take}
+use lib.Seq.{getD-take, getD-drop, length-take-le, drop-drop, take-take}
 use Rattle.rules.specs.Limits.{noPlane, desk}
 use Rattle.rules.specs.Lists.{if_then_else_, all, rises}
 use Rattle.rules.proofs.Laws.{and-left, and-right, test-eq, eq-test, not-eq, unlike-eq}
+use Rattle.rules.proofs.Borders.{rise-at}
 use Rattle.rules.proofs.Growing.{all-get}
-use Rattle.space.specs.Closed.{closedRaw, EndsLow}
-use Rattle.space.proofs.TwiceMet.{closed-one, closed-other}
-use Rattle.soundness.specs.Words.{facetWords, headWords, elementSound, numberFits, numbersFit, faceWords, boundaryWords, boundaryIn, EdgesLow}
+use Rattle.space.specs.Closed.{closedRaw, metTwice, ringRaw, few, EndsLow}
+use Rattle.space.proofs.TwiceMet.{closed-one, closed-few, closed-many, closed-other}
+use Rattle.soundness.specs.Words.{facetWords, headWords, elementSound, numberFits, numbersFit, fewWords, faceWords, boundaryWords, boundaryIn, EdgesLow}
 use Rattle.soundness.proofs.ReadBack.{and-one, and-zero}
 use Rattle.soundness.proofs.RowLoops.{head-few, drop-take, row-first, row-word}
 use borrow.Author.Tests.{ltb-true, lt-ltb}
@@ -52,25 +53,25 @@ module _ (es : List ℕ) (e d h r : ℕ) (er : r ≡ getD es (e * 36) 0) where
 
   -- by whether it is a vertex
   abbrev byKind : Bool → Bool
-  byKind c = if c then true else (leb (getD row 0 0) d && boundaryWords desk es e (getD row 0 0) (boundaryIn row) && facetWords d h (getD row 0 0) (getD row 2 0) (getD row 1 0))
+  byKind c = if c then true else (leb (getD row 0 0) d && boundaryWords desk es d e (getD row 0 0) (boundaryIn row) && facetWords d h (getD row 0 0) (getD row 2 0) (getD row 1 0))
 
   pub element-zero : r ≡ 0 → elementSound desk es d h e row ≡ true
   unfolding elementSound
   element-zero z = ap byKind (test-eq (getD row 0 0) 0 (row-first (e * 36) es ∙ sym er ∙ z))
 
   pub element-more : (p m : ℕ) → p ≡ getD es (e * 36 + 2) 0 → m ≡ getD es (e * 36 + 1) 0 → (r ≡ 0 → ⊥)
-      → elementSound desk es d h e row ≡ (leb r d && boundaryWords desk es e r (boundaryIn row) && facetWords d h r p m)
+      → elementSound desk es d h e row ≡ (leb r d && boundaryWords desk es d e r (boundaryIn row) && facetWords d h r p m)
   unfolding elementSound
   element-more p m ep em z =
       let first = row-first (e * 36) es ∙ sym er in
       let second = row-word (e * 36) 1 es (lit≤ tt) ∙ sym em in
       let third = row-word (e * 36) 2 es (lit≤ tt) ∙ sym ep in
       ap byKind (not-eq (getD row 0 0) 0 (λ q. z (sym first ∙ q)))
-      ∙ (λ i. leb (first i) d && boundaryWords desk es e (first i) (boundaryIn row) && facetWords d h (first i) (third i) (second i))
+      ∙ (λ i. leb (first i) d && boundaryWords desk es d e (first i) (boundaryIn row) && facetWords d h (first i) (third i) (second i))
 
 -- ---- a boundary, test by test
 
-module _ (es : List ℕ) (at n e r : ℕ) (s : length es ≡ 18432) (f : at + n ≤ 18432) where
+module _ (es : List ℕ) (at n d e r : ℕ) (s : length es ≡ 18432) (f : at + n ≤ 18432) where
   abbrev there : List ℕ
   there = drop at (take (at + n) es)
 
@@ -80,8 +81,8 @@ module _ (es : List ℕ) (at n e r : ℕ) (s : length es ≡ 18432) (f : at + n 
       let j = length-drop at (take (at + n) es) in
       let q : length there ≡ n = omega (arith, k, j) in q
 
-  boundary-are : (G R A K C : Bool) → ltb r n ≡ G → rises there ≡ R → all (λ x. ltb x e) there ≡ A → all (λ x. eqb (suc (getD es (x * 36) 0)) r) there ≡ K → closedRaw es r there ≡ C
-      → (G && R && A && K && C) ≡ boundaryWords desk es e r there
+  boundary-are : (G R A K C : Bool) → ltb r n ≡ G → rises there ≡ R → all (λ x. ltb x e) there ≡ A → all (λ x. eqb (suc (getD es (x * 36) 0)) r) there ≡ K → closedRaw d es r there ≡ C
+      → (G && R && A && K && C) ≡ boundaryWords desk es d e r there
   unfolding boundaryWords
   boundary-are G R A K C p₁ p₂ p₃ p₄ p₅ = shuffle G R A K C ∙ sym ((λ i. p₂ i && p₃ i && p₄ i && ltb r (boundary-long i) && p₅ i) ∙ ap (λ (g : Bool). R && A && K && g && C) p₁)
     where
@@ -95,7 +96,7 @@ module _ (es : List ℕ) (at n e r : ℕ) (s : length es ≡ 18432) (f : at + n 
       shuffle true false A K C = refl
       shuffle false false A K C = refl
 
-  pub boundary-by : (G F C : Bool) → ltb r n ≡ G → numbersFit desk es e r there ≡ F → closedRaw es r there ≡ C → (G && F && C) ≡ boundaryWords desk es e r there
+  pub boundary-by : (G F C : Bool) → ltb r n ≡ G → numbersFit desk es e r there ≡ F → closedRaw d es r there ≡ C → (G && F && C) ≡ boundaryWords desk es d e r there
   boundary-by G F C p q c = ap (λ (b : Bool). G && b && C) (sym q) ∙ regroup G (rises there) (all (λ x. ltb x e) there) (all (λ x. eqb (suc (getD es (x * 36) 0)) r) there) C
       ∙ boundary-are G _ _ _ C p refl refl refl c
     where
@@ -104,21 +105,28 @@ module _ (es : List ℕ) (at n e r : ℕ) (s : length es ≡ 18432) (f : at + n 
       regroup false R A K C = refl
 
   -- an edge's is closed by its count, and a body's always
-  pub boundary-edge : {x : Bool} → r ≡ 1 → n ≡ 2 → x ≡ numbersFit desk es e 1 (drop at (take (at + 2) es)) → x ≡ boundaryWords desk es e r there
+  pub boundary-edge : {x : Bool} → r ≡ 1 → n ≡ 2 → x ≡ numbersFit desk es e 1 (drop at (take (at + 2) es)) → x ≡ boundaryWords desk es d e r there
   boundary-edge one two q =
       q ∙ (λ i. numbersFit desk es e (sym one i) (drop at (take (at + sym two i) es))) ∙ sym (and-one (numbersFit desk es e r there))
-      ∙ boundary-by true _ true (lt-ltb r n (let z : r < n = omega (arith, one, two) in z)) refl (sym (closed-one es there r n boundary-long one) ∙ test-eq n 2 two)
+      ∙ boundary-by true _ true (lt-ltb r n (let z : r < n = omega (arith, one, two) in z)) refl (sym (closed-one d es there r n boundary-long one) ∙ test-eq n 2 two)
 
-  pub boundary-open : r ≡ 1 → (n ≡ 2 → ⊥) → false ≡ boundaryWords desk es e r there
+  pub boundary-open : r ≡ 1 → (n ≡ 2 → ⊥) → false ≡ boundaryWords desk es d e r there
   boundary-open one more =
-      sym (and-zero (ltb r n && numbersFit desk es e r there)) ∙ boundary-by _ _ false refl refl (sym (closed-one es there r n boundary-long one) ∙ not-eq n 2 more)
+      sym (and-zero (ltb r n && numbersFit desk es e r there)) ∙ boundary-by _ _ false refl refl (sym (closed-one d es there r n boundary-long one) ∙ not-eq n 2 more)
 
-  pub boundary-body : {x : Bool} → (r ≡ 1 → ⊥) → (r ≡ 2 → ⊥) → ltb r n ≡ true → x ≡ numbersFit desk es e r there → x ≡ boundaryWords desk es e r there
-  boundary-body no-edge no-face g q = q ∙ sym (and-one (numbersFit desk es e r there)) ∙ boundary-by true _ true g refl (sym (closed-other es there r no-edge no-face))
+  pub boundary-body : {x : Bool} → (r ≡ 1 → ⊥) → (r ≡ 2 → ⊥) → ltb r n ≡ true → x ≡ numbersFit desk es e r there → x ≡ boundaryWords desk es d e r there
+  boundary-body no-edge no-face g q = q ∙ sym (and-one (numbersFit desk es e r there)) ∙ boundary-by true _ true g refl (sym (closed-other d es there r no-edge no-face))
 
   -- a face's, both at once
-  pub boundary-face : {x : Bool} → r ≡ 2 → ltb r n ≡ true → x ≡ faceWords desk es e there → x ≡ boundaryWords desk es e r there
-  boundary-face two g q = q ∙ ap (λ (k : ℕ). numbersFit desk es e k there && closedRaw es k there) (sym two) ∙ boundary-by true _ _ g refl refl
+  pub boundary-few : {x : Bool} → r ≡ 2 → ltb r n ≡ true → n ≤ few d → x ≡ fewWords desk es e there → x ≡ boundaryWords desk es d e r there
+  boundary-few two g l q =
+      q ∙ ap (λ (k : ℕ). numbersFit desk es e k there && metTwice es there) (sym two)
+      ∙ boundary-by true _ _ g refl (sym (closed-few d es there r refl (let m = boundary-long in let z : length there ≤ few d = omega (arith, m, l) in z) two))
+
+  pub boundary-face : {x : Bool} → r ≡ 2 → ltb r n ≡ true → few d < n → x ≡ faceWords desk es e there → x ≡ boundaryWords desk es d e r there
+  boundary-face two g l q =
+      q ∙ ap (λ (k : ℕ). numbersFit desk es e k there && ringRaw es there) (sym two)
+      ∙ boundary-by true _ _ g refl (sym (closed-many d es there r refl (let m = boundary-long in let z : few d < length there = omega (arith, m, l) in z) two))
 
 -- ---- the ends of a face's edges
 
@@ -128,7 +136,7 @@ module _ (es : List ℕ) (e : ℕ) (E : EdgesLow es e) where
       let l = ltb-true x e b in
       let q = eq-test (suc (getD es (x * 36) 0)) 2 k in
       let one : getD es (x * 36) 0 ≡ 1 = omega (arith, q) in
-      record { first = E .first x l one; second = E .second x l one }
+      E .ends x l one
 
   pub number-ends : (low x : ℕ) → numberFits desk es e 2 low x ≡ true → EndsLow es x
   number-ends low x f =
@@ -146,7 +154,7 @@ number-low es e r low x f = ltb-true x e (and-right (leb low x) (ltb x e) (and-l
 -- ---- the edges among the rows that are tested
 
 pub edges-none : (es : List ℕ) → EdgesLow es 0
-edges-none es = record { first = λ x h q. absurd (not-suc-le-zero h); second = λ x h q. absurd (not-suc-le-zero h) }
+edges-none es = record { ends = λ x h q. absurd (not-suc-le-zero h) }
 
 module _ (es : List ℕ) (e d h : ℕ) (s : length es ≡ 18432) (u : e < 512) (w : headWords desk (take 36 (drop (e * 36) es)) ≡ true) (S : elementSound desk es d h e (take 36 (drop (e * 36) es)) ≡ true) where
   abbrev size : ℕ
@@ -162,11 +170,11 @@ module _ (es : List ℕ) (e d h : ℕ) (s : length es ≡ 18432) (u : e < 512) (
     size-fits : size ≤ 32
     size-fits = head-few (e * 36) es w
 
-    tested : boundaryWords desk es e (getD es (e * 36) 0) bound ≡ true
+    tested : boundaryWords desk es d e (getD es (e * 36) 0) bound ≡ true
     tested =
         let F = facetWords d h (getD es (e * 36) 0) (getD es (e * 36 + 2) 0) (getD es (e * 36 + 1) 0) in
-        let B = boundaryWords desk es e (getD es (e * 36) 0) (boundaryIn (take 36 (drop (e * 36) es))) in
-        ap (boundaryWords desk es e (getD es (e * 36) 0)) (sym (bound-is es (e * 36) size refl size-fits))
+        let B = boundaryWords desk es d e (getD es (e * 36) 0) (boundaryIn (take 36 (drop (e * 36) es))) in
+        ap (boundaryWords desk es d e (getD es (e * 36) 0)) (sym (bound-is es (e * 36) size refl size-fits))
         ∙ and-right (leb (getD es (e * 36) 0) d) B (and-left (leb (getD es (e * 36) 0) d && B) F (sym (element-more es e d h _ refl _ _ refl refl some) ∙ S))
 
     parts : (ltb (getD es (e * 36) 0) size && rises bound && all (λ x. ltb x e) bound) ≡ true
@@ -174,10 +182,10 @@ module _ (es : List ℕ) (e d h : ℕ) (s : length es ≡ 18432) (u : e < 512) (
         let G = ltb (getD es (e * 36) 0) size in
         let A = all (λ x. ltb x e) bound in
         let K = all (λ x. eqb (suc (getD es (x * 36) 0)) (getD es (e * 36) 0)) bound in
-        let C = closedRaw es (getD es (e * 36) 0) bound in
+        let C = closedRaw d es (getD es (e * 36) 0) bound in
         let f = size-fits in
         and-left (G && rises bound && A) K (and-left (G && rises bound && A && K) C
-        (boundary-are es (e * 36 + 4) size e (getD es (e * 36) 0) s (let q : e * 36 + 4 + size ≤ 18432 = omega (arith, f, u) in q) _ _ _ _ _ refl refl refl refl refl ∙ tested))
+        (boundary-are es (e * 36 + 4) size d e (getD es (e * 36) 0) s (let q : e * 36 + 4 + size ≤ 18432 = omega (arith, f, u) in q) _ _ _ _ _ refl refl refl refl refl ∙ tested))
 
     two-ends : 2 ≤ size
     two-ends =
@@ -191,21 +199,32 @@ module _ (es : List ℕ) (e d h : ℕ) (s : length es ≡ 18432) (u : e < 512) (
         (and-right (ltb (getD es (e * 36) 0) size && rises bound) (all (λ x. ltb x e) bound) parts) a b) in
         let q : getD es j 0 < 512 = omega (arith, l, u) in q
 
-  pub edges-on : EdgesLow es e → EdgesLow es (e + 1)
-  edges-on E = record { first = λ x l q. one x l q (eqb x e) refl; second = λ x l q. two x l q (eqb x e) refl }
-    where
-      one : (x : ℕ) → x < e + 1 → getD es (x * 36) 0 ≡ 1 → (b : Bool) → eqb x e ≡ b → getD es (x * 36 + 4) 0 < 512
-      one x l q true t =
-          let m = eq-test x e t in
-          let q′ = ap (λ (y : ℕ). getD es (y * 36) 0) (sym m) ∙ q in
-          let z = two-ends q′ in
-          subst (λ (y : ℕ). getD es (y * 36 + 4) 0 < 512) (sym m) (end-low q′ (e * 36 + 4) (let p : e * 36 + 4 ≤ e * 36 + 4 = omega arith in p) (let p : e * 36 + 4 < e * 36 + 4 + size = omega (arith, z) in p))
-      one x l q false t = let m = unlike-eq x e t in E .first x (let p : x < e = omega (arith, l, m) in p) q
+    both-ends : EndsLow es e
+    both-ends =
+        let z = two-ends in
+        let f = size-fits in
+        let w : e * 36 + 4 + size ≤ length es = omega (arith, f, u, s) in
+        let k = length-take-le (e * 36 + 4 + size) es w in
+        let j = length-drop (e * 36 + 4) (take (e * 36 + 4 + size) es) in
+        let r = and-right (ltb (getD es (e * 36) 0) size) (rises bound) (and-left (ltb (getD es (e * 36) 0) size && rises bound) (all (λ x. ltb x e) bound) parts) in
+        record {
+          apart =
+              let h = rise-at bound r 0 1 (let q : 0 < 1 = omega arith in q) (let q : 1 < length bound = omega (arith, z, k, j) in q) in
+              let a = word-of 0 (let q : 0 < size = omega (arith, z) in q) in
+              let b = word-of 1 (let q : 1 < size = omega (arith, z) in q) in
+              let q : getD es (e * 36 + 4) 0 < getD es (e * 36 + 5) 0 = omega (arith, h, a, b) in q;
+          second = end-low (e * 36 + 5) (let q : e * 36 + 4 ≤ e * 36 + 5 = omega arith in q) (let q : e * 36 + 5 < e * 36 + 4 + size = omega (arith, z) in q);
+        }
+      where
+        word-of : (i : ℕ) → i < size → getD bound i 0 ≡ getD es (e * 36 + (4 + i)) 0
+        word-of i l =
+            getD-drop (e * 36 + 4) (take (e * 36 + 4 + size) es) i 0
+            ∙ getD-take (e * 36 + 4 + size) es (e * 36 + 4 + i) 0 (let q : e * 36 + 4 + i < e * 36 + 4 + size = omega (arith, l) in q)
+            ∙ ap (λ (m : ℕ). getD es m 0) (let q : e * 36 + 4 + i ≡ e * 36 + (4 + i) = omega arith in q)
 
-      two : (x : ℕ) → x < e + 1 → getD es (x * 36) 0 ≡ 1 → (b : Bool) → eqb x e ≡ b → getD es (x * 36 + 5) 0 < 512
-      two x l q true t =
-          let m = eq-test x e t in
-          let q′ = ap (λ (y : ℕ). getD es (y * 36) 0) (sym m) ∙ q in
-          let z = two-ends q′ in
-          subst (λ (y : ℕ). getD es (y * 36 + 5) 0 < 512) (sym m) (end-low q′ (e * 36 + 5) (let p : e * 36 + 4 ≤ e * 36 + 5 = omega arith in p) (let p : e * 36 + 5 < e * 36 + 4 + size = omega (arith, z) in p))
-      two x l q false t = let m = unlike-eq x e t in E .second x (let p : x < e = omega (arith, l, m) in p) q
+  pub edges-on : EdgesLow es e → EdgesLow es (e + 1)
+  edges-on E = record { ends = λ x l q. go x l q (eqb x e) refl }
+    where
+      go : (x : ℕ) → x < e + 1 → getD es (x * 36) 0 ≡ 1 → (b : Bool) → eqb x e ≡ b → EndsLow es x
+      go x l q true t = let m = eq-test x e t in subst (λ (y : ℕ). EndsLow es y) (sym m) (both-ends (ap (λ (y : ℕ). getD es (y * 36) 0) (sym m) ∙ q))
+      go x l q false t = let m = unlike-eq x e t in E .ends x (let p : x < e = omega (arith, l, m) in p) q

@@ -17,39 +17,39 @@ use borrow.Author.Tests.{lt-leb}
 
 -- ---- the boundary, with the count that the code has read
 
-module _ (es : List ℕ) (e n : ℕ) (en : n ≡ getD es (e * 36 + 3) 0) where
+module _ (es : List ℕ) (d e n : ℕ) (en : n ≡ getD es (e * 36 + 3) 0) where
   abbrev row : List ℕ
   row = take 36 (drop (e * 36) es)
 
   abbrev there : List ℕ
   there = drop (e * 36 + 4) (take (e * 36 + 4 + n) es)
 
-  counted : (r : ℕ) → polytopeWords desk es e r row ≡ (leb n 32 && boundaryWords desk es e r there)
+  counted : (r : ℕ) → polytopeWords desk es d e r row ≡ (leb n 32 && boundaryWords desk es d e r there)
   unfolding polytopeWords
   counted r =
-      ap (λ (k : ℕ). leb k 32 && boundaryWords desk es e r (boundaryIn row)) (row-word (e * 36) 3 es (lit≤ tt) ∙ sym en)
-      ∙ and-when (leb n 32) (boundaryWords desk es e r (boundaryIn row)) (boundaryWords desk es e r there) (λ t. ap (boundaryWords desk es e r) (bound-is es (e * 36) n en (le-test n 32 t)))
+      ap (λ (k : ℕ). leb k 32 && boundaryWords desk es d e r (boundaryIn row)) (row-word (e * 36) 3 es (lit≤ tt) ∙ sym en)
+      ∙ and-when (leb n 32) (boundaryWords desk es d e r (boundaryIn row)) (boundaryWords desk es d e r there) (λ t. ap (boundaryWords desk es d e r) (bound-is es (e * 36) n en (le-test n 32 t)))
 
-  pub polytope-many : (r : ℕ) → 32 < n → false ≡ polytopeWords desk es e r row
-  polytope-many r h = sym (counted r ∙ ap (λ (b : Bool). b && boundaryWords desk es e r there) (lt-leb n 32 h))
+  pub polytope-many : (r : ℕ) → 32 < n → false ≡ polytopeWords desk es d e r row
+  polytope-many r h = sym (counted r ∙ ap (λ (b : Bool). b && boundaryWords desk es d e r there) (lt-leb n 32 h))
 
-  pub polytope-few : {x : Bool} (r : ℕ) → n ≤ 32 → x ≡ boundaryWords desk es e r there → x ≡ polytopeWords desk es e r row
-  polytope-few r h q = q ∙ sym (counted r ∙ ap (λ (b : Bool). b && boundaryWords desk es e r there) (test-le n 32 h))
+  pub polytope-few : {x : Bool} (r : ℕ) → n ≤ 32 → x ≡ boundaryWords desk es d e r there → x ≡ polytopeWords desk es d e r row
+  polytope-few r h q = q ∙ sym (counted r ∙ ap (λ (b : Bool). b && boundaryWords desk es d e r there) (test-le n 32 h))
 
   module _ (s : length es ≡ 18432) (u : e < 512) where
-    pub edge-open : (n ≡ 2 → ⊥) → false ≡ polytopeWords desk es e 1 row
+    pub edge-open : (n ≡ 2 → ⊥) → false ≡ polytopeWords desk es d e 1 row
     edge-open more = go (leb n 32) refl
       where
-        go : (b : Bool) → leb n 32 ≡ b → false ≡ polytopeWords desk es e 1 row
+        go : (b : Bool) → leb n 32 ≡ b → false ≡ polytopeWords desk es d e 1 row
         go true t =
             let l = le-test n 32 t in
-            polytope-few 1 l (boundary-open es (e * 36 + 4) n e 1 s (let z : e * 36 + 4 + n ≤ 18432 = omega (arith, l, u) in z) refl more)
-        go false t = sym (counted 1 ∙ ap (λ (b : Bool). b && boundaryWords desk es e 1 there) t)
+            polytope-few 1 l (boundary-open es (e * 36 + 4) n d e 1 s (let z : e * 36 + 4 + n ≤ 18432 = omega (arith, l, u) in z) refl more)
+        go false t = sym (counted 1 ∙ ap (λ (b : Bool). b && boundaryWords desk es d e 1 there) t)
 
-    pub edge-two : {x : Bool} → n ≡ 2 → x ≡ numbersFit desk es e 1 (drop (e * 36 + 4) (take (e * 36 + 4 + 2) es)) → x ≡ polytopeWords desk es e 1 row
+    pub edge-two : {x : Bool} → n ≡ 2 → x ≡ numbersFit desk es e 1 (drop (e * 36 + 4) (take (e * 36 + 4 + 2) es)) → x ≡ polytopeWords desk es d e 1 row
     edge-two two q =
         polytope-few 1 (let z : n ≤ 32 = omega (arith, two) in z)
-        (boundary-edge es (e * 36 + 4) n e 1 s (let z : e * 36 + 4 + n ≤ 18432 = omega (arith, two, u) in z) refl two q)
+        (boundary-edge es (e * 36 + 4) n d e 1 s (let z : e * 36 + 4 + n ≤ 18432 = omega (arith, two, u) in z) refl two q)
 
 -- ---- the whole row
 
@@ -67,11 +67,11 @@ module _ (es : List ℕ) (d h k e r : ℕ) (er : r ≡ getD es (e * 36) 0) where
   row-corner z q = q ∙ sym (and-one (headWords desk whole && cornerNamed k whole)) ∙ row-is es d h k e whole _ _ true refl refl (element-zero es e d h r er z)
 
   pub row-polytope : (p m : ℕ) (M D B F : Bool) → (r ≡ 0 → ⊥) → p ≡ getD es (e * 36 + 2) 0 → m ≡ getD es (e * 36 + 1) 0 → leb (getD es (e * 36 + 1) 0) 1 ≡ M → leb r d ≡ D
-      → polytopeWords desk es e r whole ≡ B → facetWords d h r p m ≡ F → (M && D && B && F) ≡ rowSound desk es d h k e whole
+      → polytopeWords desk es d e r whole ≡ B → facetWords d h r p m ≡ F → (M && D && B && F) ≡ rowSound desk es d h k e whole
   unfolding polytopeWords
   row-polytope p m M D B F z ep em pM pD pB pF =
       let N = leb (getD whole 3 0) 32 in
-      let W = boundaryWords desk es e r (boundaryIn whole) in
+      let W = boundaryWords desk es d e r (boundaryIn whole) in
       ap (λ (b : Bool). M && D && b && F) (sym pB) ∙ order M N D W F
       ∙ row-is es d h k e whole (M && N) true (D && W && F)
       (sym (head-polytope (e * 36) es M N some pM (ap (λ (x : ℕ). leb x 32) (sym (row-word (e * 36) 3 es (lit≤ tt))))))

@@ -11,12 +11,15 @@ use lib.Ieee.{le}
 use lib.ListN.{getD, take, drop, length, length-drop, length-map}
 use lib.Seq.{drop-drop, getD-take, getD-drop, length-take-le}
 use Rattle.rules.specs.Limits.{desk, noPlane}
-use Rattle.rules.specs.Lists.{rows, if_then_else_, all, allFrom, occurrences, rises}
+use Rattle.rules.specs.Lists.{rows, if_then_else_, all, allFrom, rises, member, distinct}
 use Rattle.rules.specs.Memory.{readElement, planeNamed}
-use Rattle.rules.specs.Sound.{endsOf, closed, soundBoundary, soundFacet, namesPlane, namesNone, soundElement}
-use Rattle.rules.specs.Table.{rank, rankOf, Element, corner, polytope, boundary, boundaryOf, element, Table}
+use Rattle.rules.specs.Sound.{closed, soundBoundary, soundFacet, namesPlane, namesNone, soundElement}
+use Rattle.rules.specs.Table.{rank, rankOf, Element, corner, polytope, boundary, boundaryOf, element, elementCount, sameElement, Table}
+use Rattle.rules.proofs.Apart.{Apart, distinct-apart, Plain, plain-facet, plain, plain-once}
 use Rattle.rules.proofs.Laws.{eq-test, and-left, and-right, not-eq, test-le, both-ways}
-use Rattle.space.specs.Closed.{rawEnds, closedRaw}
+use Rattle.rules.proofs.FaceEdges.{of-all, Two as TwoEnds, two as two-entries}
+use Rattle.space.specs.Closed.{firstEnd, secondEnd, Untwinned, closedRaw}
+use Rattle.space.proofs.TwiceMet.{face-same}
 use Rattle.soundness.specs.Words.{boundaryIn, boundaryWords, facetWords, elementSound, elementsSound}
 use Rattle.soundness.proofs.ReadBack.{rows-length, and-when}
 use borrow.Author.Tests.{ltb-true, le-ltb}
@@ -78,9 +81,27 @@ module _ (t : Table) (es : List ℕ) (n : ℕ) (long : length es ≡ 18432) (fit
       let k = length-drop (x * 36) es in
       length-take-le 36 (drop (x * 36) es) (let q : 36 ≤ length (drop (x * 36) es) = omega (arith, k, long, l, fit) in q)
 
-  -- each edge has two ends
+  abbrev d : ℕ
+  d = t .dimension
+
+  long-table : elementCount t ≡ n
+  long-table = ap length is ∙ length-map (rows n 36 es) readElement ∙ rows-length n 36 es
+
+  -- each edge has two ends, and from three dimensions on it is no more than those
   abbrev pub Two : Type 0
-  Two = (x : ℕ) → x < n → rank t x ≡ 1 → length (boundary t x) ≡ 2
+  Two = (x : ℕ) → x < n → rank t x ≡ 1 → (length (boundary t x) ≡ 2) × (rises (boundary t x) ≡ true) × (2 < t .dimension → Plain (element t x))
+
+  facet-same : (r p m : ℕ) → soundFacet t r (planeNamed p) (eqb m 1) ≡ facetWords (t .dimension) h r p m
+  unfolding soundFacet facetWords
+  facet-same r p m = ap₂ (λ (a b : Bool). if eqb (suc r) (t .dimension) then a else (b && not (eqb m 1))) (named (eqb p noPlane) refl) (none-named (eqb p noPlane))
+    where
+      named : (b : Bool) → eqb p noPlane ≡ b → namesPlane t (if b then none else some p) ≡ ltb p h
+      named true q = let z = eq-test p noPlane q in sym (le-ltb p h (let y : h ≤ p = omega (arith, low, z) in y))
+      named false q = ap (ltb p) planes
+
+      none-named : (b : Bool) → namesNone (if b then none else some p) ≡ b
+      none-named true = refl
+      none-named false = refl
 
   two-words : (r : List ℕ) → length r ≡ 36 → length (boundaryIn r) ≡ 2 → boundaryIn r ≡ getD r 4 0 ∷ getD r 5 0 ∷ []
   two-words [] e q = absurd (let z : ⊥ = omega (arith, e) in z)
@@ -98,53 +119,52 @@ module _ (t : Table) (es : List ℕ) (n : ℕ) (long : length es ≡ 18432) (fit
       go (suc (suc (suc m))) (x ∷ y ∷ []) q = refl
       go (suc (suc (suc m))) (x ∷ y ∷ z ∷ l) q = absurd (let z : ⊥ = omega (arith, q) in z)
 
-  module _ (two : Two) where
-    edge-ends : (x : ℕ) → x < n → rank t x ≡ 1 → boundary t x ≡ getD es (x * 36 + 4) 0 ∷ getD es (x * 36 + 5) 0 ∷ []
+  module _ (two : Two) (apart : Apart t) where
+    edge-ends : (x : ℕ) → x < n → rank t x ≡ 1 → boundary t x ≡ firstEnd es x ∷ secondEnd es x ∷ []
     edge-ends x l q =
         let r = take 36 (drop (x * 36) es) in
         let e : boundary t x ≡ boundaryIn r =
         ap boundaryOf (entry x l) ∙ boundary-read r (not-eq (getD r 0 0) 0 (λ z. let k = sym (rank-read r) ∙ sym (ap rankOf (entry x l)) ∙ q in let y : ⊥ = omega (arith, z, k) in y)) in
-        e ∙ two-words r (row-long x l) (ap length (sym e) ∙ two x l q) ∙ (λ i. word x 4 (lit≤ tt) i ∷ word x 5 (lit≤ tt) i ∷ [])
+        e ∙ two-words r (row-long x l) (ap length (sym e) ∙ two x l q .0) ∙ (λ i. word x 4 (lit≤ tt) i ∷ word x 5 (lit≤ tt) i ∷ [])
 
-    ends-same : (e : ℕ) → e ≤ n → (b : List ℕ) → all (λ x. ltb x e) b ≡ true → all (λ x. eqb (suc (rank t x)) 2) b ≡ true → endsOf t b ≡ rawEnds es b
-    unfolding rawEnds
-    ends-same e le [] p q = refl
-    ends-same e le (x ∷ xs) p q =
-        let lx = ltb-true x e (and-left (ltb x e) (all (λ x. ltb x e) xs) p) in
-        let rx = eq-test (suc (rank t x)) 2 (and-left (eqb (suc (rank t x)) 2) (all (λ x. eqb (suc (rank t x)) 2) xs) q) in
-        ap₂ (λ (u v : List ℕ). u ++ v) (edge-ends x (le-trans lx le) (let z : rank t x ≡ 1 = omega (arith, rx) in z))
-        (ends-same e le xs (and-right (ltb x e) (all (λ x. ltb x e) xs) p) (and-right (eqb (suc (rank t x)) 2) (all (λ x. eqb (suc (rank t x)) 2) xs) q))
+    -- the edges below e, each with its two ends in the memory as in the table
+    module _ (e : ℕ) (le : e ≤ n) (b : List ℕ) (p : all (λ x. ltb x e) b ≡ true) (q : all (λ x. eqb (suc (rank t x)) 2) b ≡ true) where
+      below-e : (x : ℕ) → member x b ≡ true → x < n
+      below-e x m = le-trans (ltb-true x e (of-all (λ y. ltb y e) b x p m)) le
 
-    closed-same : (e : ℕ) → e ≤ n → (r : ℕ) (b : List ℕ) → all (λ x. ltb x e) b ≡ true → all (λ x. eqb (suc (rank t x)) r) b ≡ true → closed t r b ≡ closedRaw es r b
-    closed-same e le zero b p q = refl
-    closed-same e le (suc zero) b p q = refl
-    closed-same e le (suc (suc zero)) b p q = ap (λ (E : List ℕ). all (λ v. eqb (occurrences v E) 2) E) (ends-same e le b p q)
-    closed-same e le (suc (suc (suc r))) b p q = refl
+      edge-rank : (x : ℕ) → member x b ≡ true → rank t x ≡ 1
+      edge-rank x m = let k = eq-test (suc (rank t x)) 2 (of-all (λ y. eqb (suc (rank t y)) 2) b x q m) in omega (arith, k)
 
-    bound-same : (e : ℕ) → e ≤ n → (r : ℕ) (b : List ℕ) → soundBoundary t e r b ≡ boundaryWords desk es e r b
+      in-use : (x : ℕ) → member x b ≡ true → x < elementCount t
+      in-use x m = let l = below-e x m in let k = long-table in omega (arith, l, k)
+
+      alone : 2 < t .dimension → Untwinned t b
+      alone l x y mx my =
+          plain-once t apart x y (in-use x mx) (in-use y my) (two x (below-e x mx) (edge-rank x mx) .2 l) (two y (below-e y my) (edge-rank y my) .2 l)
+
+      face-closed : rises b ≡ true → closedRaw d es 2 b ≡ closed t 2 b
+      face-closed up =
+          face-same d es t b up (λ x m. let k = two x (below-e x m) (edge-rank x m) in two-entries (boundary t x) (k .0) (k .1)) (λ x m. le-trans (below-e x m) fit)
+          (λ x m. edge-ends x (below-e x m) (edge-rank x m)) alone
+
+    closed-same : (e : ℕ) → e ≤ n → (r : ℕ) (b : List ℕ) → rises b ≡ true → all (λ x. ltb x e) b ≡ true → all (λ x. eqb (suc (rank t x)) r) b ≡ true → closed t r b ≡ closedRaw d es r b
+    closed-same e le zero b up p q = refl
+    closed-same e le (suc zero) b up p q = refl
+    closed-same e le (suc (suc zero)) b up p q = sym (face-closed e le b p q up)
+    closed-same e le (suc (suc (suc r))) b up p q = refl
+
+    bound-same : (e : ℕ) → e ≤ n → (r : ℕ) (b : List ℕ) → soundBoundary t e r b ≡ boundaryWords desk es d e r b
     unfolding soundBoundary boundaryWords
     bound-same e le r b =
         let A = all (λ x. ltb x e) b in
         let K = all (λ x. eqb (suc (rank t x)) r) b in
         let K′ = all (λ x. eqb (suc (getD es (x * 36) 0)) r) b in
         let G = ltb r (length b) in
-        and-when (rises b && A && K && G) (closed t r b) (closedRaw es r b)
-        (λ p. closed-same e le r b (and-right (rises b) A (and-left (rises b && A) K (and-left (rises b && A && K) G p))) (and-right (rises b && A) K (and-left (rises b && A && K) G p)))
-        ∙ ap (λ (c : Bool). (c && G) && closedRaw es r b)
+        and-when (rises b && A && K && G) (closed t r b) (closedRaw d es r b)
+        (λ p. closed-same e le r b (and-left (rises b) A (and-left (rises b && A) K (and-left (rises b && A && K) G p))) (and-right (rises b) A (and-left (rises b && A) K (and-left (rises b && A && K) G p))) (and-right (rises b && A) K (and-left (rises b && A && K) G p)))
+        ∙ ap (λ (c : Bool). (c && G) && closedRaw d es r b)
         (and-when (rises b && A) K K′
         (λ p. all-under (λ x. ltb x e) (λ x. eqb (suc (rank t x)) r) (λ x. eqb (suc (getD es (x * 36) 0)) r) (λ x lx. ap (λ (k : ℕ). eqb (suc k) r) (rank-at x (le-trans (ltb-true x e lx) le))) b (and-right (rises b) A p)))
-
-    facet-same : (r p m : ℕ) → soundFacet t r (planeNamed p) (eqb m 1) ≡ facetWords (t .dimension) h r p m
-    unfolding soundFacet facetWords
-    facet-same r p m = ap₂ (λ (a b : Bool). if eqb (suc r) (t .dimension) then a else (b && not (eqb m 1))) (named (eqb p noPlane) refl) (none-named (eqb p noPlane))
-      where
-        named : (b : Bool) → eqb p noPlane ≡ b → namesPlane t (if b then none else some p) ≡ ltb p h
-        named true q = let z = eq-test p noPlane q in sym (le-ltb p h (let y : h ≤ p = omega (arith, low, z) in y))
-        named false q = ap (ltb p) planes
-
-        none-named : (b : Bool) → namesNone (if b then none else some p) ≡ b
-        none-named true = refl
-        none-named false = refl
 
     pub element-same : (e : ℕ) → e ≤ n → (r : List ℕ) → soundElement t e (readElement r) ≡ elementSound desk es (t .dimension) h e r
     unfolding readElement elementSound
@@ -152,7 +172,7 @@ module _ (t : Table) (es : List ℕ) (n : ℕ) (long : length es ≡ 18432) (fit
       where
         go : (b : Bool) → eqb (getD r 0 0) 0 ≡ b
             → soundElement t e (if b then corner (getD r 4 0) else polytope (getD r 0 0) (boundaryIn r) (planeNamed (getD r 2 0)) (eqb (getD r 1 0) 1))
-            ≡ (if b then true else (leb (getD r 0 0) (t .dimension) && boundaryWords desk es e (getD r 0 0) (boundaryIn r) && facetWords (t .dimension) h (getD r 0 0) (getD r 2 0) (getD r 1 0)))
+            ≡ (if b then true else (leb (getD r 0 0) (t .dimension) && boundaryWords desk es d e (getD r 0 0) (boundaryIn r) && facetWords (t .dimension) h (getD r 0 0) (getD r 2 0) (getD r 1 0)))
         go true q = refl
         go false q =
             let a = getD r 0 0 in
@@ -181,29 +201,57 @@ module _ (t : Table) (es : List ℕ) (n : ℕ) (long : length es ≡ 18432) (fit
   edge-closed (suc zero) b q c = eq-test (length b) 2 c
   edge-closed (suc (suc r)) b q c = absurd (let z : ⊥ = omega (arith, q) in z)
 
-  raw-closed : (r : ℕ) (b : List ℕ) → r ≡ 1 → closedRaw es r b ≡ true → length b ≡ 2
+  raw-closed : (r : ℕ) (b : List ℕ) → r ≡ 1 → closedRaw d es r b ≡ true → length b ≡ 2
   raw-closed zero b q c = absurd (let z : ⊥ = omega (arith, q) in z)
   raw-closed (suc zero) b q c = eq-test (length b) 2 c
   raw-closed (suc (suc r)) b q c = absurd (let z : ⊥ = omega (arith, q) in z)
 
-  element-two : (k : ℕ) (e : Element) → soundElement t k e ≡ true → rankOf e ≡ 1 → length (boundaryOf e) ≡ 2
+  element-two : (k : ℕ) (e : Element) → soundElement t k e ≡ true → rankOf e ≡ 1 → (length (boundaryOf e) ≡ 2) × (rises (boundaryOf e) ≡ true) × (2 < t .dimension → Plain e)
   unfolding soundBoundary
   element-two k (corner v) s q = absurd (let z : ⊥ = omega (arith, q) in z)
-  element-two k (polytope r b p m) s q = edge-closed r b q (and-right (rises b && all (λ x. ltb x k) b && all (λ x. eqb (suc (rank t x)) r) b && ltb r (length b)) (closed t r b) (and-right (leb 1 r && leb r (t .dimension)) (soundBoundary t k r b) (and-left (leb 1 r && leb r (t .dimension) && soundBoundary t k r b) (soundFacet t r p m) s)))
+  element-two k (polytope r b p m) s q =
+      let A = all (λ x. ltb x k) b in
+      let K = all (λ x. eqb (suc (rank t x)) r) b in
+      let G = ltb r (length b) in
+      let w = and-right (leb 1 r && leb r (t .dimension)) (soundBoundary t k r b) (and-left (leb 1 r && leb r (t .dimension) && soundBoundary t k r b) (soundFacet t r p m) s) in (
+        edge-closed r b q (and-right (rises b && A && K && G) (closed t r b) w),
+        and-left (rises b) A (and-left (rises b && A) K (and-left (rises b && A && K) G (and-left (rises b && A && K && G) (closed t r b) w))),
+        λ l. plain t k (polytope r b p m) l s q,
+      )
 
   table-two : allFrom 0 (soundElement t) (t .elements) ≡ true → Two
   table-two a x l =
       element-two (0 + x) (element t x) (all-from (soundElement t) (t .elements) 0 x (corner 0) a (let e = ap length is ∙ length-map (rows n 36 es) readElement ∙ rows-length n 36 es in let q : x < length (t .elements) = omega (arith, e, l) in q))
 
-  row-two : (k : ℕ) (r : List ℕ) → elementSound desk es (t .dimension) h k r ≡ true → getD r 0 0 ≡ 1 → length (boundaryIn r) ≡ 2
+  -- the entry of an edge's row
+  plain-read : (r : List ℕ) → getD r 0 0 ≡ 1 → planeNamed (getD r 2 0) ≡ none → eqb (getD r 1 0) 1 ≡ false → Plain (readElement r)
+  unfolding readElement
+  plain-read r q none-there unmarked =
+      let y = readElement r in
+      let e : readElement r ≡ polytope 1 (boundaryIn r) none false =
+      ap (λ (b : Bool). if b then corner (getD r 4 0) else polytope (getD r 0 0) (boundaryIn r) (planeNamed (getD r 2 0)) (eqb (getD r 1 0) 1)) (not-eq (getD r 0 0) 0 (λ z. let w : ⊥ = omega (arith, z, q) in w))
+      ∙ (λ i. polytope (q i) (boundaryIn r) (none-there i) (unmarked i)) in
+      e ∙ ap (λ (b : List ℕ). polytope 1 b none false) (sym (ap boundaryOf e))
+
+  row-two : (k : ℕ) (r : List ℕ) → elementSound desk es (t .dimension) h k r ≡ true → getD r 0 0 ≡ 1
+      → (length (boundaryIn r) ≡ 2) × (rises (boundaryIn r) ≡ true) × (2 < t .dimension → Plain (readElement r))
   unfolding elementSound boundaryWords
   row-two k r s q =
       let a = getD r 0 0 in
       let b = boundaryIn r in
       let B = rises b && all (λ x. ltb x k) b && all (λ x. eqb (suc (getD es (x * 36) 0)) a) b && ltb a (length b) in
       let F = facetWords (t .dimension) h a (getD r 2 0) (getD r 1 0) in
-      let s′ : (leb a (t .dimension) && (B && closedRaw es a b) && F) ≡ true = ap (λ (c : Bool). if c then true else (leb a (t .dimension) && (B && closedRaw es a b) && F)) (sym (not-eq a 0 (λ z. let y : ⊥ = omega (arith, z, q) in y))) ∙ s in
-      raw-closed a b q (and-right B (closedRaw es a b) (and-right (leb a (t .dimension)) (B && closedRaw es a b) (and-left (leb a (t .dimension) && (B && closedRaw es a b)) F s′)))
+      let s′ : (leb a (t .dimension) && (B && closedRaw d es a b) && F) ≡ true = ap (λ (c : Bool). if c then true else (leb a (t .dimension) && (B && closedRaw d es a b) && F)) (sym (not-eq a 0 (λ z. let y : ⊥ = omega (arith, z, q) in y))) ∙ s in
+      let w = and-right (leb a (t .dimension)) (B && closedRaw d es a b) (and-left (leb a (t .dimension) && (B && closedRaw d es a b)) F s′) in
+      let A = all (λ x. ltb x k) b in
+      let K = all (λ x. eqb (suc (getD es (x * 36) 0)) a) b in (
+        raw-closed a b q (and-right B (closedRaw d es a b) w),
+        and-left (rises b) A (and-left (rises b && A) K (and-left (rises b && A && K) (ltb a (length b)) (and-left B (closedRaw d es a b) w))),
+        λ l.
+            let f = and-right (leb a (t .dimension) && (B && closedRaw d es a b)) F s′ in
+            let g = plain-facet t (planeNamed (getD r 2 0)) (eqb (getD r 1 0) 1) l (subst (λ (j : ℕ). soundFacet t j (planeNamed (getD r 2 0)) (eqb (getD r 1 0) 1) ≡ true) q (facet-same a (getD r 2 0) (getD r 1 0) ∙ f)) in
+            plain-read r q (g .0) (g .1),
+      )
 
   words-two : elementsSound desk (t .dimension) n h es ≡ true → Two
   unfolding elementsSound
@@ -211,11 +259,12 @@ module _ (t : Table) (es : List ℕ) (n : ℕ) (long : length es ≡ 18432) (fit
       let r = take 36 (drop (x * 36) es) in
       let one : getD r 0 0 ≡ 1 = sym (rank-read r) ∙ sym (ap rankOf (entry x l)) ∙ q in
       let s = all-from (elementSound desk es (t .dimension) h) (rows n 36 es) 0 x [] a (let e = rows-length n 36 es in let z : x < length (rows n 36 es) = omega (arith, e, l) in z) in
-      ap length (ap boundaryOf (entry x l) ∙ boundary-read r (not-eq (getD r 0 0) 0 (λ z. let y : ⊥ = omega (arith, z, one) in y)))
-      ∙ row-two (0 + x) r (subst (λ (y : List ℕ). elementSound desk es (t .dimension) h (0 + x) y ≡ true) (rows-at 36 n x es [] l) s) one
+      let read = ap boundaryOf (entry x l) ∙ boundary-read r (not-eq (getD r 0 0) 0 (λ z. let y : ⊥ = omega (arith, z, one) in y)) in
+      let w = row-two (0 + x) r (subst (λ (y : List ℕ). elementSound desk es (t .dimension) h (0 + x) y ≡ true) (rows-at 36 n x es [] l) s) one in
+      (ap length read ∙ w .0, ap rises read ∙ w .1, λ k. subst Plain (sym (entry x l)) (w .2 k))
 
-  pub elements-same : allFrom 0 (soundElement t) (t .elements) ≡ elementsSound desk (t .dimension) n h es
-  elements-same =
+  pub elements-same : distinct sameElement (t .elements) ≡ true → allFrom 0 (soundElement t) (t .elements) ≡ elementsSound desk (t .dimension) n h es
+  elements-same unlike =
       both-ways (allFrom 0 (soundElement t) (t .elements)) (elementsSound desk (t .dimension) n h es)
-      (λ a. sym (elements-when (table-two a)) ∙ a)
-      (λ b. elements-when (words-two b) ∙ b)
+      (λ a. sym (elements-when (table-two a) (distinct-apart t unlike)) ∙ a)
+      (λ b. elements-when (words-two b) (distinct-apart t unlike) ∙ b)

@@ -25,7 +25,7 @@ use Rattle.soundness.proofs.SoundLines.{points-same, planes-same, recor
 -- the two conjunctions, over plain truth values
 both : (S A1 A2 A3 A4 F B2 B3 B4 B5 B6 B7 C P H E O R D : Bool)
     → (S ≡ true → C ≡ true → A1 ≡ true) → (F && B4) ≡ C → (S ≡ true → C ≡ true → (A2 && B2) ≡ P) → (S ≡ true → C ≡ true → (A3 && B3) ≡ H) → (S ≡ true → C ≡ true → A4 ≡ E)
-    → B5 ≡ O → (S ≡ true → C ≡ true → B6 ≡ R) → (S ≡ true → C ≡ true → E ≡ true → B7 ≡ D)
+    → B5 ≡ O → (S ≡ true → C ≡ true → B7 ≡ true → B6 ≡ R) → (S ≡ true → C ≡ true → E ≡ true → B7 ≡ D)
     → ((S && (((A1 && A2) && A3) && A4)) && ((((((F && B2) && B3) && B4) && B5) && B6) && B7)) ≡ (((((((S && C) && P) && H) && E) && O) && R) && D)
 both S A1 A2 A3 A4 F B2 B3 B4 B5 B6 B7 C P H E O R D a1 c p h e o r dd =
     both-ways _ _
@@ -51,7 +51,7 @@ both S A1 A2 A3 A4 F B2 B3 B4 B5 B6 B7 C P H E O R D a1 c p h e o r dd =
     let f = and-left F B2 (and-left (F && B2) B3 y₄) in
     let cc : C ≡ true = sym c ∙ and-true F B4 f b4 in
     let ee : E ≡ true = sym (e s cc) ∙ a4 in
-    and-true _ _ (and-true _ _ (and-true _ _ (and-true _ _ (and-true _ _ (and-true _ _ (and-true S C s cc) (sym (p s cc) ∙ and-true A2 B2 a2 b2)) (sym (h s cc) ∙ and-true A3 B3 a3 b3)) ee) (sym o ∙ b5)) (sym (r s cc) ∙ b6)) (sym (dd s cc ee) ∙ b7))
+    and-true _ _ (and-true _ _ (and-true _ _ (and-true _ _ (and-true _ _ (and-true _ _ (and-true S C s cc) (sym (p s cc) ∙ and-true A2 B2 a2 b2)) (sym (h s cc) ∙ and-true A3 B3 a3 b3)) ee) (sym o ∙ b5)) (sym (r s cc b7) ∙ b6)) (sym (dd s cc ee) ∙ b7))
     (λ k.
     let d₁ = and-right ((((((S && C) && P) && H) && E) && O) && R) D k in
     let k₁ = and-left ((((((S && C) && P) && H) && E) && O) && R) D k in
@@ -69,9 +69,10 @@ both S A1 A2 A3 A4 F B2 B3 B4 B5 B6 B7 C P H E O R D a1 c p h e o r dd =
     let fb : (F && B4) ≡ true = c ∙ cc in
     let pp : (A2 && B2) ≡ true = p s cc ∙ p₁ in
     let hh : (A3 && B3) ≡ true = h s cc ∙ h₁ in
+    let b7 : B7 ≡ true = dd s cc e₁ ∙ d₁ in
     and-true _ _
     (and-true S _ s (and-true _ A4 (and-true _ A3 (and-true A1 A2 (a1 s cc) (and-left A2 B2 pp)) (and-left A3 B3 hh)) (e s cc ∙ e₁)))
-    (and-true _ B7 (and-true _ B6 (and-true _ B5 (and-true _ B4 (and-true _ B3 (and-true F B2 (and-left F B4 fb) (and-right A2 B2 pp)) (and-right A3 B3 hh)) (and-right F B4 fb)) (o ∙ o₁)) (r s cc ∙ r₁)) (dd s cc e₁ ∙ d₁)))
+    (and-true _ B7 (and-true _ B6 (and-true _ B5 (and-true _ B4 (and-true _ B3 (and-true F B2 (and-left F B4 fb) (and-right A2 B2 pp)) (and-right A3 B3 hh)) (and-right F B4 fb)) (o ∙ o₁)) (r s cc b7 ∙ r₁)) b7))
 
 -- four counts are written again
 counts-back : (cs : List ℕ) (n v h : ℕ) → length cs ≡ 4 → n ≡ getD cs 1 0 → v ≡ getD cs 2 0 → h ≡ getD cs 3 0 → alike eqb (getD cs 0 0 ∷ n ∷ v ∷ h ∷ []) cs ≡ true
@@ -189,5 +190,5 @@ module _ (cs : List ℕ) (ps hs : List Float) (es : List ℕ) where
       (λ s k. planes-same desk d (counts k .d₄) h hs (counts k .h₆) (size-known cs ps hs es s .2))
       (λ s k. records-same desk (lit≤ tt) n es (counts k .n₅) (size-known cs ps hs es s .3))
       (ap (λ (j : ℕ). alike eqb (map vertexOf (keep isCorner E)) (upTo j)) np ∙ order-same (rows n 36 es) 0 v v (let q : 0 + v ≡ v = omega arith in q))
-      (λ s k. elements-same t es n (size-known cs ps hs es s .3) (counts k .n₅) refl h nh (counts k .h₆))
+      (λ s k u. elements-same t es n (size-known cs ps hs es s .3) (counts k .n₅) refl h nh (counts k .h₆) u)
       (λ s k r. distinct-same desk (rows n 36 es) (records-own desk (lit≤ tt) (rows n 36 es) (rows-wide 36 n 512 es (counts k .n₅) (size-known cs ps hs es s .3)) (and-left (all (recordWords desk) (rows n 36 es)) (blank (drop (n * 36) es)) r)))

@@ -1,5 +1,5 @@
 -- The soundness of the lent memory, told by its words and rows alone: nothing is read into a table. Definitions only.
-use Prim.Native.Nat.{ℕ, _+_, _*_, _%_, _<_, suc}
+use Prim.Native.Nat.{ℕ, _+_, _*_, _<_, suc}
 use mathlib.Core.Path.{_≡_}
 use mathlib.Core.Bool.{Bool, _&&_, true, not, cond}
 use mathlib.Core.List.{List, [], _∷_}
@@ -13,7 +13,7 @@ use Rattle.rules.specs.Memory.{planeWidth, elementWidth, rightSize}
 use Rattle.rules.specs.Held.{memoryOf}
 use Rattle.rules.specs.Table.{primordials}
 use Rattle.space.specs.Chains.{rowAt}
-use Rattle.space.specs.Closed.{closedRaw}
+use Rattle.space.specs.Closed.{closedRaw, metTwice, ringRaw, EndsLow}
 
 abbrev pub blank : List ℕ → Bool
 blank = all (eqb 0)
@@ -82,35 +82,38 @@ numberFits L es e r low x = leb low x && ltb x e && eqb (suc (getD es (x * eleme
 abbrev pub numbersFit : Limits → List ℕ → ℕ → ℕ → List ℕ → Bool
 numbersFit L es e r b = rises b && all (λ x. ltb x e) b && all (λ x. eqb (suc (getD es (x * elementWidth L) 0)) r) b
 
-unfoldable pub boundaryWords : Limits → List ℕ → ℕ → ℕ → List ℕ → Bool
-boundaryWords L es e r b =
-    rises b && all (λ x. ltb x e) b && all (λ x. eqb (suc (getD es (x * elementWidth L) 0)) r) b && ltb r (length b) && closedRaw es r b
+unfoldable pub boundaryWords : Limits → List ℕ → ℕ → ℕ → ℕ → List ℕ → Bool
+boundaryWords L es d e r b =
+    rises b && all (λ x. ltb x e) b && all (λ x. eqb (suc (getD es (x * elementWidth L) 0)) r) b && ltb r (length b) && closedRaw d es r b
 
 -- the boundary of a row, for rank r: its count fits the room, and it is sound
-unfoldable pub polytopeWords : Limits → List ℕ → ℕ → ℕ → List ℕ → Bool
-polytopeWords L es e r row = leb (getD row 3 0) (L .boundary) && boundaryWords L es e r (boundaryIn row)
+unfoldable pub polytopeWords : Limits → List ℕ → ℕ → ℕ → ℕ → List ℕ → Bool
+polytopeWords L es d e r row = leb (getD row 3 0) (L .boundary) && boundaryWords L es d e r (boundaryIn row)
 
--- the boundary of a face: its numbers fit, and its edges go round
+-- the boundary of a face of few edges: its numbers fit, and each corner met lies on exactly two of its edges
+abbrev pub fewWords : Limits → List ℕ → ℕ → List ℕ → Bool
+fewWords L es e b = numbersFit L es e 2 b && metTwice es b
+
+-- the boundary of any other face: its numbers fit, and its edges make one ring
 abbrev pub faceWords : Limits → List ℕ → ℕ → List ℕ → Bool
-faceWords L es e b = numbersFit L es e 2 b && closedRaw es 2 b
+faceWords L es e b = numbersFit L es e 2 b && ringRaw es b
 
--- the stamp of an element, two above the one before it, from 1 on again every 64 elements
+-- the stamp of an element, above every word that was written for the elements before it
 abbrev pub stampOf : ℕ → ℕ
-stampOf e = 2 * (e % 64) + 1
+stampOf e = 513 * e + 1
 
 unfoldable pub facetWords : ℕ → ℕ → ℕ → ℕ → ℕ → Bool
 facetWords d h r plane mark = if eqb (suc r) d then ltb plane h else (eqb plane noPlane && not (eqb mark 1))
 
--- each edge before row e has two ends within the room
+-- each edge before row e has two ends within the room, the lower first
 pub record EdgesLow (es : List ℕ) (e : ℕ) : Type 0 where
-  pub first : (x : ℕ) → x < e → getD es (x * 36) 0 ≡ 1 → getD es (x * 36 + 4) 0 < 512
-  pub second : (x : ℕ) → x < e → getD es (x * 36) 0 ≡ 1 → getD es (x * 36 + 5) 0 < 512
+  pub ends : (x : ℕ) → x < e → getD es (x * 36) 0 ≡ 1 → EndsLow es x
 
 -- the row of element e
 unfoldable pub elementSound : Limits → List ℕ → ℕ → ℕ → ℕ → List ℕ → Bool
 elementSound L es d h e row =
     if eqb (getD row 0 0) 0 then true
-    else (leb (getD row 0 0) d && boundaryWords L es e (getD row 0 0) (boundaryIn row) && facetWords d h (getD row 0 0) (getD row 2 0) (getD row 1 0))
+    else (leb (getD row 0 0) d && boundaryWords L es d e (getD row 0 0) (boundaryIn row) && facetWords d h (getD row 0 0) (getD row 2 0) (getD row 1 0))
 
 -- the row of element e, where vertex k is the next to be named, but for what stands past its boundary
 abbrev pub rowSound : Limits → List ℕ → ℕ → ℕ → ℕ → ℕ → List ℕ → Bool

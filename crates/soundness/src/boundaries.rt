@@ -1,6 +1,9 @@
-// A boundary that is sound: its numbers, and test 7 in the same pass. The ends of a face's edges are met each at its own place.
+// A boundary that is sound: its numbers, and test 7 in the same pass, with a word for each corner that the edges of a face meet.
+use space::closed::CLOSES;
+use space::closed::THRICE;
+use space::closed::few_edges;
+use space::closed::join_ends;
 use space::closed::meet_ends;
-use space::words::ELEMENTS;
 use space::words::WIDTH;
 use space::words::wide;
 ghost use Prim.Native.Nat.{_+_, _*_, _<_, _≤_};
@@ -9,35 +12,14 @@ ghost use mathlib.Core.Bool.{true};
 ghost use lib.ListN.{length, take, drop};
 ghost use Rattle.rules.specs.Limits.{desk};
 ghost use Rattle.space.specs.Closed.{Unmet};
-ghost use Rattle.soundness.specs.Words.{numberFits, numbersFit, faceWords, stampOf, boundaryWords, EdgesLow};
+ghost use Rattle.soundness.specs.Words.{numberFits, numbersFit, fewWords, faceWords, stampOf, boundaryWords, EdgesLow};
 
-// After so many elements the places of ends are cleared, so that a stamp fits a byte.
-const STAMPS: usize = 64;
-
-// An element's stamp is two above the one before it, so that the ends met for a face are told from those met for an earlier one.
-fn stamp_of(e: usize) -> u8
-    ensures { λ r. ⌜ (r ≡ stampOf e) × (r < 255) ⌝ }
+// An element's stamp is above every word that was written for the elements before it: the words of one face are 513 at most above its own.
+fn stamp_of(e: usize) -> u32
+    requires { ⌜ e < 512 ⌝ }
+    ensures { λ r. ⌜ (r ≡ stampOf e) × (r < 1000000) ⌝ }
 {
-    (2 * (e % STAMPS) + 1) as u8
-}
-
-fn clear(met: &mut [u8; 512])
-    requires { ⌜ length (now met) ≡ 512 ⌝ }
-    ensures { λ _. ⌜ Unmet 1 (now (met .exit)) ⌝ }
-{
-    for v in 0..ELEMENTS {
-        met[v] = 0;
-    }
-}
-
-// The places are ready for the element after e.
-pub fn pass_on(met: &mut [u8; 512], e: usize)
-    requires { ⌜ Unmet (stampOf e + 2) (now met) ⌝ }
-    ensures { λ _. ⌜ Unmet (stampOf (e + 1)) (now (met .exit)) ⌝ }
-{
-    if e % STAMPS == STAMPS - 1 {
-        clear(met);
-    }
+    (513 * e + 1) as u32
 }
 
 // A boundary number is no lower than the least that it may be, below the element's own, and of rank one less: only a number below is one whose rank can be read.
@@ -70,10 +52,10 @@ pub fn numbers_fit(elements: &[u16], from: usize, to: usize, e: usize, rank: usi
     true
 }
 
-// The numbers of a face, whose edges are to go round: the ends of each are met in the same pass.
-fn face_fits(elements: &[u16], from: usize, to: usize, e: usize, met: &mut [u8; 512]) -> bool
+// The numbers of a face of few edges: the ends of each are met in the same pass.
+fn few_fits(elements: &[u16], from: usize, to: usize, e: usize, met: &mut [u32; 512]) -> bool
     requires { ⌜ (from ≤ to) × (to ≤ from + 32) × (to ≤ length (now elements)) × (length (now elements) ≡ 18432) × (e < 512) × EdgesLow (now elements) e × Unmet (stampOf e) (now met) ⌝ }
-    ensures { λ r. ⌜ (r ≡ faceWords desk (now (elements .entry)) e (drop from (take to (now (elements .entry))))) × (r ≡ true → Unmet (stampOf e + 2) (now (met .exit))) ⌝ }
+    ensures { λ r. ⌜ (r ≡ fewWords desk (now (elements .entry)) e (drop from (take to (now (elements .entry))))) × (r ≡ true → Unmet (stampOf (e + 1)) (now (met .exit))) ⌝ }
 {
     let stamp = stamp_of(e);
     let mut low = 0usize;
@@ -89,23 +71,56 @@ fn face_fits(elements: &[u16], from: usize, to: usize, e: usize, met: &mut [u8; 
     twice == to - from
 }
 
+// The numbers of any other face: each edge joins paths in the same pass.
+fn face_fits(elements: &[u16], from: usize, to: usize, e: usize, met: &mut [u32; 512]) -> bool
+    requires { ⌜ (from ≤ to) × (to ≤ from + 32) × (to ≤ length (now elements)) × (length (now elements) ≡ 18432) × (e < 512) × EdgesLow (now elements) e × Unmet (stampOf e) (now met) ⌝ }
+    ensures { λ r. ⌜ (r ≡ faceWords desk (now (elements .entry)) e (drop from (take to (now (elements .entry))))) × (r ≡ true → Unmet (stampOf (e + 1)) (now (met .exit))) ⌝ }
+{
+    let stamp = stamp_of(e);
+    let mut low = 0usize;
+    let mut twice = 0usize;
+    for i in from..to {
+        let x = wide(elements[i]);
+        if !number_fits(elements, x, low, e, 2) {
+            return false;
+        }
+        let joins = join_ends(elements, x, met, stamp);
+        if joins == THRICE {
+            return false;
+        }
+        if joins == CLOSES {
+            if i + 1 < to {
+                return false;
+            }
+            return twice + 2 == to - from;
+        }
+        twice = twice + joins;
+        low = x + 1;
+    }
+    to - from == 0
+}
+
 // More of them than the rank, rising, earlier, of rank one less, and closed: those of a face or a body.
 pub fn boundary_sound(
     elements: &[u16],
     at: usize,
     n: usize,
     e: usize,
+    d: usize,
     rank: usize,
-    met: &mut [u8; 512],
+    met: &mut [u32; 512],
 ) -> bool
     requires { ⌜ (length (now elements) ≡ 18432) × (at + n ≤ 18432) × (n ≤ 32) × (e < 512) × (rank ≡ 1 → ⊥) × EdgesLow (now elements) e × Unmet (stampOf e) (now met) ⌝ }
-    ensures { λ r. ⌜ (r ≡ boundaryWords desk (now (elements .entry)) e rank (drop at (take (at + n) (now (elements .entry))))) × (r ≡ true → Unmet (stampOf e + 2) (now (met .exit))) ⌝ }
+    ensures { λ r. ⌜ (r ≡ boundaryWords desk (now (elements .entry)) d e rank (drop at (take (at + n) (now (elements .entry))))) × (r ≡ true → Unmet (stampOf (e + 1)) (now (met .exit))) ⌝ }
 {
     if n <= rank {
         return false;
     }
-    if rank == 2 {
-        return face_fits(elements, at, at + n, e, met);
+    if rank != 2 {
+        return numbers_fit(elements, at, at + n, e, rank);
     }
-    numbers_fit(elements, at, at + n, e, rank)
+    if n <= few_edges(d) {
+        return few_fits(elements, at, at + n, e, met);
+    }
+    face_fits(elements, at, at + n, e, met)
 }

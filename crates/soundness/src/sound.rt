@@ -1,7 +1,6 @@
 // Document 01, "A table is sound when", over the words of the lent memory: one function for each of its lines.
 use crate::boundaries::boundary_sound;
 use crate::boundaries::numbers_fit;
-use crate::boundaries::pass_on;
 use crate::chains::row_new;
 use crate::floats::floats_sound;
 use space::chains::INDEX;
@@ -14,7 +13,7 @@ use space::words::VERTICES;
 use space::words::WIDTH;
 use space::words::right_size;
 use space::words::wide;
-ghost use Prim.Native.Nat.{_+_, _*_, _<_, _≤_};
+ghost use Prim.Native.Nat.{ℕ, _+_, _*_, _<_, _≤_};
 ghost use mathlib.Core.Path.{_≡_};
 ghost use mathlib.Core.Bool.{cond, true, _&&_};
 ghost use lib.Dec.{eqb};
@@ -147,7 +146,7 @@ fn corner_sound(
 // The boundary of an edge: with the count as a literal the loop is two tests and no loop.
 fn edge_sound(elements: &[u16], e: usize, past: &[u16; 64], seen: &mut [u16; 32]) -> bool
     requires { ⌜ (length (now elements) ≡ 18432) × (e < 512) × Mask (now past) × (length (now seen) ≡ 32) ⌝ }
-    ensures { λ r. ⌜ (r ≡ polytopeWords desk (now (elements .entry)) e 1 (take 36 (drop (e * 36) (now (elements .entry))))) × (r ≡ true → Gathered (take 36 (drop (e * 36) (now (elements .entry)))) (now (seen .entry)) (now (seen .exit))) ⌝ }
+    ensures { λ r. ⌜ ((d : ℕ) → r ≡ polytopeWords desk (now (elements .entry)) d e 1 (take 36 (drop (e * 36) (now (elements .entry))))) × (r ≡ true → Gathered (take 36 (drop (e * 36) (now (elements .entry)))) (now (seen .entry)) (now (seen .exit))) ⌝ }
 {
     let at = e * WIDTH;
     if elements[at + 3] != 2 {
@@ -161,13 +160,14 @@ fn edge_sound(elements: &[u16], e: usize, past: &[u16; 64], seen: &mut [u16; 32]
 fn higher_sound(
     elements: &[u16],
     e: usize,
+    d: usize,
     rank: usize,
-    met: &mut [u8; 512],
+    met: &mut [u32; 512],
     past: &[u16; 64],
     seen: &mut [u16; 32],
 ) -> bool
     requires { ⌜ (length (now elements) ≡ 18432) × (e < 512) × (rank ≡ 1 → ⊥) × EdgesLow (now elements) e × Unmet (stampOf e) (now met) × Mask (now past) × (length (now seen) ≡ 32) ⌝ }
-    ensures { λ r. ⌜ (r ≡ polytopeWords desk (now (elements .entry)) e rank (take 36 (drop (e * 36) (now (elements .entry))))) × (r ≡ true → Unmet (stampOf e + 2) (now (met .exit))) × (r ≡ true → Gathered (take 36 (drop (e * 36) (now (elements .entry)))) (now (seen .entry)) (now (seen .exit))) ⌝ }
+    ensures { λ r. ⌜ (r ≡ polytopeWords desk (now (elements .entry)) d e rank (take 36 (drop (e * 36) (now (elements .entry))))) × (r ≡ true → Unmet (stampOf (e + 1)) (now (met .exit))) × (r ≡ true → Gathered (take 36 (drop (e * 36) (now (elements .entry)))) (now (seen .entry)) (now (seen .exit))) ⌝ }
 {
     let at = e * WIDTH;
     let n = wide(elements[at + 3]);
@@ -175,25 +175,26 @@ fn higher_sound(
         return false;
     }
     gather_past(elements, at, n, past, seen);
-    boundary_sound(elements, at + HEAD, n, e, rank, met)
+    boundary_sound(elements, at + HEAD, n, e, d, rank, met)
 }
 
 // The boundary of a polytope, by its rank.
 fn polytope_sound(
     elements: &[u16],
     e: usize,
+    d: usize,
     rank: usize,
-    met: &mut [u8; 512],
+    met: &mut [u32; 512],
     past: &[u16; 64],
     seen: &mut [u16; 32],
 ) -> bool
     requires { ⌜ (length (now elements) ≡ 18432) × (e < 512) × EdgesLow (now elements) e × Unmet (stampOf e) (now met) × Mask (now past) × (length (now seen) ≡ 32) ⌝ }
-    ensures { λ r. ⌜ (r ≡ polytopeWords desk (now (elements .entry)) e rank (take 36 (drop (e * 36) (now (elements .entry))))) × (r ≡ true → Unmet (stampOf e + 2) (now (met .exit))) × (r ≡ true → Gathered (take 36 (drop (e * 36) (now (elements .entry)))) (now (seen .entry)) (now (seen .exit))) ⌝ }
+    ensures { λ r. ⌜ (r ≡ polytopeWords desk (now (elements .entry)) d e rank (take 36 (drop (e * 36) (now (elements .entry))))) × (r ≡ true → Unmet (stampOf (e + 1)) (now (met .exit))) × (r ≡ true → Gathered (take 36 (drop (e * 36) (now (elements .entry)))) (now (seen .entry)) (now (seen .exit))) ⌝ }
 {
     if rank == 1 {
         return edge_sound(elements, e, past, seen);
     }
-    higher_sound(elements, e, rank, met, past, seen)
+    higher_sound(elements, e, d, rank, met, past, seen)
 }
 
 // One row, where vertex k is the next to be named. Rows are tested by kind, so that the count of a vertex or an edge is a literal.
@@ -203,12 +204,12 @@ fn row_sound(
     d: usize,
     h: usize,
     k: usize,
-    met: &mut [u8; 512],
+    met: &mut [u32; 512],
     past: &[u16; 64],
     seen: &mut [u16; 32],
 ) -> bool
     requires { ⌜ (length (now elements) ≡ 18432) × (e < 512) × EdgesLow (now elements) e × Unmet (stampOf e) (now met) × Mask (now past) × (length (now seen) ≡ 32) ⌝ }
-    ensures { λ r. ⌜ (r ≡ rowSound desk (now (elements .entry)) d h k e (take 36 (drop (e * 36) (now (elements .entry))))) × (r ≡ true → Unmet (stampOf e + 2) (now (met .exit))) × (r ≡ true → Gathered (take 36 (drop (e * 36) (now (elements .entry)))) (now (seen .entry)) (now (seen .exit))) ⌝ }
+    ensures { λ r. ⌜ (r ≡ rowSound desk (now (elements .entry)) d h k e (take 36 (drop (e * 36) (now (elements .entry))))) × (r ≡ true → Unmet (stampOf (e + 1)) (now (met .exit))) × (r ≡ true → Gathered (take 36 (drop (e * 36) (now (elements .entry)))) (now (seen .entry)) (now (seen .exit))) ⌝ }
 {
     let at = e * WIDTH;
     let rank = wide(elements[at]);
@@ -221,7 +222,7 @@ fn row_sound(
     if d < rank {
         return false;
     }
-    if !polytope_sound(elements, e, rank, met, past, seen) {
+    if !polytope_sound(elements, e, d, rank, met, past, seen) {
         return false;
     }
     let plane = wide(elements[at + 2]);
@@ -235,14 +236,13 @@ fn rows_in_use(elements: &[u16], d: usize, n: usize, v: usize, h: usize, index: 
     ensures { λ r. ⌜ (r ≡ (rowsInUse desk d n v h (now (elements .entry)) && rowsDistinct desk n (now (elements .entry)))) × (r ≡ true → Indexed (now (elements .entry)) n (now (index .exit))) ⌝ }
 {
     let past = past_mask();
-    let mut met = [0u8; 512];
+    let mut met = [0u32; 512];
     let mut seen = [0u16; 32];
     let mut k = 0usize;
     for i in 0..n {
         if !row_sound(elements, i, d, h, k, &mut met, &past, &mut seen) {
             return false;
         }
-        pass_on(&mut met, i);
         if !row_new(elements, i, index) {
             return false;
         }

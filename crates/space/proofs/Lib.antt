@@ -13,6 +13,11 @@ pub mod VertexMemo
 pub mod HyperplaneMemo
 pub mod Sizes
 pub mod Sums
+pub mod Webs
+pub mod Meetings
+pub mod FewEdges
 pub mod TwiceMet
-pub mod EndsMet
+pub mod EndsCounted
+pub mod PathsJoined
+pub mod Rings
 pub mod PolytopeMemo

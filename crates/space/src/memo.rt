@@ -208,7 +208,7 @@ pub fn add_polytope(
     if BOUNDARY < n {
         return Added::Refused(11);
     }
-    if !is_closed(elements, rank, list, n) {
+    if !is_closed(counts, elements, rank, list, n) {
         return Added::Refused(7);
     }
     let row = rows::polytope_row(rank, list, n, plane, mark);

@@ -1,21 +1,17 @@
 -- What is read of one edge, and the searches over the edges of a face: what is left to search gives what the whole gives.
 use Prim.Native.Nat.{ℕ, _+_, _*_, _≤_, _<_}
 use mathlib.Core.Path.{_≡_, refl, sym, ap, _∙_, subst}
-use mathlib.Core.Bool.{Bool, true, false, not, _&&_, _||_, cond}
+use mathlib.Core.Bool.{Bool, true, false, not, _&&_, _||_}
 use mathlib.Core.List.{List, [], _∷_}
-use native.Mathlib.Nat.{zero-add}
-use native.Mathlib.Omega.{arith}
 use borrow.Author.Tests.{lt-ltb, le-ltb}
 use lib.Dec.{eqb, ltb}
-use lib.ListN.{length, getD, take, drop}
-use Rattle.rules.specs.Lists.{if_then_else_, all, keep, occurrences}
+use lib.ListN.{getD, drop}
+use Rattle.rules.specs.Lists.{if_then_else_, keep}
 use Rattle.rules.specs.Held.{AllOf}
 use Rattle.rules.proofs.Laws.{if-true, if-false, either, test-eq, not-eq}
-use Rattle.space.proofs.TwiceMet.{times-cons}
 use Rattle.walk.specs.Boundaries.{rowBoundary, BoundaryFits}
 use Rattle.walk.specs.Walks.{lowEnd, highEnd, hasEnd, endAcross, edgeBeside, lower, lowestEnd, noEdge, lowerWay, firstWay, EdgeFits, FaceFits}
 use Rattle.walk.proofs.Boundaries.{row-on, row-end}
-use Rattle.walk.proofs.Fronts.{front-on, front-end}
 
 -- ---- one edge
 
@@ -83,34 +79,6 @@ module _ (es : List ℕ) (f n : ℕ) (B : BoundaryFits es f) (q : n ≡ getD es 
   pub lowest-end : (m o i : ℕ) → n ≤ i → o ≡ lowestEnd es m (drop i xs) → m ≡ o
   unfolding lowestEnd
   lowest-end m o i h w = sym (w ∙ ap (lowestEnd es m) (row-end es f n B q i h))
-
-  module _ (p : ℕ → Bool) (b : Bool) (i x : ℕ) (g : x ≡ getD es (f * 36 + (4 + i)) 0) (h : i < n) (w : b ≡ all p (drop i xs)) where
-    all-on : b ≡ (p x && all p (drop (i + 1) xs))
-    all-on = w ∙ ap (all p) (row-on es f n B q i h) ∙ ap (λ (y : ℕ). p y && all p (drop (i + 1) xs)) (sym g)
-
-    pub all-no : p x ≡ false → false ≡ b
-    all-no k = sym (all-on ∙ ap (λ (c : Bool). c && all p (drop (i + 1) xs)) k)
-
-    pub all-go : p x ≡ true → b ≡ all p (drop (i + 1) xs)
-    all-go k = all-on ∙ ap (λ (c : Bool). c && all p (drop (i + 1) xs)) k
-
-  pub all-end : (p : ℕ → Bool) (b : Bool) (i : ℕ) → n ≤ i → b ≡ all p (drop i xs) → true ≡ b
-  all-end p b i h w = sym (w ∙ ap (all p) (row-end es f n B q i h))
-
--- ---- how often an edge is taken
-
-module _ (edges : List ℕ) (n e : ℕ) (long : length edges ≡ 32) (fit : n ≤ 32) where
-  pub taken-go : (o met k s : ℕ) → k < n → s ≡ cond (eqb e (getD edges k 0)) 1 0 → o ≡ met + occurrences e (drop k (take n edges))
-      → o ≡ met + s + occurrences e (drop (k + 1) (take n edges))
-  taken-go o met k s h g w =
-      let c = ap (occurrences e) (front-on edges n long fit k h) ∙ times-cons e (getD edges k 0) (drop (k + 1) (take n edges)) in
-      omega (arith, w, c, g)
-
-  pub taken-end : (o met k : ℕ) → n ≤ k → o ≡ met + occurrences e (drop k (take n edges)) → met ≡ o
-  taken-end o met k h w = let c = ap (occurrences e) (front-end edges n long fit k h) in omega (arith, w, c)
-
-pub taken-start : (edges : List ℕ) (n e : ℕ) → occurrences e (take n edges) ≡ 0 + occurrences e (drop 0 (take n edges))
-taken-start edges n e = sym (zero-add _)
 
 -- ---- an edge that is found is within the room
 

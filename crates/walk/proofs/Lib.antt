@@ -1,11 +1,10 @@
 pub mod Boundaries
 pub mod Asking
 pub mod Facets
-pub mod Fronts
 pub mod EdgeLoops
-pub mod Rounds
 pub mod Pairs
 pub mod Faces
 pub mod Starts
 pub mod Walking
+pub mod Whole
 pub mod Orders

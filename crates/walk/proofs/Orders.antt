@@ -1,89 +1,79 @@
--- The reply of the edges in order: of the walk that the code made, and then, test by test, of the memory.
-use Prim.Native.Nat.{ℕ, suc, _*_, _≤_, _<_}
+-- The reply of the edges in order: of the numbers that the code wrote, and then, test by test, of the memory.
+use Prim.Native.Nat.{ℕ, zero, suc, _+_, _*_, _≤_, _<_}
 use mathlib.Core.Path.{_≡_, refl, sym, ap, ap₂, _∙_, subst}
 use mathlib.Core.Bool.{Bool, true, false, not}
 use mathlib.Core.List.{List, [], _∷_, _++_}
 use native.Mathlib.Nat.{le-trans, le-of-eq, zero-add}
 use native.Mathlib.Omega.{arith}
 use lib.Dec.{eqb}
-use lib.ListN.{length, getD, take, drop}
-use lib.Seq.{sets, sets-eq, length-take-le}
+use lib.ListN.{length, getD, drop}
+use lib.Seq.{sets, sets-eq}
 use lib.Ieee.{Float}
 use Rattle.rules.specs.Limits.{desk}
-use Rattle.rules.specs.Lists.{if_then_else_, all, occurrences, rises}
-use Rattle.rules.specs.Table.{Element, corner, polytope, Table, rankOf, boundaryOf, elementCount, element, rank, boundary}
-use Rattle.rules.specs.Sound.{sound, soundElement}
+use Rattle.rules.specs.Lists.{if_then_else_}
+use Rattle.rules.specs.Table.{Table, elementCount, rank, boundary}
+use Rattle.rules.specs.Sound.{sound}
 use Rattle.rules.specs.Memory.{soundMemory}
 use Rattle.rules.specs.Held.{Holds, AllOf, memoryOf}
-use Rattle.rules.specs.Questions.{Asked, no-answer, answer, withRank, walk, firstEdge, eachOnce, pairs, edgesInOrder}
+use Rattle.rules.specs.Walk.{walk, firstEdge, startOf, around}
+use Rattle.rules.specs.Questions.{Asked, no-answer, answer, pairs, edgesInOrder}
 use Rattle.rules.specs.Replies.{listed, inNumbers, edgesInOrderReply}
 use Rattle.rules.specs.declared.ListReply.{ListReply}
 use Rattle.rules.specs.declared.ListReply.the-variants.{Refused, Listed}
-use Rattle.rules.proofs.Good.{Good, sound-good, sound-at, whole}
+use Rattle.rules.proofs.FaceEdges.{start-first, takes-all}
+use Rattle.rules.proofs.Good.{Good, sound-good}
 use Rattle.rules.proofs.Laws.{if-true, if-false, test-eq, not-eq, test-le, test-above}
-use Rattle.walk.specs.Boundaries.{rowBoundary}
-use Rattle.walk.specs.Walks.{lowestEnd, noEdge, firstWay, stepsFrom, cornersOf, Walked, numbersFrom, inOrder, stepsOf, wordsInOrder, EdgeFits, FaceFits}
-use Rattle.walk.specs.declared.Steps.{Steps}
+use Rattle.rules.proofs.WalkRound.{taken}
+use Rattle.walk.specs.Boundaries.{rowBoundary, BoundaryFits}
+use Rattle.walk.specs.Walks.{endAcross, edgeBeside, lowestEnd, noEdge, firstWay, numbersFrom, wordsInOrder, EdgeFits, FaceFits}
 use Rattle.walk.proofs.Asking as ask
 use Rattle.walk.proofs.Asking.{tableOf}
-use Rattle.walk.proofs.Boundaries.{bounds, boundary-fits, boundary-is}
+use Rattle.walk.proofs.Boundaries.{row-size, bounds, boundary-fits, boundary-is}
 use Rattle.walk.proofs.Faces.{CornerAt, Met, EdgeAt, edges-at, none-met}
 use Rattle.walk.proofs.Starts.{start-corner, start-is}
-use Rattle.walk.proofs.Walking.{first-is, first-met, walk-is, walk-corners, numbers-are}
+use Rattle.walk.proofs.Walking.{first-is, first-met, walk-is}
+use Rattle.walk.proofs.Whole.{rising, all-steps}
 
--- ---- 7, 12, or the list written
+-- ---- 12, or the list written
 
-two-each : (es : List ℕ) (v : ℕ) (ws : List ℕ) → length (numbersFrom es v ws) ≡ 2 * length ws
-two-each es v [] = refl
-two-each es v (w ∷ ws) = let q = two-each es w ws in let z : suc (suc (length (numbersFrom es w ws))) ≡ 2 * suc (length ws) = omega (arith, q) in z
+two-each : (n : ℕ) (es xs : List ℕ) (v e : ℕ) → length (numbersFrom n es xs v e) ≡ 2 * n
+unfolding numbersFrom
+two-each zero es xs v e = refl
+two-each (suc n) es xs v e =
+    let w = endAcross es v e in
+    let q = two-each n es xs w (edgeBeside es e w xs) in
+    let z : suc (suc (length (numbersFrom n es xs w (edgeBeside es e w xs)))) ≡ 2 * suc n = omega (arith, q) in
+    z
 
-module _ (es : List ℕ) (f start first : ℕ) (r : Steps) (room : List ℕ) (hs : start ≡ lowestEnd es noEdge (rowBoundary es f)) (hf : first ≡ firstWay es start (rowBoundary es f))
-    (W : Walked (stepsFrom (length (rowBoundary es f)) es (rowBoundary es f) start start first) r) where
+module _ (es : List ℕ) (f n : ℕ) (room : List ℕ) (B : BoundaryFits es f) (q : n ≡ getD es (f * 36 + 3) 0) where
   abbrev xs : List ℕ
   xs = rowBoundary es f
 
-  steps-are : stepsFrom (length xs) es xs start start first ≡ stepsOf es xs
-  unfolding stepsOf
-  steps-are = ap (stepsFrom (length xs) es xs start start) hf ∙ ap (λ (v : ℕ). stepsFrom (length xs) es xs v v (firstWay es v xs)) hs
+  abbrev numbers : List ℕ
+  numbers = wordsInOrder es xs
 
-  once-is : all (λ e. eqb (occurrences e (take (r .n) (r .edges))) 1) xs ≡ eachOnce xs (stepsOf es xs)
-  once-is = ap (λ (l : List ℕ). all (λ e. eqb (occurrences e l) 1) xs) (W .edges) ∙ ap (eachOnce xs) steps-are
+  size-is : length numbers ≡ 2 * n
+  unfolding wordsInOrder
+  size-is = two-each (length xs) es xs (lowestEnd es noEdge xs) (firstWay es (lowestEnd es noEdge xs) xs) ∙ ap (λ (k : ℕ). 2 * k) (row-size es f n B q)
 
-  module _ (b : Bool) (hb : b ≡ all (λ e. eqb (occurrences e (take (r .n) (r .edges))) 1) xs) where
-    pub not-once : b ≡ false → (Refused 7, room) ≡ listed (wordsInOrder es f) room
+  -- the choice between the list and 12
+  abbrev choice : Bool → ListReply × List ℕ
+  choice c = if c then (Listed (length numbers), numbers ++ drop (length numbers) room) else (Refused 12, room)
+
+  pub no-room : length room < 2 * n → (Refused 12, room) ≡ listed (answer numbers) room
+  no-room l = ap choice (sym (test-above (length numbers) (length room) (le-trans l (le-of-eq (sym size-is)))))
+
+  module _ (start first : ℕ) (hs : start ≡ lowestEnd es noEdge xs) (hf : first ≡ firstWay es start xs) where
+    numbers-are : numbersFrom (length xs) es xs start first ≡ numbers
     unfolding wordsInOrder
-    not-once q = ap (λ (c : Bool). listed (if c then answer (numbersFrom es (lowestEnd es noEdge xs) (cornersOf (stepsOf es xs))) else no-answer 7) room) (sym q ∙ hb ∙ once-is)
+    numbers-are = ap (numbersFrom (length xs) es xs start) hf ∙ ap (λ (v : ℕ). numbersFrom (length xs) es xs v (firstWay es v xs)) hs
 
-    module _ (q : b ≡ true) where
-      numbers : List ℕ
-      numbers = numbersFrom es start (take (r .n) (r .corners))
-
-      answered : listed (answer numbers) room ≡ listed (wordsInOrder es f) room
-      unfolding wordsInOrder numbers
-      answered =
-          ap₂ (λ (v : ℕ) (ws : List ℕ). listed (answer (numbersFrom es v ws)) room) hs (W .corners ∙ ap cornersOf steps-are)
-          ∙ ap (λ (c : Bool). listed (if c then answer (numbersFrom es (lowestEnd es noEdge xs) (cornersOf (stepsOf es xs))) else no-answer 7) room) (sym q ∙ hb ∙ once-is)
-
-      size-is : length numbers ≡ 2 * r .n
-      unfolding numbers
-      size-is =
-          two-each es start (take (r .n) (r .corners))
-          ∙ ap (λ (k : ℕ). 2 * k) (length-take-le (r .n) (r .corners) (le-trans (W .fit) (le-of-eq (sym (W .roomOfCorners)))))
-
-      -- the choice between the list and 12
-      abbrev choice : Bool → ListReply × List ℕ
-      choice c = if c then (Listed (length numbers), numbers ++ drop (length numbers) room) else (Refused 12, room)
-
-      pub no-room : length room < 2 * r .n → (Refused 12, room) ≡ listed (wordsInOrder es f) room
-      no-room l = ap choice (sym (test-above (length numbers) (length room) (le-trans l (le-of-eq (sym size-is))))) ∙ answered
-
-      pub list-done : (out : List ℕ) → 2 * r .n ≤ length room → out ≡ sets room 0 (numbersFrom es start (take (r .n) (r .corners)))
-          → (Listed (2 * r .n), out) ≡ listed (wordsInOrder es f) room
-      unfolding numbers
-      list-done out l e =
-          let fit : length numbers ≤ length room = le-trans (le-of-eq size-is) l in
-          (λ i. (Listed (sym size-is i), (e ∙ sets-eq numbers room 0 (le-trans (le-of-eq (zero-add (length numbers))) fit) ∙ ap (λ (k : ℕ). numbers ++ drop k room) (zero-add (length numbers))) i))
-          ∙ ap choice (sym (test-le (length numbers) (length room) fit)) ∙ answered
+    pub list-done : (out : List ℕ) → 2 * n ≤ length room → out ≡ sets room 0 (numbersFrom (length xs) es xs start first) → (Listed (2 * n), out) ≡ listed (answer numbers) room
+    list-done out l e =
+        let fit : length numbers ≤ length room = le-trans (le-of-eq size-is) l in
+        let all-in = sets-eq numbers room 0 (le-trans (le-of-eq (zero-add (length numbers))) fit) in
+        (λ i. (Listed (sym size-is i), (e ∙ ap (sets room 0) numbers-are ∙ all-in ∙ ap (λ (k : ℕ). numbers ++ drop k room) (zero-add (length numbers))) i))
+        ∙ ap choice (sym (test-le (length numbers) (length room) fit))
 
 -- ---- a face of a sound table
 
@@ -102,13 +92,6 @@ module _ {cs : List ℕ} {ps hs : List Float} {es : List ℕ} {t : Table} (H : H
 
   start-at : CornerAt t es (lowestEnd es noEdge (boundary t f))
   start-at = start-corner H s f u q edges
-
-  up : rises (boundary t f) ≡ true
-  up = go (element t f) q (sound-at desk t f g u)
-    where
-      go : (y : Element) → rankOf y ≡ 2 → soundElement t f y ≡ true → rises (boundaryOf y) ≡ true
-      go (corner v) e h = absurd (let z : ⊥ = omega (arith, e) in z)
-      go (polytope r b k m) e h = whole t f r b k m h .bound .rising
 
   met-fits : (x : ℕ) → Met t es x → EdgeFits es x
   met-fits x M = record {
@@ -129,40 +112,33 @@ module _ {cs : List ℕ} {ps hs : List Float} {es : List ℕ} {t : Table} (H : H
     start = subst (λ (l : List ℕ). lowestEnd es noEdge l < 512) (sym same) (le-trans (start-at .used) (H .fits .elementRoom));
   }
 
-  -- the rules' answer, from the start and the steps
-  abbrev ordered : ℕ → List (ℕ × ℕ) → Asked (List ℕ)
-  ordered start ss = inNumbers (if eachOnce (boundary t f) ss then answer (pairs t start ss) else no-answer 7)
-
   abbrev lowest : ℕ
-  lowest = getD (withRank t 0 f) 0 0
+  lowest = startOf t (boundary t f)
 
-  steps-same : walk (length (boundary t f)) t (boundary t f) lowest lowest (firstEdge t lowest (boundary t f)) ≡ stepsOf es (boundary t f)
-  unfolding stepsOf
-  steps-same =
-      let v = lowestEnd es noEdge (boundary t f) in
-      ap (λ (x : ℕ). walk (length (boundary t f)) t (boundary t f) x x (firstEdge t x (boundary t f))) (start-is H s f u q edges)
-      ∙ ap (walk (length (boundary t f)) t (boundary t f) v v) (first-is t es (boundary t f) edges none (H .fits .elementRoom) up v)
-      ∙ walk-is t es (boundary t f) edges none (length (boundary t f)) v v (firstWay es v (boundary t f)) (first-met t es (boundary t f) edges none (H .fits .elementRoom) up v)
+  lowest-is : lowest ≡ lowestEnd es noEdge (boundary t f)
+  lowest-is = sym (start-first desk t s f u q) ∙ start-is H s f u q edges
 
-  corners-are : AllOf (CornerAt t es) (cornersOf (stepsOf es (boundary t f)))
-  unfolding stepsOf
-  corners-are =
-      let v = lowestEnd es noEdge (boundary t f) in
-      walk-corners t es (boundary t f) edges none (length (boundary t f)) v v (firstWay es v (boundary t f)) (first-met t es (boundary t f) edges none (H .fits .elementRoom) up v)
+  abbrev begin : ℕ
+  begin = lowestEnd es noEdge (boundary t f)
 
-  pub order-is : inNumbers (edgesInOrder t f) ≡ wordsInOrder es f
+  abbrev first : ℕ
+  first = firstWay es begin (boundary t f)
+
+  around-is : around t (boundary t f) ≡ walk (length (boundary t f)) t (boundary t f) begin begin first
+  around-is =
+      ap (λ (x : ℕ). walk (length (boundary t f)) t (boundary t f) x x (firstEdge t x (boundary t f))) lowest-is
+      ∙ ap (walk (length (boundary t f)) t (boundary t f) begin begin) (first-is t es (boundary t f) edges none (H .fits .elementRoom) (rising t s f u q) begin)
+
+  -- never 6, for it is a face, and never 7, for the walk takes every edge
+  pub order-is : inNumbers (edgesInOrder t f) ≡ answer (wordsInOrder es (rowBoundary es f))
   unfolding edgesInOrder wordsInOrder
   order-is =
-      let v = lowestEnd es noEdge (boundary t f) in
-      ap inNumbers (if-false (not (eqb (rank t f) 2)) (no-answer 6) _ (ap not (test-eq (rank t f) 2 q)))
-      ∙ ap₂ ordered (start-is H s f u q edges) steps-same
-      ∙ by-once (eachOnce (boundary t f) (stepsOf es (boundary t f)))
-      ∙ ap (λ (l : List ℕ). inOrder es l (lowestEnd es noEdge l) (stepsOf es l)) (sym same)
-    where
-      by-once : (b : Bool) → inNumbers (if b then answer (pairs t (lowestEnd es noEdge (boundary t f)) (stepsOf es (boundary t f))) else no-answer 7)
-          ≡ (if b then answer (numbersFrom es (lowestEnd es noEdge (boundary t f)) (cornersOf (stepsOf es (boundary t f)))) else no-answer 7)
-      by-once true = ap answer (numbers-are t es (lowestEnd es noEdge (boundary t f)) (stepsOf es (boundary t f)) start-at corners-are)
-      by-once false = refl
+      ap inNumbers (if-false (not (eqb (rank t f) 2)) (no-answer 6) _ (ap not (test-eq (rank t f) 2 q)) ∙ if-true _ _ (no-answer 7) (takes-all desk t s f u q))
+      ∙ ap₂ (λ (v : ℕ) (ss : List (ℕ × ℕ)). inNumbers (answer (pairs t v ss))) lowest-is around-is
+      ∙ ap answer (walk-is t es (boundary t f) edges none (length (boundary t f)) begin begin first
+      (first-met t es (boundary t f) edges none (H .fits .elementRoom) (rising t s f u q) begin) start-at
+      (subst (λ (ss : List (ℕ × ℕ)). length (boundary t f) ≤ length (taken ss)) around-is (all-steps t s f u q)))
+      ∙ ap (λ (l : List ℕ). answer (wordsInOrder es l)) (sym same)
 
 -- ---- test by test
 
@@ -207,5 +183,5 @@ module _ (root : ℕ) (cs : List ℕ) (ps hs : List Float) (es room : List ℕ) 
             pub face-asked : FaceFits es root
             face-asked = face-fits H (ask.table-sound cs ps hs es s) root used (sym rank-is ∙ w)
 
-            pub face-replied : {x : ListReply × List ℕ} → x ≡ listed (wordsInOrder es root) room → x ≡ reply
+            pub face-replied : {x : ListReply × List ℕ} → x ≡ listed (answer (wordsInOrder es (rowBoundary es root))) room → x ≡ reply
             face-replied h = h ∙ ap (λ (a : Asked (List ℕ)). listed a room) (sym (order-is H (ask.table-sound cs ps hs es s) root used (sym rank-is ∙ w))) ∙ goes

@@ -1,18 +1,22 @@
 -- The walk over the memory's words is the rules' walk over the table, step by step: each edge has the same ends in both.
+-- The rules' walk stops at the start, and the words' does not look for it: they are alike where the rules' has as many steps as there are edges.
 use Prim.Native.Nat.{ℕ, zero, suc, _≤_}
-use mathlib.Core.Path.{_≡_, refl, sym, ap, ap₂, _∙_}
+use mathlib.Core.Path.{_≡_, refl, sym, ap, ap₂, _∙_, subst}
 use mathlib.Core.Bool.{Bool, true, false, not, _&&_, _||_}
 use mathlib.Core.List.{List, [], _∷_, map}
+use native.Mathlib.Nat.{le-of-suc-le-suc}
 use native.Mathlib.Omega.{arith}
 use lib.Dec.{eqb, ltb}
-use lib.ListN.{getD}
+use lib.ListN.{length, getD}
 use Rattle.rules.specs.Lists.{if_then_else_, all, keep, joined, member, rises}
 use Rattle.rules.specs.Table.{Table, elementCount, boundary}
 use Rattle.rules.specs.Held.{AllOf}
-use Rattle.rules.specs.Questions.{edgesAt, otherEnd, otherEdge, walk, firstEdge, pairs}
+use Rattle.rules.specs.Walk.{edgesAt, otherEnd, otherEdge, walk, firstEdge}
+use Rattle.rules.specs.Questions.{pairs}
 use Rattle.rules.proofs.Laws.{if-true, if-false, either, and-left, and-right, le-test, not-eq, eqb-self}
 use Rattle.rules.proofs.VertexSet.{keep-rises}
-use Rattle.walk.specs.Walks.{lowEnd, highEnd, hasEnd, endAcross, edgeBeside, noEdge, firstWay, stepsFrom, cornersOf, numbersFrom}
+use Rattle.rules.proofs.WalkRound.{taken}
+use Rattle.walk.specs.Walks.{lowEnd, highEnd, hasEnd, endAcross, edgeBeside, noEdge, firstWay, numbersFrom}
 use Rattle.walk.proofs.EdgeLoops.{found-fits}
 use Rattle.walk.proofs.Faces.{CornerAt, Met, EdgeAt}
 
@@ -32,22 +36,21 @@ keep-both p q (x ∷ xs) = go (p x) (q x) refl ∙ ap (λ (r : List ℕ). if p x
     go true false e = refl
     go false false e = refl
 
-all-kept : (p : ℕ → Bool) (xs : List ℕ) → AllOf (λ x. p x ≡ true) xs → keep p xs ≡ xs
-all-kept p [] h = refl
-all-kept p (x ∷ xs) h = if-true (p x) (x ∷ keep p xs) (keep p xs) (h .0) ∙ ap (λ (r : List ℕ). x ∷ r) (all-kept p xs (h .1))
+-- what is above y is not y
+pub none-again : (y : ℕ) (zs : List ℕ) → all (ltb y) zs ≡ true → keep (λ x. not (eqb x y)) zs ≡ zs
+none-again y [] h = refl
+none-again y (z ∷ zs) h =
+    let l = le-test (suc y) z (and-left (ltb y z) (all (ltb y) zs) h) in
+    let d = not-eq z y (λ e. let b : ⊥ = omega (arith, e, l) in b) in
+    if-true (not (eqb z y)) (z ∷ keep (λ x. not (eqb x y)) zs) (keep (λ x. not (eqb x y)) zs) (ap not d)
+    ∙ ap (λ (r : List ℕ). z ∷ r) (none-again y zs (and-right (ltb y z) (all (ltb y) zs) h))
 
 -- in a rising list the second is the first that is not the first
 second-is : (ys : List ℕ) → rises ys ≡ true → getD ys 1 0 ≡ getD (keep (λ x. not (eqb x (getD ys 0 0))) ys) 0 0
 second-is [] h = refl
 second-is (y ∷ ys) h =
-    ap (λ (l : List ℕ). getD l 0 0) (sym (all-kept (λ x. not (eqb x y)) ys (above ys (and-left (all (ltb y) ys) (rises ys) h)))
+    ap (λ (l : List ℕ). getD l 0 0) (sym (none-again y ys (and-left (all (ltb y) ys) (rises ys) h))
     ∙ sym (if-false (not (eqb y y)) (y ∷ keep (λ x. not (eqb x y)) ys) (keep (λ x. not (eqb x y)) ys) (ap not (eqb-self y))))
-  where
-    above : (zs : List ℕ) → all (ltb y) zs ≡ true → AllOf (λ x. not (eqb x y) ≡ true) zs
-    above [] k = tt
-    above (z ∷ zs) k =
-        let l = le-test (suc y) z (and-left (ltb y z) (all (ltb y) zs) k) in
-        (ap not (not-eq z y (λ e. let b : ⊥ = omega (arith, e, l) in b)), above zs (and-right (ltb y z) (all (ltb y) zs) k))
 
 -- ---- the edges at a corner
 
@@ -116,13 +119,13 @@ module _ (t : Table) (es : List ℕ) where
 
       -- ---- the walk
 
-      pub walk-is : (n start v e : ℕ) → Met t es e → walk n t xs start v e ≡ stepsFrom n es xs start v e
-      unfolding walk stepsFrom
-      walk-is zero start v e M = refl
-      walk-is (suc n) start v e M =
+      -- a step, and then the walk from the corner it leads to unless that is the start
+      step-is : (n start v e : ℕ) → Met t es e → walk (suc n) t xs start v e
+          ≡ (e, endAcross es v e) ∷ (if eqb (endAcross es v e) start then [] else walk n t xs start (endAcross es v e) (edgeBeside es e (endAcross es v e) xs))
+      unfolding walk
+      step-is n start v e M =
           ap (λ (w : ℕ). on w (walk n t xs start w (otherEdge t w e xs))) (across-is v e M)
           ∙ ap (λ (x : ℕ). on (endAcross es v e) (walk n t xs start (endAcross es v e) x)) (beside-is (endAcross es v e) e)
-          ∙ ap (on (endAcross es v e)) (walk-is n start (endAcross es v e) (edgeBeside es e (endAcross es v e) xs) (beside-met (endAcross es v e) e))
         where
           on : ℕ → List (ℕ × ℕ) → List (ℕ × ℕ)
           on w rest = (e, w) ∷ (if eqb w start then [] else rest)
@@ -130,17 +133,24 @@ module _ (t : Table) (es : List ℕ) where
       across-corner : (v e : ℕ) → Met t es e → CornerAt t es (endAcross es v e)
       across-corner v e M = either (CornerAt t es) (eqb (lowEnd es e) v) (highEnd es e) (lowEnd es e) (M .high) (M .low)
 
-      pub walk-corners : (n start v e : ℕ) → Met t es e → AllOf (CornerAt t es) (cornersOf (stepsFrom n es xs start v e))
-      unfolding stepsFrom
-      walk-corners zero start v e M = tt
-      walk-corners (suc n) start v e M =
+      -- the rules' steps, as vertex numbers
+      abbrev numbersOf : ℕ → List (ℕ × ℕ) → List ℕ
+      numbersOf v ss = joined (map (λ (p : ℕ × ℕ). p .0 ∷ p .1 ∷ []) (pairs t v ss))
+
+      -- a walk that still has n steps stops here only where n is 0
+      goes-on : (n w d : ℕ) (ss : List (ℕ × ℕ)) (b : Bool) → n ≤ length (taken (if b then [] else ss)) → (n ≤ length (taken ss) → numbersOf w ss ≡ numbersFrom n es xs w d)
+          → numbersOf w (if b then [] else ss) ≡ numbersFrom n es xs w d
+      unfolding numbersFrom
+      goes-on n w d ss true l later = ap (λ (m : ℕ). numbersFrom m es xs w d) (let k : n ≤ 0 = l in let z : 0 ≡ n = omega (arith, k) in z)
+      goes-on n w d ss false l later = later l
+
+      pub walk-is : (n start v e : ℕ) → Met t es e → CornerAt t es v → n ≤ length (taken (walk n t xs start v e)) → numbersOf v (walk n t xs start v e) ≡ numbersFrom n es xs v e
+      unfolding walk numbersFrom
+      walk-is zero start v e M c l = refl
+      walk-is (suc n) start v e M c l =
           let w = endAcross es v e in
-          let rest = stepsFrom n es xs start w (edgeBeside es e w xs) in
-          (across-corner v e M, either (λ (l : List (ℕ × ℕ)). AllOf (CornerAt t es) (cornersOf l)) (eqb w start) [] rest tt (walk-corners n start w (edgeBeside es e w xs) (beside-met w e)))
-
-  -- ---- as vertex numbers
-
-  pub numbers-are : (v : ℕ) (ss : List (ℕ × ℕ)) → CornerAt t es v → AllOf (CornerAt t es) (cornersOf ss)
-      → joined (map (λ (p : ℕ × ℕ). p .0 ∷ p .1 ∷ []) (pairs t v ss)) ≡ numbersFrom es v (cornersOf ss)
-  numbers-are v [] c h = refl
-  numbers-are v (s ∷ ss) c h = λ i. c .named i ∷ h .0 .named i ∷ numbers-are (s .1) ss (h .0) (h .1) i
+          let d = edgeBeside es e w xs in
+          let a = across-corner v e M in
+          let r = step-is n start v e M in
+          let more = le-of-suc-le-suc (subst (λ (ss : List (ℕ × ℕ)). suc n ≤ length (taken ss)) r l) in
+          ap (numbersOf v) r ∙ (λ i. c .named i ∷ a .named i ∷ goes-on n w d (walk n t xs start w d) (eqb w start) more (walk-is n start w d (beside-met w e) a) i)

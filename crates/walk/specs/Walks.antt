@@ -1,16 +1,12 @@
--- The walk round a face over the words of the lent memory: the rules' own, with the ends of an edge read from its row. Definitions only.
-use Prim.Native.Nat.{ℕ, zero, suc, _+_, _*_, _≤_, _<_}
-use mathlib.Core.Path.{_≡_}
+-- The walk round a face over the words of the lent memory: the rules' own for a face that is one ring, with the ends of an edge read from its row. Definitions only.
+use Prim.Native.Nat.{ℕ, zero, suc, _+_, _*_, _<_}
 use mathlib.Core.Bool.{Bool, not, _&&_, _||_}
-use mathlib.Core.List.{List, [], _∷_, map}
+use mathlib.Core.List.{List, [], _∷_}
 use lib.Dec.{ltb, eqb}
-use lib.ListN.{length, getD, take}
+use lib.ListN.{length, getD}
 use Rattle.rules.specs.Lists.{if_then_else_, keep}
 use Rattle.rules.specs.Held.{AllOf}
-use Rattle.rules.specs.Questions.{Asked, no-answer, answer, eachOnce}
-use Rattle.space.specs.Closed.{Low}
 use Rattle.walk.specs.Boundaries.{rowBoundary, BoundaryFits}
-use Rattle.walk.specs.declared.Steps.{Steps}
 
 -- ---- an edge's two ends
 
@@ -54,45 +50,16 @@ firstWay es v xs = lowerWay es v (edgeBeside es noEdge v xs) (edgeBeside es (edg
 
 -- ---- the walk
 
--- each edge taken, and the corner that it leads to
-unfoldable pub stepsFrom : ℕ → List ℕ → List ℕ → ℕ → ℕ → ℕ → List (ℕ × ℕ)
-stepsFrom zero es xs start v e = []
-stepsFrom (suc n) es xs start v e =
+-- from v by the edge e, n steps: two vertex numbers for each
+unfoldable pub numbersFrom : ℕ → List ℕ → List ℕ → ℕ → ℕ → List ℕ
+numbersFrom zero es xs v e = []
+numbersFrom (suc n) es xs v e =
     let w = endAcross es v e in
-    let rest = stepsFrom n es xs start w (edgeBeside es e w xs) in
-    (e, w) ∷ (if eqb w start then [] else rest)
+    getD es (v * 36 + 4) 0 ∷ getD es (w * 36 + 4) 0 ∷ numbersFrom n es xs w (edgeBeside es e w xs)
 
-abbrev pub edgesOf : List (ℕ × ℕ) → List ℕ
-edgesOf ss = map (λ (s : ℕ × ℕ). s .0) ss
-
-abbrev pub cornersOf : List (ℕ × ℕ) → List ℕ
-cornersOf ss = map (λ (s : ℕ × ℕ). s .1) ss
-
--- the code holds these steps
-pub record Walked (ss : List (ℕ × ℕ)) (r : Steps) : Type 0 where
-  pub roomOfEdges : length (r .edges) ≡ 32
-  pub roomOfCorners : length (r .corners) ≡ 32
-  pub fit : r .n ≤ 32
-  pub edges : take (r .n) (r .edges) ≡ edgesOf ss
-  pub corners : take (r .n) (r .corners) ≡ cornersOf ss
-  pub low : Low (r .corners) (r .n)
-
--- ---- the reply
-
--- the walk from the corner v to those that follow, as two vertex numbers for each edge
-abbrev pub numbersFrom : List ℕ → ℕ → List ℕ → List ℕ
-numbersFrom es v [] = []
-numbersFrom es v (w ∷ ws) = getD es (v * 36 + 4) 0 ∷ getD es (w * 36 + 4) 0 ∷ numbersFrom es w ws
-
--- 7 unless the walk takes every edge once
-abbrev pub inOrder : List ℕ → List ℕ → ℕ → List (ℕ × ℕ) → Asked (List ℕ)
-inOrder es xs start ss = if eachOnce xs ss then answer (numbersFrom es start (cornersOf ss)) else no-answer 7
-
-unfoldable pub stepsOf : List ℕ → List ℕ → List (ℕ × ℕ)
-stepsOf es xs = stepsFrom (length xs) es xs (lowestEnd es noEdge xs) (lowestEnd es noEdge xs) (firstWay es (lowestEnd es noEdge xs) xs)
-
-unfoldable pub wordsInOrder : List ℕ → ℕ → Asked (List ℕ)
-wordsInOrder es f = inOrder es (rowBoundary es f) (lowestEnd es noEdge (rowBoundary es f)) (stepsOf es (rowBoundary es f))
+-- as many steps as there are edges: they lead round a ring, and no further
+unfoldable pub wordsInOrder : List ℕ → List ℕ → List ℕ
+wordsInOrder es xs = numbersFrom (length xs) es xs (lowestEnd es noEdge xs) (firstWay es (lowestEnd es noEdge xs) xs)
 
 -- ---- what the walk needs
 

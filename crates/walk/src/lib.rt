@@ -8,28 +8,20 @@ use space::rows;
 use space::words::wide;
 ghost use Prim.Native.Nat.{_+_, _*_, _<_, _≤_};
 ghost use mathlib.Core.Path.{_≡_};
-ghost use mathlib.Core.Bool.{cond, not, _&&_};
+ghost use mathlib.Core.Bool.{not, _&&_};
 ghost use lib.Dec.{eqb};
-ghost use lib.ListN.{length, getD, take};
+ghost use lib.ListN.{length, getD};
 ghost use lib.Seq.{sets};
 ghost use Rattle.rules.specs.Limits.{desk};
-ghost use Rattle.rules.specs.Lists.{all, occurrences};
 ghost use Rattle.rules.specs.Held.{memoryOf};
+ghost use Rattle.rules.specs.Questions.{answer};
 ghost use Rattle.rules.specs.Replies.{listed, edgesInOrderReply};
-ghost use Rattle.space.specs.Closed.{Low};
 ghost use Rattle.walk.specs.Boundaries.{rowBoundary, BoundaryFits};
 ghost use Rattle.walk.specs.Walks as words;
-ghost use Rattle.walk.specs.Walks.{hasEnd, endAcross, edgeBeside, lowestEnd, noEdge, firstWay, stepsFrom, Walked, numbersFrom, wordsInOrder, EdgeFits, FaceFits};
+ghost use Rattle.walk.specs.Walks.{hasEnd, endAcross, edgeBeside, lowestEnd, noEdge, firstWay, numbersFrom, wordsInOrder, EdgeFits, FaceFits};
 
 // No element has this number.
 const NO_EDGE: u16 = 65535;
-
-// The edges taken and the vertex element that each leads to, in the front of their rooms.
-pub struct Steps {
-    pub edges: [u16; 32],
-    pub corners: [u16; 32],
-    pub n: usize,
-}
 
 // A number of an edge's row; of a vertex element's, its vertex number.
 fn number_at(elements: &[u16], e: u16, i: usize) -> u16
@@ -124,100 +116,39 @@ fn first_way(elements: &[u16], f: ElementId, v: u16) -> u16
     a
 }
 
-// At most as many steps as the face has edges, and none past the start.
-fn walk_round(elements: &[u16], f: ElementId, start: u16, first: u16) -> Steps
-    requires { ⌜ FaceFits (now elements) (f .0) × EdgeFits (now elements) first ⌝ }
-    ensures { λ r. ⌜ Walked (stepsFrom (length (rowBoundary (now (elements .entry)) (f .0))) (now (elements .entry)) (rowBoundary (now (elements .entry)) (f .0)) start start first) r ⌝ }
+// Two vertex numbers for each edge. A face of a sound table is one ring, so as many steps as it has edges lead round to the start: no 7.
+fn walk_round(elements: &[u16], f: ElementId, start: u16, first: u16, list: &mut [u16])
+    requires { ⌜ FaceFits (now elements) (f .0) × EdgeFits (now elements) first × (start < 512) × (2 * length (rowBoundary (now elements) (f .0)) ≤ length (now list)) ⌝ }
+    ensures { λ r. ⌜ now (list .exit) ≡ sets (now (list .entry)) 0 (numbersFrom (length (rowBoundary (now (elements .entry)) (f .0))) (now (elements .entry)) (rowBoundary (now (elements .entry)) (f .0)) start first) ⌝ }
 {
-    let mut edges = [0u16; 32];
-    let mut corners = [0u16; 32];
     let n = rows::size_of(elements, f);
     let mut v = start;
     let mut e = first;
     for k in 0..n {
-        v = end_across(elements, v, e);
-        edges[k] = e;
-        corners[k] = v;
-        if v == start {
-            return Steps {
-                edges,
-                corners,
-                n: k + 1,
-            };
-        }
-        e = edge_beside(elements, f, e, v);
-    }
-    Steps { edges, corners, n }
-}
-
-fn one_if_same(a: u16, b: u16) -> usize
-    ensures { λ r. ⌜ (r ≡ cond (eqb a b) 1 0) × (r ≤ 1) ⌝ }
-{
-    if a == b { 1 } else { 0 }
-}
-
-fn times_taken(edges: &[u16; 32], n: usize, e: u16) -> usize
-    requires { ⌜ (length (now edges) ≡ 32) × (n ≤ 32) ⌝ }
-    ensures { λ r. ⌜ r ≡ occurrences e (take n (now (edges .entry))) ⌝ }
-{
-    let mut met = 0usize;
-    for k in 0..n {
-        met = met + one_if_same(e, edges[k]);
-    }
-    met
-}
-
-// Whether the walk takes every edge of the face once.
-fn each_once(elements: &[u16], f: ElementId, edges: &[u16; 32], n: usize) -> bool
-    requires { ⌜ BoundaryFits (now elements) (f .0) × (length (now edges) ≡ 32) × (n ≤ 32) ⌝ }
-    ensures { λ r. ⌜ r ≡ all (λ e. eqb (occurrences e (take n (now (edges .entry)))) 1) (rowBoundary (now (elements .entry)) (f .0)) ⌝ }
-{
-    let size = rows::size_of(elements, f);
-    for i in 0..size {
-        let x = rows::boundary_at(elements, f, i);
-        if times_taken(edges, n, x) != 1 {
-            return false;
-        }
-    }
-    true
-}
-
-// Two vertex numbers for each step.
-fn put_pairs(elements: &[u16], list: &mut [u16], start: u16, corners: &[u16; 32], n: usize)
-    requires { ⌜ (length (now elements) ≡ 18432) × (start < 512) × (length (now corners) ≡ 32) × (n ≤ 32) × Low (now corners) n × (2 * n ≤ length (now list)) ⌝ }
-    ensures { λ r. ⌜ now (list .exit) ≡ sets (now (list .entry)) 0 (numbersFrom (now (elements .entry)) start (take n (now (corners .entry)))) ⌝ }
-{
-    let mut v = start;
-    for k in 0..n {
-        let w = corners[k];
+        let w = end_across(elements, v, e);
         list[2 * k] = number_at(elements, v, 0);
         list[2 * k + 1] = number_at(elements, w, 0);
+        e = edge_beside(elements, f, e, w);
         v = w;
     }
 }
 
-// 7, then 12, and only then is the list written.
+// 12, and only then is the list written.
 fn face_in_order(elements: &[u16], f: ElementId, list: &mut [u16]) -> ListReply
     requires { ⌜ FaceFits (now elements) (f .0) ⌝ }
-    ensures { λ r. ⌜ (r, now (list .exit)) ≡ listed (wordsInOrder (now (elements .entry)) (f .0)) (now (list .entry)) ⌝ }
+    ensures { λ r. ⌜ (r, now (list .exit)) ≡ listed (answer (wordsInOrder (now (elements .entry)) (rowBoundary (now (elements .entry)) (f .0)))) (now (list .entry)) ⌝ }
 {
-    let start = lowest_end(elements, f);
-    let first = first_way(elements, f, start);
-    let steps = walk_round(elements, f, start, first);
-    let edges = steps.edges;
-    let corners = steps.corners;
-    let n = steps.n;
-    if !each_once(elements, f, &edges, n) {
-        return ListReply::Refused(7);
-    }
+    let n = rows::size_of(elements, f);
     if list.len() < 2 * n {
         return ListReply::Refused(12);
     }
-    put_pairs(elements, list, start, &corners, n);
+    let start = lowest_end(elements, f);
+    let first = first_way(elements, f, start);
+    walk_round(elements, f, start, first, list);
     ListReply::Listed(2 * n)
 }
 
-// 3, 4, 6, 7, and 12 last.
+// 3, 4, 6, and 12 last.
 pub fn edges_in_order(
     counts: &[u16],
     points: &[f64],

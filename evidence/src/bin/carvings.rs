@@ -48,7 +48,7 @@ fn compare(n: u64, seed: u64, met: &mut Met) -> Result<(), String> {
     let (mut lent, mut left) = (Lent::new(Memory::clear()), 0);
     while met.slices < n {
         if left == 0 {
-            let kind = r.pick(&[Kind::Session, Kind::Strange, Kind::TakenApart]);
+            let kind = r.pick(&[Kind::Session, Kind::Strange, Kind::TakenApart, Kind::TwoRings]);
             lent = Lent::new(memories::memory(&mut r, kind));
             left = memories::steps(&mut r, kind);
         }

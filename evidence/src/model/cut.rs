@@ -33,11 +33,22 @@ pub fn cut(lent: &mut Lent, divider: Hyperplane, kept: Kept, root: u16) -> Resul
     if divider.distance.is_infinite() {
         return Ok(given_on(divider.distance > 0.0, root));
     }
-    let mut cut = Cut { table: table.clone(), divider, hyperplane: 0, kept };
-    cut.hyperplane = cut.matched_or_appended_hyperplane()?;
-    let answer = cut.element(root)?;
+    let mut cut = Cut::new(table, divider, kept);
+    let answer = cut.root(root)?;
     *lent = Lent::new(write(&cut.table));
     Ok(answer)
+}
+
+/// The edges, by their ends, of the face for which such a cut is refused with 7, where it is refused for a face.
+pub fn refused_face(table: &Table, divider: Hyperplane, kept: Kept, root: u16) -> Option<Vec<[u16; 2]>> {
+    let mut cut = Cut::new(table, divider, kept);
+    cut.root(root).err()?;
+    cut.refused_face
+}
+
+/// Whether such a cut was taken before order 4.
+pub fn was_taken(table: &Table, divider: Hyperplane, kept: Kept, root: u16) -> bool {
+    Cut { is_face: Table::meets_each_corner_twice, ..Cut::new(table, divider, kept) }.root(root).is_ok()
 }
 
 fn given_on(inside: bool, element: u16) -> Answer {
@@ -50,6 +61,9 @@ struct Cut {
     /// The divider's number.
     hyperplane: u16,
     kept: Kept,
+    /// Test 7 of a face.
+    is_face: fn(&Table, &[u16]) -> bool,
+    refused_face: Option<Vec<[u16; 2]>>,
 }
 
 /// What a boundary's elements answer.
@@ -75,6 +89,15 @@ impl Gathered {
 }
 
 impl Cut {
+    fn new(table: &Table, divider: Hyperplane, kept: Kept) -> Self {
+        Self { table: table.clone(), divider, hyperplane: 0, kept, is_face: Table::is_one_ring, refused_face: None }
+    }
+
+    fn root(&mut self, root: u16) -> Result<Answer, Refusal> {
+        self.hyperplane = self.matched_or_appended_hyperplane()?;
+        self.element(root)
+    }
+
     /// Rule 2.
     fn matched_or_appended_hyperplane(&mut self) -> Result<u16, Refusal> {
         let first = self.table.primordial_hyperplanes();
@@ -204,7 +227,11 @@ impl Cut {
         if new.boundary.len() > BOUNDARY_ROOM {
             return Err(11);
         }
-        if new.rank == 1 && new.boundary.len() != 2 || new.rank == 2 && !self.table.is_closed(&new.boundary) {
+        if new.rank == 1 && new.boundary.len() != 2 {
+            return Err(7);
+        }
+        if new.rank == 2 && !(self.is_face)(&self.table, &new.boundary) {
+            self.refused_face = Some(self.table.ends(&new.boundary));
             return Err(7);
         }
         let new = Element::Polytope(new);

@@ -79,10 +79,9 @@ pub struct Lent {
 }
 
 impl Lent {
-    /// A memory is sound when it is what is written of a sound table: so unused room is zero bits. Else refusal 3.
+    /// A memory that does not hold a sound table is refused with 3.
     pub fn new(memory: Memory) -> Self {
-        let is_held = |table: &Table| sound::is_sound(table) && write(table).is_same(&memory);
-        let table = read(&memory).filter(is_held).ok_or(3);
+        let table = held(&memory, sound::is_sound).ok_or(3);
         Self { memory, table }
     }
 
@@ -93,6 +92,17 @@ impl Lent {
     pub fn table(&self) -> Result<&Table, Refusal> {
         self.table.as_ref().map_err(|&refusal| refusal)
     }
+
+    /// The edges, by their ends, of the first face that is not one ring, where the memory is sound but for that.
+    pub fn face_of_no_ring(&self) -> Option<Vec<[u16; 2]>> {
+        let table = held(&self.memory, sound::is_sound_but_for_rings)?;
+        sound::face_of_no_ring(&table).map(|face| table.ends(face.boundary()))
+    }
+}
+
+/// What a memory holds is written just so: unused room is zero bits.
+fn held(memory: &Memory, is_sound: fn(&Table) -> bool) -> Option<Table> {
+    read(memory).filter(|table| is_sound(table) && write(table).is_same(memory))
 }
 
 /// The entries in use, if the lengths and the counts are such that they are there.

@@ -1,7 +1,7 @@
 //! "Questions": each gives its list, and fills the front of the room that was lent for it.
 
 use super::memory::Lent;
-use super::table::{Element, Table};
+use super::table::{other_end, Element, Table};
 use super::Refusal;
 
 /// The size of a list that fits, once it is at the front of its room.
@@ -41,8 +41,8 @@ pub fn edges_in_order(lent: &Lent, root: u16, room: &mut [u16]) -> Result<Size, 
     if table.rank(root) != 2 {
         return Err(6);
     }
-    let edges = table.boundary(root).iter().map(|&edge| ends_of(table, edge)).collect();
-    fill(room, &walk(edges)?)
+    let edges = table.ends(table.boundary(root)).into_iter().map(|ends| ends.map(|end| vertex_of(table, end)));
+    fill(room, &walk(edges.collect())?)
 }
 
 pub fn has_primordial_facet(lent: &Lent, root: u16) -> Result<bool, Refusal> {
@@ -89,17 +89,17 @@ fn common_to_all(table: &Table, roots: &[u16]) -> Vec<u16> {
     sets[0].iter().copied().filter(|e| sets.iter().all(|set| set.binary_search(e).is_ok())).collect()
 }
 
-fn ends_of(table: &Table, edge: u16) -> [u16; 2] {
-    let end = |place: usize| table.vertex_number(table.boundary(edge)[place]).expect("an edge ends in vertices");
-    [end(0), end(1)]
+fn vertex_of(table: &Table, end: u16) -> u16 {
+    table.vertex_number(end).expect("an edge ends in vertices")
 }
 
-/// From the lowest vertex, first to the lower of its two neighbours, round to the start: 7 unless it takes every edge once.
+/// From the lowest vertex, first to the lower of its two neighbours, round to the start: 7 unless it takes every edge once,
+/// which is not met on a sound table.
 fn walk(mut edges: Vec<[u16; 2]>) -> Result<Vec<u16>, Refusal> {
     let mut at = edges.iter().flatten().copied().min().ok_or(7u8)?;
     let mut numbers = vec![];
     while let Some(place) = edge_to_the_lowest_neighbour(&edges, at) {
-        let next = neighbour(edges.remove(place), at);
+        let next = other_end(edges.remove(place), at);
         numbers.extend([at, next]);
         at = next;
     }
@@ -113,16 +113,7 @@ fn walk(mut edges: Vec<[u16; 2]>) -> Result<Vec<u16>, Refusal> {
 /// Of the edges that are left; only at the start there are two.
 fn edge_to_the_lowest_neighbour(edges: &[[u16; 2]], at: u16) -> Option<usize> {
     let places = (0..edges.len()).filter(|&place| edges[place].contains(&at));
-    places.min_by_key(|&place| neighbour(edges[place], at))
-}
-
-/// The other end of an edge, seen from one of its ends.
-fn neighbour(edge: [u16; 2], from: u16) -> u16 {
-    if edge[0] == from {
-        edge[1]
-    } else {
-        edge[0]
-    }
+    places.min_by_key(|&place| other_end(edges[place], at))
 }
 
 fn is_primordial(table: &Table, number: u16) -> bool {

@@ -5,6 +5,11 @@ use super::table::{Element, Polytope, Table};
 use std::collections::HashSet;
 
 pub fn is_sound(table: &Table) -> bool {
+    is_sound_but_for_rings(table) && face_of_no_ring(table).is_none()
+}
+
+/// All but that the edges of a face make one ring.
+pub fn is_sound_but_for_rings(table: &Table) -> bool {
     (1..=4).contains(&table.dimension)
         && floats_lie_in_range(table)
         && table.hyperplanes.len() >= table.primordial_hyperplanes()
@@ -39,7 +44,6 @@ fn has_sound_boundary(table: &Table, number: usize, p: &Polytope) -> bool {
         && p.boundary.iter().all(|&below| usize::from(below) < number && table.rank(below) + 1 == p.rank)
         && p.boundary.len() > usize::from(p.rank)
         && (p.rank != 1 || p.boundary.len() == 2)
-        && (p.rank != 2 || table.is_closed(&p.boundary))
 }
 
 fn has_sound_facts(table: &Table, p: &Polytope) -> bool {
@@ -53,4 +57,9 @@ fn has_sound_facts(table: &Table, p: &Polytope) -> bool {
 fn no_two_are_equal(table: &Table) -> bool {
     let mut met = HashSet::new();
     table.elements.iter().all(|element| met.insert(element))
+}
+
+/// The first face whose edges do not make one ring.
+pub fn face_of_no_ring(table: &Table) -> Option<&Element> {
+    table.elements.iter().find(|element| element.rank() == 2 && !table.is_one_ring(element.boundary()))
 }

@@ -81,9 +81,35 @@ impl Table {
         }
     }
 
-    /// Each vertex met lies on exactly two of the edges.
-    pub fn is_closed(&self, edges: &[u16]) -> bool {
-        let ends: Vec<u16> = edges.iter().flat_map(|&edge| self.boundary(edge).iter().copied()).collect();
+    /// The edges make one ring (document 02, order 4): from the end of one of them just one other goes on, and so from
+    /// corner to corner; back where it began, none is left.
+    pub fn is_one_ring(&self, edges: &[u16]) -> bool {
+        let mut left = self.ends(edges);
+        let Some([start, mut at]) = left.pop() else { return false };
+        while at != start {
+            let mut going_on = (0..left.len()).filter(|&place| left[place].contains(&at));
+            let (Some(place), None) = (going_on.next(), going_on.next()) else { return false };
+            at = other_end(left.remove(place), at);
+        }
+        left.is_empty()
+    }
+
+    /// What a face was before order 4: each corner lies on exactly two of the edges.
+    pub fn meets_each_corner_twice(&self, edges: &[u16]) -> bool {
+        let ends = self.ends(edges).concat();
         ends.iter().all(|end| ends.iter().filter(|other| *other == end).count() == 2)
+    }
+
+    /// The two corners of each edge.
+    pub fn ends(&self, edges: &[u16]) -> Vec<[u16; 2]> {
+        edges.iter().map(|&edge| self.boundary(edge)).map(|ends| [ends[0], ends[1]]).collect()
+    }
+}
+
+pub fn other_end(ends: [u16; 2], from: u16) -> u16 {
+    if ends[0] == from {
+        ends[1]
+    } else {
+        ends[0]
     }
 }

@@ -1,62 +1,80 @@
--- What is taken so far, and what is left to take, make up the walk.
-use Prim.Native.Nat.{_-_, _+_, _*_, _≤_}
-use mathlib.Core.Path.{_≡_}
+-- What is left to write, put behind what is written, makes up the whole walk.
+use Prim.Native.Nat.{_-_, _+_, _*_, _≤_, _<_}
+use mathlib.Core.Path.{_≡_, refl}
 use native.Mathlib.Nat.{le-trans, le-of-eq}
+use native.Mathlib.Omega.{arith}
 use borrow.Author.Needs.{needs}
-use lib.ListN.{length, getD}
+use lib.ListN.{length, getD, length-set}
+use lib.Seq.{sets}
 use Rattle.walk.specs.Boundaries.{rowBoundary}
-use Rattle.walk.specs.Walks.{stepsFrom}
+use Rattle.walk.specs.Walks.{numbersFrom, EdgeFits}
 use Rattle.walk.proofs.Boundaries.{row-size}
-use Rattle.walk.proofs.EdgeLoops.{beside-fits}
-use Rattle.walk.proofs.Rounds.{Going, going-start, going-end, going-stop, going-on}
+use Rattle.walk.proofs.EdgeLoops.{beside-fits, across-fits}
+use Rattle.walk.proofs.Pairs.{pairs-start, pairs-go, pairs-end}
 use Rattle.walk.proofs.walk_round.Statement.{statement}
 use Rattle.walk.proofs.walk_round.Tie as tie
 
 abbrev Inv-loop : tie.InvT-loop
-Inv-loop elements f start first edges₀ corners₀ n v₀ e₀ k₀ edges corners v e k =
-    (k ≤ n) × (n ≡ getD elements (f .0 * 36 + 3) 0) × (n ≤ 32)
-    × Going elements (rowBoundary elements (f .0)) start n (stepsFrom (length (rowBoundary elements (f .0))) elements (rowBoundary elements (f .0)) start start first) k edges corners v e
+Inv-loop elements f start first list₀ n v₀ e₀ k₀ list v e k =
+    (k ≤ n) × (n ≡ getD elements (f .0 * 36 + 3) 0) × (n ≤ 32) × (2 * n ≤ length list₀) × (length list ≡ length list₀) × (v < 512) × EdgeFits elements e
+    × (sets list₀ 0 (numbersFrom (length (rowBoundary elements (f .0))) elements (rowBoundary elements (f .0)) start first)
+    ≡ sets list (2 * k) (numbersFrom (n - k) elements (rowBoundary elements (f .0)) v e))
 
 abbrev μ-loop : tie.MeasureT-loop
-μ-loop elements f start first edges₀ corners₀ n v₀ e₀ k₀ edges corners v e k = n - k
+μ-loop elements f start first list₀ n v₀ e₀ k₀ list v e k = n - k
 
 size-of-requires : tie.Need-size-of-requires Inv-loop μ-loop
 size-of-requires c κs = search needs
 
 loop-holds : tie.Need-loop-holds Inv-loop μ-loop
 loop-holds c =
-    let a = c .before .before .args in
-    let p = c .before .before .pre in
-    let q = c .size-of .ensures in (
+    let a = c .before .before .before .args in
+    let p = c .before .before .before .pre in
+    let q = c .size-of .ensures in
+    let long = row-size (a .elements .now) (a .f .0) _ (p .0 .bounds) q in (
       search needs,
       q,
       le-trans (le-of-eq q) (p .0 .bounds .sized),
-      going-start (a .elements .now) (rowBoundary (a .elements .now) (a .f .0)) (a .start) _ _ (a .start) (a .first) (row-size (a .elements .now) (a .f .0) _ (p .0 .bounds) q)
-          (p .1),
+      (let l = p .3 in omega (arith, l, long)),
+      refl,
+      p .2,
+      p .1,
+      pairs-start (a .elements .now) (rowBoundary (a .elements .now) (a .f .0)) _ _ (a .start) (a .first) long,
     )
 
 end-across-requires : tie.Need-end-across-requires Inv-loop μ-loop
-end-across-requires c κs = let p = c .before .before .before .before .pre in (p .0 .bounds .long, c .before .loop .inv .3 .fits .used)
+end-across-requires c κs = (c .before .before .before .before .before .pre .0 .bounds .long, c .before .loop .inv .6 .used)
 
-mul-edges : tie.Need-mul-edges Inv-loop μ-loop
-mul-edges c = search needs
+number-at-requires : tie.Need-number-at-requires Inv-loop μ-loop
+number-at-requires c κs = search needs
 
-array-write-edges : tie.Need-array-write-edges Inv-loop μ-loop
-array-write-edges c = search needs
+mul-list : tie.Need-mul-list Inv-loop μ-loop
+mul-list c = search needs
 
-mul-corners : tie.Need-mul-corners Inv-loop μ-loop
-mul-corners c = search needs
+mul-list-2 : tie.Need-mul-list-2 Inv-loop μ-loop
+mul-list-2 c = search needs
 
-array-write-corners : tie.Need-array-write-corners Inv-loop μ-loop
-array-write-corners c = search needs
+slice-write-list : tie.Need-slice-write-list Inv-loop μ-loop
+slice-write-list c = search needs
 
-add-t19 : tie.Need-add-t19 Inv-loop μ-loop
-add-t19 c = search needs
+number-at-requires-2 : tie.Need-number-at-requires-2 Inv-loop μ-loop
+number-at-requires-2 c κs = (search needs, across-fits _ _ _ _ (c .before .before .before .loop .inv .6) (c .before .end-across .ensures), search needs)
 
-returns : tie.Need-returns Inv-loop μ-loop
-returns c =
-    let at = c .before .before .before .loop in
-    going-stop _ _ _ _ _ (at .k) (at .edges) (at .corners) (at .v) (at .e) (at .inv .3) (search needs) (at .inv .2) _ (c .before .end-across .ensures) (c .if1 .taken)
+mul-list-3 : tie.Need-mul-list-3 Inv-loop μ-loop
+mul-list-3 c = search needs
+
+add-list : tie.Need-add-list Inv-loop μ-loop
+add-list c = search needs
+
+mul-list-4 : tie.Need-mul-list-4 Inv-loop μ-loop
+mul-list-4 c = search needs
+
+slice-write-list-2 : tie.Need-slice-write-list-2 Inv-loop μ-loop
+slice-write-list-2 c =
+    let at = c .before .before .before .before .loop in
+    let l = at .inv .3 in
+    let e = at .inv .4 in
+    simp length-set (omega (arith, l, e))
 
 edge-beside-requires : tie.Need-edge-beside-requires Inv-loop μ-loop
 edge-beside-requires c κs = search needs
@@ -69,17 +87,30 @@ loop-less c = search needs
 
 loop-again : tie.Need-loop-again Inv-loop μ-loop
 loop-again c =
-    let at = c .before .before .before .before .loop in (
+    let there = c .before .before .before .before .before in
+    let a = there .before .before .before .before .args in
+    let p = there .before .before .before .before .pre in
+    let at = there .loop in
+    let across = c .before .before .before .end-across .ensures in (
       search needs,
       at .inv .1,
       at .inv .2,
-      going-on _ _ _ _ _ (at .k) (at .edges) (at .corners) (at .v) (at .e) (at .inv .3) (search needs) (at .inv .2) _ (c .before .before .end-across .ensures) _
-          (c .edge-beside .ensures)
-          (beside-fits _ _ _ _ _ (c .before .before .before .before .before .before .before .pre .0) (c .edge-beside .ensures)) (c .before .if1 .left),
+      at .inv .3,
+      simp length-set (at .inv .4),
+      across-fits _ _ _ _ (at .inv .6) across,
+      beside-fits _ _ _ _ _ (p .0) (c .edge-beside .ensures),
+      pairs-go (a .elements .now) (rowBoundary (a .elements .now) (a .f .0)) _ _ (at .list) (at .v) (at .e) (at .k) _ _ _ _ (search needs) across (c .edge-beside .ensures)
+          (c .before .before .number-at .ensures) (c .before .number-at2 .ensures) (at .inv .7),
     )
 
-returns-2 : tie.Need-returns-2 Inv-loop μ-loop
-returns-2 c = let at = c .before .loop in going-end _ _ _ _ _ (at .k) (at .edges) (at .corners) (at .v) (at .e) (at .inv .3) (at .inv .2) (search needs)
+same-length : tie.Need-same-length Inv-loop μ-loop
+same-length c = search needs
+
+returns : tie.Need-returns Inv-loop μ-loop
+returns c =
+    let a = c .before .before .before .before .before .args in
+    let at = c .before .loop in
+    pairs-end (a .elements .now) (rowBoundary (a .elements .now) (a .f .0)) _ _ (at .list) (at .v) (at .e) (at .k) (search needs) (at .inv .7)
 
 pub walk-round-spec : {M : Type 1} → statement M
 walk-round-spec =
@@ -90,14 +121,18 @@ walk-round-spec =
     size-of-requires
     loop-holds
     end-across-requires
-    mul-edges
-    array-write-edges
-    mul-corners
-    array-write-corners
-    add-t19
-    returns
+    number-at-requires
+    mul-list
+    mul-list-2
+    slice-write-list
+    number-at-requires-2
+    mul-list-3
+    add-list
+    mul-list-4
+    slice-write-list-2
     edge-beside-requires
     add-k
     loop-less
     loop-again
-    returns-2)
+    same-length
+    returns)

@@ -1,35 +1,32 @@
 -- The answer is read off the tests that were taken: of the count, and of the numbers and the whole as the rank asks.
-use Prim.Native.Nat.{_+_}
+use Prim.Native.Nat.{ℕ, _+_, _≤_, _<_}
 use mathlib.Core.Bool.{false, false≢true}
-use mathlib.Core.Path.{refl}
+use mathlib.Core.Path.{_≡_, refl}
 use native.Mathlib.Omega.{arith}
-use Rattle.soundness.specs.Words.{stampOf}
-use Rattle.soundness.proofs.BoundaryLoops.{boundary-by, boundary-face, boundary-body}
-use Rattle.soundness.proofs.FaceLoops.{unmet-above}
-use borrow.Author.Tests.{le-ltb, lt-ltb}
 use borrow.Author.Needs.{needs}
+use borrow.Author.Tests.{le-ltb, lt-ltb}
+use Rattle.space.specs.Closed.{few}
+use Rattle.soundness.proofs.BoundaryLoops.{boundary-by, boundary-few, boundary-face, boundary-body}
+use Rattle.soundness.proofs.FaceLoops.{unmet-next}
 use Rattle.soundness.proofs.boundaries.boundary_sound.Statement.{statement}
 use Rattle.soundness.proofs.boundaries.boundary_sound.Tie as tie
 
+-- a face: where the function began, and where its rank was found to be 2
+abbrev start : tie.Else2 → tie.Start
+start c = c .before .before .before
+
+abbrev counted : tie.After-few-fits → tie.Else2
+counted c = c .before .before .before .before
+
+abbrev joined : tie.After-face-fits → tie.Else2
+joined c = c .before .before .before .before
+
 returns : tie.Need-returns
 returns c =
-    let a = c .before .before .args in
-    let p = c .before .before .pre in
-    (boundary-by (a .elements .now) (a .at) (a .n) (a .e) (a .rank) (p .0) (p .1) false _ _ (le-ltb _ _ (c .if1 .taken)) refl refl, λ t. absurd (false≢true t))
-
-add-face-fits : tie.Need-add-face-fits
-add-face-fits c = search needs
-
-face-fits-requires : tie.Need-face-fits-requires
-face-fits-requires c κs =
-    let p = c .before .before .before .before .pre in
-    (omega arith, omega (arith, p .2), omega (arith, p .0, p .1), p .0, p .3, p .5, p .6)
-
-returns-2 : tie.Need-returns-2
-returns-2 c =
-    let a = c .before .before .before .before .before .args in
-    let p = c .before .before .before .before .before .pre in
-    (boundary-face (a .elements .now) (a .at) (a .n) (a .e) (a .rank) (p .0) (p .1) (c .before .before .if2 .taken) (lt-ltb _ _ (c .before .before .before .if1 .left)) (c .face-fits .ensures .0), c .face-fits .ensures .1)
+    let s = c .before .before in
+    let a = s .args in
+    let p = s .pre in
+    (boundary-by (a .elements .now) (a .at) (a .n) (a .d) (a .e) (a .rank) (p .0) (p .1) false _ _ (le-ltb _ _ (c .if1 .taken)) refl refl, λ t. absurd (false≢true t))
 
 add-numbers-fit : tie.Need-add-numbers-fit
 add-numbers-fit c = search needs
@@ -39,12 +36,54 @@ numbers-fit-requires c κs =
     let p = c .before .before .before .pre in
     (omega arith, omega (arith, p .0, p .1), p .0, omega (arith, p .3))
 
+returns-2 : tie.Need-returns-2
+returns-2 c =
+    let s = c .before .before .before .before in
+    let a = s .args in
+    let p = s .pre in (
+      boundary-body (a .elements .now) (a .at) (a .n) (a .d) (a .e) (a .rank) (p .0) (p .1) (p .4) (c .before .if2 .taken) (lt-ltb _ _ (c .before .before .if1 .left)) (c .numbers-fit .ensures),
+      λ t. unmet-next (a .e) (a .met .now) (p .6),
+    )
+
+few-edges-requires : tie.Need-few-edges-requires
+few-edges-requires c κs = search needs
+
+add-few-fits : tie.Need-add-few-fits
+add-few-fits c = search needs
+
+few-fits-requires : tie.Need-few-fits-requires
+few-fits-requires c κs =
+    let p = start (c .before .before .before) .pre in
+    (omega arith, omega (arith, p .2), omega (arith, p .0, p .1), p .0, p .3, p .5, p .6)
+
 returns-3 : tie.Need-returns-3
 returns-3 c =
-    let a = c .before .before .before .before .args in
-    let p = c .before .before .before .before .pre in (
-      boundary-body (a .elements .now) (a .at) (a .n) (a .e) (a .rank) (p .0) (p .1) (p .4) (c .before .if2 .left) (lt-ltb _ _ (c .before .before .if1 .left)) (c .numbers-fit .ensures),
-      λ t. unmet-above (stampOf (a .e)) (stampOf (a .e) + 2) (a .met .now) (omega arith) (p .6),
+    let f = counted c in
+    let a = start f .args in
+    let p = start f .pre in
+    let h = c .before .before .if3 .taken in
+    let q = c .before .before .before .few-edges .ensures in (
+      boundary-few (a .elements .now) (a .at) (a .n) (a .d) (a .e) (a .rank) (p .0) (p .1) (f .if2 .left) (lt-ltb _ _ (f .before .if1 .left)) (let z : a .n ≤ few (a .d) = omega (arith, h, q) in z) (c .few-fits .ensures .0),
+      c .few-fits .ensures .1,
+    )
+
+add-face-fits : tie.Need-add-face-fits
+add-face-fits c = search needs
+
+face-fits-requires : tie.Need-face-fits-requires
+face-fits-requires c κs =
+    let p = start (c .before .before .before) .pre in
+    (omega arith, omega (arith, p .2), omega (arith, p .0, p .1), p .0, p .3, p .5, p .6)
+
+returns-4 : tie.Need-returns-4
+returns-4 c =
+    let f = joined c in
+    let a = start f .args in
+    let p = start f .pre in
+    let h = c .before .before .if3 .left in
+    let q = c .before .before .before .few-edges .ensures in (
+      boundary-face (a .elements .now) (a .at) (a .n) (a .d) (a .e) (a .rank) (p .0) (p .1) (f .if2 .left) (lt-ltb _ _ (f .before .if1 .left)) (let z : few (a .d) < a .n = omega (arith, h, q) in z) (c .face-fits .ensures .0),
+      c .face-fits .ensures .1,
     )
 
 pub boundary-sound-spec : {M : Type 1} → statement M
@@ -52,9 +91,13 @@ boundary-sound-spec =
     tie.close
     (tie.spec
     returns
-    add-face-fits
-    face-fits-requires
-    returns-2
     add-numbers-fit
     numbers-fit-requires
-    returns-3)
+    returns-2
+    few-edges-requires
+    add-few-fits
+    few-fits-requires
+    returns-3
+    add-face-fits
+    face-fits-requires
+    returns-4)

@@ -1,30 +1,32 @@
-use Rattle.soundness.proofs.OnePass.{no-first}
-use Rattle.soundness.proofs.FaceLoops.{face-go, face-end}
-use Rattle.soundness.proofs.BoundaryLoops.{number-ends, number-low}
-use Rattle.soundness.proofs.BoundaryFits.{left, fits-start, fits-go, fits-no, fits-end}
-use Rattle.soundness.specs.Words.{numbersFit, stampOf}
-use Rattle.space.proofs.EndsMet.{Round, round-start, round-few, round-out}
-use Rattle.rules.proofs.Laws.{not-true, not-false}
-use Rattle.rules.specs.Limits.{desk}
-use lib.ListN.{drop, take}
-use native.Mathlib.Omega.{arith}
-use mathlib.Core.Path.{_≡_, sym, subst, _∙_}
+-- The numbers that are left fit exactly when all do, until one does not; the edges before have joined paths, and none closed one.
+use Prim.Native.Nat.{ℕ, _+_, _-_, _<_, _≤_}
 use mathlib.Core.Bool.{false≢true}
-use Prim.Native.Nat.{ℕ, _-_, _≤_}
--- The numbers that are left fit exactly when all do, until one does not; the ends of those before are met.
+use mathlib.Core.List.{List}
+use mathlib.Core.Path.{_≡_, sym, ap, subst, _∙_}
+use native.Mathlib.Omega.{arith}
+use lib.ListN.{drop, take}
 use borrow.Author.Needs.{needs}
+use Rattle.rules.specs.Limits.{desk}
+use Rattle.rules.proofs.Laws.{not-true, not-false}
+use Rattle.space.specs.Closed.{Stamped, Unmet, joining, joined}
+use Rattle.space.proofs.PathsJoined.{Paths, paths-start, paths-few, paths-stamped}
+use Rattle.soundness.specs.Words.{numbersFit, stampOf}
+use Rattle.soundness.proofs.BoundaryFits.{left, fits-start, fits-go, fits-no, fits-end}
+use Rattle.soundness.proofs.BoundaryLoops.{number-ends, number-low}
+use Rattle.soundness.proofs.FaceLoops.{face-go, face-thrice, face-early, face-last, face-none, stamped-next}
+use Rattle.soundness.proofs.OnePass.{no-first}
 use Rattle.soundness.proofs.boundaries.face_fits.Statement.{statement}
 use Rattle.soundness.proofs.boundaries.face_fits.Tie as tie
 
 abbrev Inv-loop : tie.InvT-loop
 Inv-loop elements from to e met₀ stamp low₀ twice₀ i₀ met low twice i = (from ≤ i) × (i ≤ to) × (stamp ≡ stampOf e) × (numbersFit desk elements e 2 (drop from (take to elements)) ≡ left elements to e 2 low i)
-    × Round elements (drop from (take to elements)) (stampOf e) met twice (i - from)
+    × Paths elements (drop from (take to elements)) (stampOf e) met twice (i - from)
 
 abbrev μ-loop : tie.MeasureT-loop
 μ-loop elements from to e met₀ stamp low₀ twice₀ i₀ met low twice i = to - i
 
 stamp-of-requires : tie.Need-stamp-of-requires Inv-loop μ-loop
-stamp-of-requires c κs = search needs
+stamp-of-requires c κs = c .before .pre .4
 
 loop-holds : tie.Need-loop-holds Inv-loop μ-loop
 loop-holds c =
@@ -34,8 +36,8 @@ loop-holds c =
       p .0,
       c .stamp-of .ensures .0,
       fits-start (a .elements .now) (a .to) (a .e) 2 (a .from),
-      subst (λ (k : ℕ). Round (a .elements .now) (drop (a .from) (take (a .to) (a .elements .now))) (stampOf (a .e)) (a .met .now) 0 k) (let z : 0 ≡ a .from - a .from = omega arith in z)
-          (round-start (a .elements .now) (drop (a .from) (take (a .to) (a .elements .now))) (stampOf (a .e)) (a .met .now) (p .6)),
+      subst (λ (k : ℕ). Paths (a .elements .now) (drop (a .from) (take (a .to) (a .elements .now))) (stampOf (a .e)) (a .met .now) 0 k) (let z : 0 ≡ a .from - a .from = omega arith in z)
+          (paths-start (a .elements .now) (drop (a .from) (take (a .to) (a .elements .now))) (stampOf (a .e)) (a .met .now) (p .6)),
     )
 
 mul-wide : tie.Need-mul-wide Inv-loop μ-loop
@@ -53,23 +55,89 @@ number-fits-requires c κs = (search needs, omega (arith, c .before .before .bef
 returns : tie.Need-returns Inv-loop μ-loop
 returns c =
     let a = c .before .before .before .before .before .before .before .before .args in
+    let p = c .before .before .before .before .before .before .before .before .pre in
     let at = c .before .before .before .before .before .loop in
-    (no-first _ _ (fits-no (a .elements .now) (a .to) (a .e) 2 (c .before .before .before .before .before .before .before .before .pre .2) (at .low) (at .i) _ (at .inv .3) (c .before .before .wide .ensures .0) (c .before .before .before .before .loop-test .taken) (sym (c .before .number-fits .ensures) ∙ not-true _ (c .if1 .taken))), λ e. absurd (false≢true e))
+    (no-first _ _ (fits-no (a .elements .now) (a .to) (a .e) 2 (p .2) (at .low) (at .i) _ (at .inv .3) (c .before .before .wide .ensures .0) (c .before .before .before .before .loop-test .taken) (sym (c .before .number-fits .ensures) ∙ not-true _ (c .if1 .taken))), λ e. absurd (false≢true e))
 
-meet-ends-requires : tie.Need-meet-ends-requires Inv-loop μ-loop
-meet-ends-requires c κs =
+join-ends-requires : tie.Need-join-ends-requires Inv-loop μ-loop
+join-ends-requires c κs =
     let a = c .before .before .before .before .before .before .before .before .before .args in
     let p = c .before .before .before .before .before .before .before .before .before .pre in
+    let at = c .before .before .before .before .before .before .loop in
     let fits = sym (c .before .before .number-fits .ensures) ∙ not-false _ (c .before .if1 .left) in
-    let l = number-low (a .elements .now) (a .e) 2 (c .before .before .before .before .before .before .loop .low) _ fits in
-    (p .3, omega (arith, l, p .4), number-ends (a .elements .now) (a .e) (p .5) (c .before .before .before .before .before .before .loop .low) _ fits, c .before .before .before .before .before .before .before .stamp-of .ensures .1)
+    let l = number-low (a .elements .now) (a .e) 2 (at .low) _ fits in (
+      p .3,
+      omega (arith, l, p .4),
+      number-ends (a .elements .now) (a .e) (p .5) (at .low) _ fits,
+      subst (λ (s : ℕ). Stamped s (at .met)) (sym (at .inv .2)) (paths-stamped (a .elements .now) (drop (a .from) (take (a .to) (a .elements .now))) (stampOf (a .e)) (at .met) (at .twice) (at .i - a .from) (at .inv .4)),
+      c .before .before .before .before .before .before .before .stamp-of .ensures .1,
+    )
+
+returns-2 : tie.Need-returns-2 Inv-loop μ-loop
+returns-2 c =
+    let a = c .before .before .before .before .before .before .before .before .before .before .before .args in
+    let p = c .before .before .before .before .before .before .before .before .before .before .before .pre in
+    let at = c .before .before .before .before .before .before .before .before .loop in
+    let h = c .before .before .before .before .before .before .before .loop-test .taken in
+    let x = c .before .before .before .before .before .wide .ensures .0 in
+    let fits = sym (c .before .before .before .before .number-fits .ensures) ∙ not-false _ (c .before .before .before .if1 .left) in
+    let j = c .before .join-ends in
+    let r = j .ensures .0 ∙ ap (λ (s : ℕ). joining s (a .elements .now) (at .met) (c .before .before .before .before .before .wide .result)) (at .inv .2) in
+    (face-thrice (a .elements .now) (a .from) (a .to) (a .e) (p .2) (p .4) (p .5) (at .met) (at .twice) (at .i) (stampOf (a .e)) (at .inv .4) (at .inv .0) h _ _ x r (c .if2 .taken), λ t. absurd (false≢true t))
+
+add-if4 : tie.Need-add-if4 Inv-loop μ-loop
+add-if4 c = search needs
+
+returns-3 : tie.Need-returns-3 Inv-loop μ-loop
+returns-3 c =
+    let a = c .before .before .before .before .before .before .before .before .before .before .before .before .before .args in
+    let p = c .before .before .before .before .before .before .before .before .before .before .before .before .before .pre in
+    let at = c .before .before .before .before .before .before .before .before .before .before .loop in
+    let h = c .before .before .before .before .before .before .before .before .before .loop-test .taken in
+    let x = c .before .before .before .before .before .before .before .wide .ensures .0 in
+    let fits = sym (c .before .before .before .before .before .before .number-fits .ensures) ∙ not-false _ (c .before .before .before .before .before .if1 .left) in
+    let j = c .before .before .before .join-ends in
+    let r = j .ensures .0 ∙ ap (λ (s : ℕ). joining s (a .elements .now) (at .met) (c .before .before .before .before .before .before .before .wide .result)) (at .inv .2) in
+    (face-early (a .elements .now) (a .from) (a .to) (a .e) (p .2) (p .4) (p .5) (at .met) (at .twice) (at .i) (stampOf (a .e)) (at .inv .4) (at .inv .0) h _ _ x r (c .before .if3 .taken) (c .if4 .taken), λ t. absurd (false≢true t))
+
+add-result : tie.Need-add-result Inv-loop μ-loop
+add-result c =
+    let a = c .before .before .before .before .before .before .before .before .before .before .before .before .before .args in
+    let p = c .before .before .before .before .before .before .before .before .before .before .before .before .before .pre in
+    let at = c .before .before .before .before .before .before .before .before .before .before .loop in
+    let f = paths-few _ _ _ _ _ _ (at .inv .4) in
+    omega (arith, f, p .1, at .inv .0, at .inv .1)
+
+sub-result : tie.Need-sub-result Inv-loop μ-loop
+sub-result c = c .before .before .before .before .before .before .before .before .before .before .before .before .before .pre .0
+
+returns-4 : tie.Need-returns-4 Inv-loop μ-loop
+returns-4 c =
+    let a = c .before .before .before .before .before .before .before .before .before .before .before .before .before .args in
+    let p = c .before .before .before .before .before .before .before .before .before .before .before .before .before .pre in
+    let at = c .before .before .before .before .before .before .before .before .before .before .loop in
+    let h = c .before .before .before .before .before .before .before .before .before .loop-test .taken in
+    let x = c .before .before .before .before .before .before .before .wide .ensures .0 in
+    let fits = sym (c .before .before .before .before .before .before .number-fits .ensures) ∙ not-false _ (c .before .before .before .before .before .if1 .left) in
+    let j = c .before .before .before .join-ends in
+    let r = j .ensures .0 ∙ ap (λ (s : ℕ). joining s (a .elements .now) (at .met) (c .before .before .before .before .before .before .before .wide .result)) (at .inv .2) in
+    let last = c .if4 .left in
+    let three = c .before .if3 .taken in
+    let same = j .ensures .2 (let z : 3 ≤ j .result = omega (arith, three) in z) in (
+      face-last (a .elements .now) (a .from) (a .to) (a .e) (p .2) (p .4) (p .5) (at .met) (at .twice) (at .i) (stampOf (a .e)) (at .inv .4) (at .inv .0) h _ _ x r three last
+          (fits-end (a .elements .now) (a .to) (a .e) 2 (p .2) _ _ (fits-go (a .elements .now) (a .to) (a .e) 2 (p .2) (at .low) (at .i) _ (at .inv .3) x h fits) last),
+      λ t. subst (λ (ws : List ℕ). Unmet (stampOf (a .e + 1)) ws) (sym same)
+          (stamped-next (a .e) (at .met) (paths-stamped (a .elements .now) (drop (a .from) (take (a .to) (a .elements .now))) (stampOf (a .e)) (at .met) (at .twice) (at .i - a .from) (at .inv .4))),
+    )
 
 add-twice : tie.Need-add-twice Inv-loop μ-loop
 add-twice c =
-    let p = c .before .before .before .before .before .before .before .before .before .before .pre in
-    let at = c .before .before .before .before .before .before .before .loop in
-    let f = round-few _ _ _ _ _ _ (at .inv .4) in
-    omega (arith, f, c .meet-ends .ensures .2, p .1, at .inv .0, at .inv .1)
+    let a = c .before .before .before .before .before .before .before .before .before .before .before .before .args in
+    let p = c .before .before .before .before .before .before .before .before .before .before .before .before .pre in
+    let at = c .before .before .before .before .before .before .before .before .before .loop in
+    let f = paths-few _ _ _ _ _ _ (at .inv .4) in
+    let few = c .before .before .join-ends .ensures .3 in
+    omega (arith, f, few, p .1, at .inv .0, at .inv .1)
 
 add-low : tie.Need-add-low Inv-loop μ-loop
 add-low c = search needs
@@ -82,30 +150,38 @@ loop-less c = search needs
 
 loop-again : tie.Need-loop-again Inv-loop μ-loop
 loop-again c =
-    let a = c .before .before .before .before .before .before .before .before .before .before .args in
-    let p = c .before .before .before .before .before .before .before .before .before .before .pre in
-    let at = c .before .before .before .before .before .before .before .loop in
-    let fits = sym (c .before .before .before .number-fits .ensures) ∙ not-false _ (c .before .before .if1 .left) in (
+    let a = c .before .before .before .before .before .before .before .before .before .before .before .before .args in
+    let p = c .before .before .before .before .before .before .before .before .before .before .before .before .pre in
+    let at = c .before .before .before .before .before .before .before .before .before .loop in
+    let h = c .before .before .before .before .before .before .before .before .loop-test .taken in
+    let x = c .before .before .before .before .before .before .wide .ensures .0 in
+    let fits = sym (c .before .before .before .before .before .number-fits .ensures) ∙ not-false _ (c .before .before .before .before .if1 .left) in
+    let j = c .before .before .join-ends in
+    let r = j .ensures .0 ∙ ap (λ (s : ℕ). joining s (a .elements .now) (at .met) (c .before .before .before .before .before .before .wide .result)) (at .inv .2) in
+    let few = j .ensures .3 in
+    let not-four = c .before .if2 .left in
+    let not-three = c .if3 .left in
+    let small : j .result < 3 = omega (arith, few, not-four, not-three) in (
       search needs,
       search needs,
       at .inv .2,
-      fits-go (a .elements .now) (a .to) (a .e) 2 (p .2) (at .low) (at .i) _ (at .inv .3) (c .before .before .before .before .wide .ensures .0) (c .before .before .before .before .before .before .loop-test .taken) fits,
-      face-go (a .elements .now) (a .from) (a .to) (a .e) (p .2) (at .met) _ (at .twice) (at .i) _ _ (stampOf (a .e)) _ (at .inv .4) (at .inv .0) (c .before .before .before .before .before .before .loop-test .taken) (c .before .before .before .before .wide .ensures .0)
-          (number-ends (a .elements .now) (a .e) (p .5) (at .low) _ fits) (at .inv .2) (c .meet-ends .ensures .0) (c .meet-ends .ensures .1),
+      fits-go (a .elements .now) (a .to) (a .e) 2 (p .2) (at .low) (at .i) _ (at .inv .3) x h fits,
+      face-go (a .elements .now) (a .from) (a .to) (a .e) (p .2) (at .met) _ (at .twice) (at .i) _ _ (stampOf (a .e)) (at .inv .4) (at .inv .0) h x
+          (number-ends (a .elements .now) (a .e) (p .5) (at .low) _ fits) r small
+          (j .ensures .1 small ∙ ap (λ (s : ℕ). joined s (a .elements .now) (at .met) (c .before .before .before .before .before .before .wide .result)) (at .inv .2)),
     )
 
-sub-result : tie.Need-sub-result Inv-loop μ-loop
-sub-result c = c .before .before .before .before .pre .0
+sub-result-2 : tie.Need-sub-result-2 Inv-loop μ-loop
+sub-result-2 c = c .before .before .before .before .pre .0
 
-returns-2 : tie.Need-returns-2 Inv-loop μ-loop
-returns-2 c =
+returns-5 : tie.Need-returns-5 Inv-loop μ-loop
+returns-5 c =
     let a = c .before .before .before .before .args in
     let p = c .before .before .before .before .pre in
     let at = c .before .loop in
     let e : at .i ≡ a .to = omega (arith, at .inv .1, c .loop-test .left) in (
-      face-end (a .elements .now) (a .from) (a .to) (a .e) (p .2) (at .met) (at .twice) (at .i) (stampOf (a .e)) (at .inv .4) e (p .5)
-          (fits-end (a .elements .now) (a .to) (a .e) 2 (p .2) (at .low) (at .i) (at .inv .3) (c .loop-test .left)),
-      λ t. round-out _ _ (stampOf (a .e)) (at .met) _ _ (at .inv .4),
+      face-none (a .elements .now) (a .from) (a .to) (a .e) (p .2) (p .4) (p .5) (at .met) (at .twice) (at .i) (stampOf (a .e)) (at .inv .4) (at .inv .0) e (fits-end (a .elements .now) (a .to) (a .e) 2 (p .2) (at .low) (at .i) (at .inv .3) (c .loop-test .left)),
+      λ t. stamped-next (a .e) (at .met) (paths-stamped (a .elements .now) (drop (a .from) (take (a .to) (a .elements .now))) (stampOf (a .e)) (at .met) (at .twice) (at .i - a .from) (at .inv .4)),
     )
 
 pub face-fits-spec : {M : Type 1} → statement M
@@ -121,11 +197,17 @@ face-fits-spec =
     wide-requires
     number-fits-requires
     returns
-    meet-ends-requires
+    join-ends-requires
+    returns-2
+    add-if4
+    returns-3
+    add-result
+    sub-result
+    returns-4
     add-twice
     add-low
     add-i
     loop-less
     loop-again
-    sub-result
-    returns-2)
+    sub-result-2
+    returns-5)

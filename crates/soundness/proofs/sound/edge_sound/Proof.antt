@@ -23,7 +23,7 @@ returns : tie.Need-returns
 returns c =
     let a = c .before .before .before .args in
     let p = c .before .before .before .pre in
-    (edge-open (a .elements .now) (a .e) _ refl (p .0) (p .1) (c .if1 .taken), λ t. absurd (false≢true t))
+    (λ d. edge-open (a .elements .now) d (a .e) _ refl (p .0) (p .1) (c .if1 .taken), λ t. absurd (false≢true t))
 
 gather-past-requires : tie.Need-gather-past-requires
 gather-past-requires c κs =
@@ -48,7 +48,7 @@ returns-2 : tie.Need-returns-2
 returns-2 c =
     let a = c .before .before .before .before .before .before .args in
     let p = c .before .before .before .before .before .before .pre in
-    (edge-two (a .elements .now) (a .e) _ refl (p .0) (p .1) (c .before .before .before .if1 .left) (c .numbers-fit .ensures), λ t. c .before .gather-past .ensures)
+    (λ d. edge-two (a .elements .now) d (a .e) _ refl (p .0) (p .1) (c .before .before .before .if1 .left) (c .numbers-fit .ensures), λ t. c .before .gather-past .ensures)
 
 pub edge-sound-spec : {M : Type 1} → statement M
 edge-sound-spec =

@@ -24,7 +24,7 @@ wide-requires c κs = search needs
 returns : tie.Need-returns
 returns c =
     let a = c .before .before .before .before .args in
-    (polytope-many (a .elements .now) (a .e) _ (c .before .wide .ensures .0) (a .rank) (c .if1 .taken), λ t. absurd (false≢true t), λ t. absurd (false≢true t))
+    (polytope-many (a .elements .now) (a .d) (a .e) _ (c .before .wide .ensures .0) (a .rank) (c .if1 .taken), λ t. absurd (false≢true t), λ t. absurd (false≢true t))
 
 gather-past-requires : tie.Need-gather-past-requires
 gather-past-requires c κs =
@@ -42,7 +42,7 @@ boundary-sound-requires c κs =
 returns-2 : tie.Need-returns-2
 returns-2 c =
     let a = c .before .before .before .before .before .before .before .before .args in (
-      polytope-few (a .elements .now) (a .e) _ (c .before .before .before .before .before .wide .ensures .0) (a .rank) (c .before .before .before .before .if1 .left) (c .boundary-sound .ensures .0),
+      polytope-few (a .elements .now) (a .d) (a .e) _ (c .before .before .before .before .before .wide .ensures .0) (a .rank) (c .before .before .before .before .if1 .left) (c .boundary-sound .ensures .0),
       c .boundary-sound .ensures .1,
       λ t. c .before .before .gather-past .ensures,
     )

@@ -5,7 +5,7 @@ use mathlib.Core.Path.{refl, sym, _∙_}
 use native.Mathlib.Omega.{arith}
 use Rattle.rules.proofs.Laws.{test-le, not-true, not-false}
 use Rattle.soundness.specs.Words.{stampOf}
-use Rattle.soundness.proofs.FaceLoops.{unmet-above}
+use Rattle.soundness.proofs.FaceLoops.{unmet-next}
 use Rattle.soundness.proofs.RowKinds.{row-corner, row-polytope}
 use borrow.Author.Tests.{lt-leb}
 use borrow.Author.Needs.{needs}
@@ -33,7 +33,7 @@ returns : tie.Need-returns
 returns c =
     let a = c .before .before .before .before .before .before .args in (
       row-corner (a .elements .now) (a .d) (a .h) (a .k) (a .e) _ (c .before .before .before .wide .ensures .0) (c .before .before .if1 .taken) (c .corner-sound .ensures .0),
-      λ t. unmet-above (stampOf (a .e)) (stampOf (a .e) + 2) (a .met .now) (omega arith) (c .before .before .before .before .before .before .pre .3),
+      λ t. unmet-next (a .e) (a .met .now) (c .before .before .before .before .before .before .pre .3),
       c .corner-sound .ensures .1,
     )
 

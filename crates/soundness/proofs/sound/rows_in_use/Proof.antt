@@ -8,8 +8,8 @@ use Rattle.rules.specs.Limits.{desk}
 use Rattle.rules.proofs.Laws.{not-true, not-false}
 use Rattle.space.specs.Chains.{Indexed}
 use Rattle.space.specs.Closed.{Unmet}
-use Rattle.space.proofs.EndsMet.{unmet-new}
 use Rattle.space.proofs.Indexing.{index-count}
+use Rattle.space.proofs.Meetings.{unmet-new}
 use Rattle.soundness.specs.Words.{blank, Mask, stampOf, rowsInUse, EdgesLow}
 use Rattle.soundness.proofs.BoundaryLoops.{edges-none, edges-on}
 use Rattle.soundness.proofs.Distinct.{apart, apart-go, apart-no, apart-is}
@@ -58,22 +58,19 @@ returns c =
     let at = c .before .before .before .before .before .before .loop in
     (no-first _ _ (pass-no (a .elements .now) (a .d) (a .n) (a .v) (a .h) (blank (at .seen)) (at .k) (at .i) (at .inv .3) (c .before .before .before .before .before .loop-test .taken) (sym (c .before .row-sound .ensures .0) ∙ not-true _ (c .if1 .taken))), λ e. absurd (false≢true e))
 
-pass-on-requires : tie.Need-pass-on-requires Inv-loop μ-loop
-pass-on-requires c κs = c .before .before .row-sound .ensures .1 (not-false _ (c .before .if1 .left))
-
 row-new-requires : tie.Need-row-new-requires Inv-loop μ-loop
 row-new-requires c κs =
-    let p = c .before .before .before .before .before .before .before .before .before .before .before .before .before .pre in
-    (omega (arith, p .0, c .before .before .before .before .before .before .before .before .loop-test .taken), p .1, c .before .before .before .before .before .before .before .before .before .loop .inv .8)
+    let p = c .before .before .before .before .before .before .before .before .before .before .before .pre in
+    (omega (arith, p .0, c .before .before .before .before .before .before .loop-test .taken), p .1, c .before .before .before .before .before .before .before .loop .inv .8)
 
 same-length-2 : tie.Need-same-length-2 Inv-loop μ-loop
 same-length-2 c = search needs
 
 returns-2 : tie.Need-returns-2 Inv-loop μ-loop
 returns-2 c =
-    let a = c .before .before .before .before .before .before .before .before .before .before .before .before .before .before .before .before .before .args in
-    let at = c .before .before .before .before .before .before .before .before .before .before .before .before .before .loop in
-    (no-second (rowsInUse desk (a .d) (a .n) (a .v) (a .h) (a .elements .now)) _ (sym (apart-is (a .elements .now) (a .n)) ∙ apart-no (a .elements .now) (a .n) (at .i) (c .before .before .before .before .before .before .before .before .before .before .before .before .loop-test .taken) (sym (c .before .before .before .row-new .ensures .0) ∙ not-true _ (c .if2 .taken))), λ e. absurd (false≢true e))
+    let a = c .before .before .before .before .before .before .before .before .before .before .before .before .before .before .before .args in
+    let at = c .before .before .before .before .before .before .before .before .before .before .before .loop in
+    (no-second (rowsInUse desk (a .d) (a .n) (a .v) (a .h) (a .elements .now)) _ (sym (apart-is (a .elements .now) (a .n)) ∙ apart-no (a .elements .now) (a .n) (at .i) (c .before .before .before .before .before .before .before .before .before .before .loop-test .taken) (sym (c .before .before .before .row-new .ensures .0) ∙ not-true _ (c .if2 .taken))), λ e. absurd (false≢true e))
 
 mul-one-if-corner : tie.Need-mul-one-if-corner Inv-loop μ-loop
 mul-one-if-corner c = search needs
@@ -92,18 +89,18 @@ loop-less c = search needs
 
 loop-again : tie.Need-loop-again Inv-loop μ-loop
 loop-again c =
-    let a = c .before .before .before .before .before .before .before .before .before .before .before .before .before .before .before .before .before .before .args in
-    let at = c .before .before .before .before .before .before .before .before .before .before .before .before .before .before .loop in
-    let p = c .before .before .before .before .before .before .before .before .before .before .before .before .before .before .before .before .before .before .pre in
-    let yes = not-false _ (c .before .before .before .before .before .before .before .before .if1 .left) in
-    let sound = sym (c .before .before .before .before .before .before .before .before .before .row-sound .ensures .0) ∙ yes in
-    let gathered = c .before .before .before .before .before .before .before .before .before .row-sound .ensures .2 yes in (
+    let a = c .before .before .before .before .before .before .before .before .before .before .before .before .before .before .before .before .args in
+    let at = c .before .before .before .before .before .before .before .before .before .before .before .before .loop in
+    let p = c .before .before .before .before .before .before .before .before .before .before .before .before .before .before .before .before .pre in
+    let yes = not-false _ (c .before .before .before .before .before .before .if1 .left) in
+    let sound = sym (c .before .before .before .before .before .before .before .row-sound .ensures .0) ∙ yes in
+    let gathered = c .before .before .before .before .before .before .before .row-sound .ensures .2 yes in (
       search needs,
       search needs,
       at .inv .2,
-      pass-go (a .elements .now) (a .d) (a .n) (a .v) (a .h) (blank (at .seen)) _ (at .k) (at .i) _ (at .inv .3) (c .before .before .before .before .before .before .before .before .before .before .before .before .before .loop-test .taken) sound (gathered .clear) (c .one-if-corner .ensures .0),
-      edges-on (a .elements .now) (at .i) (a .d) (a .h) (p .1) (omega (arith, p .0, c .before .before .before .before .before .before .before .before .before .before .before .before .before .loop-test .taken)) (row-head (a .elements .now) (a .d) (a .h) (at .k) (at .i) _ sound) (row-element (a .elements .now) (a .d) (a .h) (at .k) (at .i) _ sound) (at .inv .4),
-      c .before .before .before .before .before .before .pass-on .ensures,
+      pass-go (a .elements .now) (a .d) (a .n) (a .v) (a .h) (blank (at .seen)) _ (at .k) (at .i) _ (at .inv .3) (c .before .before .before .before .before .before .before .before .before .before .before .loop-test .taken) sound (gathered .clear) (c .one-if-corner .ensures .0),
+      edges-on (a .elements .now) (at .i) (a .d) (a .h) (p .1) (omega (arith, p .0, c .before .before .before .before .before .before .before .before .before .before .before .loop-test .taken)) (row-head (a .elements .now) (a .d) (a .h) (at .k) (at .i) _ sound) (row-element (a .elements .now) (a .d) (a .h) (at .k) (at .i) _ sound) (at .inv .4),
+      c .before .before .before .before .before .before .before .row-sound .ensures .1 yes,
       gathered .long,
       apart-go (a .elements .now) (at .i) (at .inv .7) (sym (c .before .before .before .before .row-new .ensures .0) ∙ not-false _ (c .before .if2 .left)),
       c .before .before .before .before .row-new .ensures .1 (not-false _ (c .before .if2 .left)),
@@ -148,7 +145,6 @@ rows-in-use-spec =
     row-sound-requires
     same-length
     returns
-    pass-on-requires
     row-new-requires
     same-length-2
     returns-2

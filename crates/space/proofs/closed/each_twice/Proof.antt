@@ -5,8 +5,9 @@ use lib.Dec.{eqb}
 use lib.ListN.{take, replicate}
 use native.Mathlib.Omega.{arith}
 use borrow.Author.Needs.{needs}
-use Rattle.space.proofs.TwiceMet.{edges-long, edges-low, edge-at, edge-low, ends-low}
-use Rattle.space.proofs.EndsMet.{Round, unmet-new, round-start, round-met, round-few, round-end}
+use Rattle.space.proofs.TwiceMet.{edges-long, edges-fine, edge-at, edge-low, ends-low}
+use Rattle.space.proofs.EndsCounted.{Round, round-start, round-met, round-few, round-end}
+use Rattle.space.proofs.Meetings.{unmet-new}
 use Rattle.space.proofs.closed.each_twice.Statement.{statement}
 use Rattle.space.proofs.closed.each_twice.Tie as tie
 
@@ -73,7 +74,7 @@ returns c =
     let p = c .before .before .before .before .pre in
     let at = c .before .loop in
     let l = edges-long (a .list .now) (a .n) (p .1) in
-    ap (eqb (at .twice)) (sym l) ∙ round-end (a .elements .now) (take (a .n) (a .list .now)) 1 (at .met) (at .twice) (at .k) (at .inv .1) (omega (arith, l)) (edges-low (a .list .now) (a .n) (p .1) (a .elements .now) (p .4))
+    ap (eqb (at .twice)) (sym l) ∙ round-end (a .elements .now) (take (a .n) (a .list .now)) 1 (at .met) (at .twice) (at .k) (at .inv .1) (omega (arith, l)) (λ j q. edges-fine (a .list .now) (a .n) (p .1) (a .elements .now) (p .3) (p .4) j q .1)
 
 pub each-twice-spec : {M : Type 1} → statement M
 each-twice-spec =

@@ -9,11 +9,17 @@ use Rattle.space.specs.Closed.{meeting}
 use Rattle.space.proofs.closed.meet.Statement.{statement}
 use Rattle.space.proofs.closed.meet.Tie as tie
 
+mul-m : tie.Need-mul-m
+mul-m c = search needs
+
 element-copy-out-m : tie.Need-element-copy-out-m
 element-copy-out-m c = search needs
 
 later-requires : tie.Need-later-requires
 later-requires c κs = search needs
+
+mul-met : tie.Need-mul-met
+mul-met c = search needs
 
 element-write-met : tie.Need-element-write-met
 element-write-met c = search needs
@@ -32,4 +38,4 @@ returns-2 c =
 
 pub meet-spec : {M : Type 1} → statement M
 meet-spec =
-    tie.close (tie.spec element-copy-out-m later-requires element-write-met returns returns-2)
+    tie.close (tie.spec mul-m element-copy-out-m later-requires mul-met element-write-met returns returns-2)

@@ -7,6 +7,22 @@ use borrow.Author.Needs.{needs}
 use Rattle.space.proofs.memo.add_polytope.Statement.{statement}
 use Rattle.space.proofs.memo.add_polytope.Tie as tie
 
+-- where the function began, and what was found on the way to each of its ends
+abbrev start : tie.Else2 → tie.Start
+start c = c .before .before .before .before .before
+
+abbrev fits : tie.After-is-closed → tie.Else2
+fits c = c .before .before .before .before
+
+abbrev made : tie.After-add-row → tie.After-polytope-row
+made c = c .before .before .before .before .before
+
+abbrev tested : tie.After-polytope-row → tie.After-is-closed
+tested c = c .before .before
+
+abbrev added : tie.After-slice-known6 → tie.After-add-row
+added c = c .before .before .before .before .before .before
+
 returns : tie.Need-returns
 returns c =
     let a = c .before .before .before .before .args in
@@ -25,11 +41,15 @@ is-closed-requires c κs = search needs
 same-length : tie.Need-same-length
 same-length c = search needs
 
+same-length-2 : tie.Need-same-length-2
+same-length-2 c = search needs
+
 returns-3 : tie.Need-returns-3
 returns-3 c =
-    let a = c .before .before .before .before .before .before .before .before .before .args in
-    let p = c .before .before .before .before .before .before .before .before .before .pre in
-    (poly-open _ _ _ _ _ _ (a .n) (taken (a .list .now) (a .n) (p .3) (p .4)) (c .before .before .before .before .before .if1 .left) (c .before .before .before .before .if2 .left) (sym (c .before .is-closed .ensures) ∙ not-true _ (c .if3 .taken)), p .8)
+    let f = fits (c .before) in
+    let a = start f .args in
+    let p = start f .pre in
+    (poly-open _ _ _ _ _ _ (a .n) (taken (a .list .now) (a .n) (p .3) (p .4)) (f .before .if1 .left) (f .if2 .left) (sym (c .before .is-closed .ensures) ∙ not-true _ (c .if3 .taken)), p .8)
 
 polytope-row-requires : tie.Need-polytope-row-requires
 polytope-row-requires c κs = search needs
@@ -38,9 +58,7 @@ slice-aggregate-add-row : tie.Need-slice-aggregate-add-row
 slice-aggregate-add-row c = search needs
 
 add-row-requires : tie.Need-add-row-requires
-add-row-requires c κs =
-    let p = c .before .before .before .before .before .before .before .before .before .before .before .before .before .before .pre in
-    (p .0, p .1, p .2, search needs, p .8)
+add-row-requires c κs = let p = start (fits (tested (c .before .before .before .before))) .pre in (p .0, p .1, p .2, search needs, p .8)
 
 enum-known-placed : tie.Need-enum-known-placed
 enum-known-placed c = search needs
@@ -48,23 +66,26 @@ enum-known-placed c = search needs
 enum-known-placed-2 : tie.Need-enum-known-placed-2
 enum-known-placed-2 c = search needs
 
-same-length-2 : tie.Need-same-length-2
-same-length-2 c = search needs
-
 same-length-3 : tie.Need-same-length-3
 same-length-3 c = search needs
 
 same-length-4 : tie.Need-same-length-4
 same-length-4 c = search needs
 
-returns-4 : tie.Need-returns-4
-returns-4 c =
-    let a = c .before .before .before .before .before .before .before .before .before .before .before .before .before .before .before .before .before .before .before .before .before .before .before .before .args in
-    let p = c .before .before .before .before .before .before .before .before .before .before .before .before .before .before .before .before .before .before .before .before .before .before .before .before .pre in
-    (poly-refused _ _ _ _ _ _ (a .n) (taken (a .list .now) (a .n) (p .3) (p .4)) (c .before .before .before .before .before .before .before .before .before .before .before .before .before .before .before .before .before .before .before .before .if1 .left) (c .before .before .before .before .before .before .before .before .before .before .before .before .before .before .before .before .before .before .before .if2 .left) (sym (c .before .before .before .before .before .before .before .before .before .before .before .before .before .before .before .before .is-closed .ensures) ∙ not-false _ (c .before .before .before .before .before .before .before .before .before .before .before .before .before .before .before .if3 .left)) _ _ _ _ (c .before .before .before .before .before .before .before .before .before .before .before .before .before .before .polytope-row .ensures) (c .before .before .before .before .before .before .before .before .before .add-row .ensures .0) _ (c .before .placed .given .1), c .before .before .before .before .before .before .before .before .before .add-row .ensures .1)
-
 same-length-5 : tie.Need-same-length-5
 same-length-5 c = search needs
+
+returns-4 : tie.Need-returns-4
+returns-4 c =
+    let r = added (c .before .before .before) in
+    let w = made r in
+    let t = tested w in
+    let f = fits t in
+    let a = start f .args in
+    let p = start f .pre in
+    let l = taken (a .list .now) (a .n) (p .3) (p .4) in
+    let q = sym (t .is-closed .ensures) ∙ not-false _ (w .before .if3 .left) in
+    (poly-refused _ _ _ _ _ _ (a .n) l (f .before .if1 .left) (f .if2 .left) q _ _ _ _ (w .polytope-row .ensures) (r .add-row .ensures .0) _ (c .before .placed .given .1), r .add-row .ensures .1)
 
 same-length-6 : tie.Need-same-length-6
 same-length-6 c = search needs
@@ -72,11 +93,20 @@ same-length-6 c = search needs
 same-length-7 : tie.Need-same-length-7
 same-length-7 c = search needs
 
+same-length-8 : tie.Need-same-length-8
+same-length-8 c = search needs
+
 returns-5 : tie.Need-returns-5
 returns-5 c =
-    let a = c .before .before .before .before .before .before .before .before .before .before .before .before .before .before .before .before .before .before .before .before .before .before .before .before .args in
-    let p = c .before .before .before .before .before .before .before .before .before .before .before .before .before .before .before .before .before .before .before .before .before .before .before .before .pre in
-    (poly-made _ _ _ _ _ _ (a .n) (taken (a .list .now) (a .n) (p .3) (p .4)) (c .before .before .before .before .before .before .before .before .before .before .before .before .before .before .before .before .before .before .before .before .if1 .left) (c .before .before .before .before .before .before .before .before .before .before .before .before .before .before .before .before .before .before .before .if2 .left) (sym (c .before .before .before .before .before .before .before .before .before .before .before .before .before .before .before .before .is-closed .ensures) ∙ not-false _ (c .before .before .before .before .before .before .before .before .before .before .before .before .before .before .before .if3 .left)) _ _ _ _ (c .before .before .before .before .before .before .before .before .before .before .before .before .before .before .polytope-row .ensures) (c .before .before .before .before .before .before .before .before .before .add-row .ensures .0) _ (c .before .placed2 .given .1), c .before .before .before .before .before .before .before .before .before .add-row .ensures .1)
+    let r = added (c .before .before .before) in
+    let w = made r in
+    let t = tested w in
+    let f = fits t in
+    let a = start f .args in
+    let p = start f .pre in
+    let l = taken (a .list .now) (a .n) (p .3) (p .4) in
+    let q = sym (t .is-closed .ensures) ∙ not-false _ (w .before .if3 .left) in
+    (poly-made _ _ _ _ _ _ (a .n) l (f .before .if1 .left) (f .if2 .left) q _ _ _ _ (w .polytope-row .ensures) (r .add-row .ensures .0) _ (c .before .placed2 .given .1), r .add-row .ensures .1)
 
 pub add-polytope-spec : {M : Type 1} → statement M
 add-polytope-spec =
@@ -86,17 +116,18 @@ add-polytope-spec =
     returns-2
     is-closed-requires
     same-length
+    same-length-2
     returns-3
     polytope-row-requires
     slice-aggregate-add-row
     add-row-requires
     enum-known-placed
     enum-known-placed-2
-    same-length-2
     same-length-3
     same-length-4
-    returns-4
     same-length-5
+    returns-4
     same-length-6
     same-length-7
+    same-length-8
     returns-5)

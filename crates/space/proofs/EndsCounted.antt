@@ -1,78 +1,48 @@
--- The ends of a round of edges, met one after another: each is met twice exactly when as many are met for the second time as there are edges.
--- Two for each second meeting, and the spare meetings of each number, make up the ends that are met.
+-- Few edges are counted: each corner is met twice exactly when as many ends are met for the second time as there are edges.
 use Prim.Native.Nat.{ℕ, _+_, suc, zero, _<_, _*_, _≤_}
 use mathlib.Core.Bool.{cond, Bool, true, false, _&&_}
 use mathlib.Core.List.{List, _∷_, []}
 use mathlib.Core.Path.{_≡_, sym, ap, _∙_, refl, subst}
 use native.Mathlib.Nat.{zero-add}
-use native.Mathlib.Numerals.{add-one}
 use native.Mathlib.Omega.{arith}
 use lib.Dec.{eqb, ltb}
-use lib.ListN.{length, drop, getD, set, replicate, length-set, length-replicate, getD-replicate}
-use lib.Seq.{drop-cons, drop-length, getD-set-same, getD-set-other}
-use Rattle.rules.specs.Lists.{occurrences, all}
+use lib.ListN.{length, drop, getD, set, length-set}
+use lib.Seq.{drop-length, getD-set-same, getD-set-other}
 use borrow.Author.Tests.{ltb-true, lt-ltb, le-ltb}
-use Rattle.rules.proofs.Laws.{eq-test, test-eq, not-eq, unlike-eq, and-true, and-left, and-right, refute}
-use Rattle.space.specs.Closed.{EndsLow, Unmet, metNext, meeting, isSecond, bothMet, seconds, rawEnds, closedRaw}
-use Rattle.space.proofs.Sums.{sumTo, sum-change, sum-zeros, zeros-sum}
-use Rattle.space.proofs.TwiceMet.{times-cons}
+use Rattle.rules.specs.Lists.{occurrences, all}
+use Rattle.rules.proofs.FaceEdges.{of-all}
+use Rattle.rules.proofs.Laws.{eq-test, test-eq, not-eq, unlike-eq, and-true, refute}
+use Rattle.rules.proofs.RingWalked.{all-of}
+use Rattle.space.specs.Closed.{EndsLow, Unmet, firstEnd, secondEnd, rawEnds, metTwice, metNext, meeting, isSecond, bothMet, seconds}
+use Rattle.space.proofs.Meetings.{times-cons, bit, ends-on, met-in, in-met, spare, spare-none, spares, more-is, spares-more}
+use Rattle.space.proofs.Sums.{sumTo, sum-zeros, zeros-sum}
+use Rattle.space.proofs.Webs.{more}
 
--- a test as a number
-bit : {b c : Bool} → b ≡ c → _≡_ {A = ℕ} (cond b 1 0) (cond c 1 0)
-bit e = ap (λ (b : Bool). cond b 1 0) e
+-- the lower end of an edge is within the room, for the higher one is
+first-low : (es : List ℕ) (x : ℕ) → EndsLow es x → firstEnd es x < 512
+first-low es x E = let p = E .apart in let q = E .second in omega (arith, p, q)
 
--- the ends from edge k on
-ends-on : (es b : List ℕ) (k : ℕ) → k < length b → rawEnds es (drop k b) ≡ getD es (getD b k 0 * 36 + 4) 0 ∷ getD es (getD b k 0 * 36 + 5) 0 ∷ rawEnds es (drop (k + 1) b)
-unfolding rawEnds
-ends-on es b k h =
-    ap (rawEnds es) (drop-cons b k 0 h) ∙ ap (λ (j : ℕ). getD es (getD b k 0 * 36 + 4) 0 ∷ getD es (getD b k 0 * 36 + 5) 0 ∷ rawEnds es (drop j b)) (sym (add-one k))
-
--- ---- all entries of a list pass a test, or each that occurs
-
-passes : (p : ℕ → Bool) (l : List ℕ) → ((v : ℕ) → 0 < occurrences v l → p v ≡ true) → all p l ≡ true
-passes p [] h = refl
-passes p (x ∷ xs) h =
-    and-true (p x) (all p xs)
-    (h x (let t = times-cons x x xs in let o = bit (test-eq x x refl) in omega arith))
-    (passes p xs (λ v g. h v (let t = times-cons v x xs in omega arith)))
-
-passed : (p : ℕ → Bool) (l : List ℕ) → all p l ≡ true → (v : ℕ) → 0 < occurrences v l → p v ≡ true
-passed p [] e v h = absurd (omega arith)
-passed p (x ∷ xs) e v h = go (eqb v x) refl (λ (g : 0 < occurrences v xs). passed p xs (and-right (p x) (all p xs) e) v g)
-  where
-    go : (b : Bool) → eqb v x ≡ b → (0 < occurrences v xs → p v ≡ true) → p v ≡ true
-    go true q later = ap p (eq-test v x q) ∙ and-left (p x) (all p xs) e
-    go false q later =
-        let t = times-cons v x xs in
-        let o = bit q in
-        later (omega arith)
-
+-- so is every end that occurs
 occurs-low : (es b : List ℕ) → ((j : ℕ) → j < length b → EndsLow es (getD b j 0)) → (v : ℕ) → 0 < occurrences v (rawEnds es b) → v < 512
 unfolding rawEnds
-occurs-low es b h v o = ltb-true v 512 (passed (λ w. ltb w 512) (rawEnds es b) (low b h) v o)
+occurs-low es b h v o = ltb-true v 512 (of-all (λ w. ltb w 512) (rawEnds es b) v (low b h) (in-met v (rawEnds es b) o))
   where
     low : (l : List ℕ) → ((j : ℕ) → j < length l → EndsLow es (getD l j 0)) → all (λ w. ltb w 512) (rawEnds es l) ≡ true
     low [] g = refl
     low (x ∷ xs) g =
-        let a = getD es (x * 36 + 4) 0 in
-        let c = getD es (x * 36 + 5) 0 in
+        let a = firstEnd es x in
+        let c = secondEnd es x in
         let z = g 0 (omega arith) in
-        and-true (ltb a 512) (ltb c 512 && all (λ w. ltb w 512) (rawEnds es xs)) (lt-ltb a 512 (z .first))
+        and-true (ltb a 512) (ltb c 512 && all (λ w. ltb w 512) (rawEnds es xs)) (lt-ltb a 512 (first-low es x z))
         (and-true (ltb c 512) (all (λ w. ltb w 512) (rawEnds es xs)) (lt-ltb c 512 (z .second)) (low xs (λ j l. g (suc j) (omega arith))))
 
--- ---- the word of an end
+-- ---- the word of a corner
 
--- what stands at the place of an end that is met c times
+-- what stands at the place of a corner that is met c times
 abbrev pub Word : ℕ → ℕ → ℕ → Type 0
 Word s zero m = m < s
 Word s (suc zero) m = m ≡ s
 Word s (suc (suc c)) m = m ≡ s + 1
-
--- how many of c meetings are neither the first nor the second of two
-abbrev pub spare : ℕ → ℕ
-spare zero = 0
-spare (suc zero) = 1
-spare (suc (suc c)) = c
 
 word-next : (s c m : ℕ) → Word s c m → Word s (suc c) (metNext s m)
 word-next s zero m h = ap (λ (b : Bool). cond b s (s + 1)) (lt-ltb m s h)
@@ -89,31 +59,7 @@ word-under s zero m h = omega arith
 word-under s (suc zero) m h = omega arith
 word-under s (suc (suc c)) m h = omega arith
 
-spare-none : (c : ℕ) → spare c ≡ 0 → 0 < c → c ≡ 2
-spare-none zero e h = absurd (omega arith)
-spare-none (suc zero) e h = absurd (omega arith)
-spare-none (suc (suc c)) e h = ap (λ (x : ℕ). suc (suc x)) e
-
 -- ---- the count
-
--- the meetings that make up no two, over the room
-unfoldable pub spares : (ℕ → ℕ) → ℕ
-spares c = sumTo 512 (λ v. spare (c v))
-
--- one meeting more of a
-abbrev pub more : ℕ → (ℕ → ℕ) → ℕ → ℕ
-more a c v = cond (eqb v a) (suc (c v)) (c v)
-
-more-is : (b : Bool) (n : ℕ) → cond b (suc n) n ≡ cond b 1 0 + n
-more-is true n = let q : suc n ≡ 1 + n = omega arith in q
-more-is false n = sym (zero-add n)
-
-spares-more : (c : ℕ → ℕ) (a : ℕ) → a < 512 → spares c + spare (suc (c a)) ≡ spares (more a c) + spare (c a)
-unfolding spares
-spares-more c a h =
-    let e : spare (more a c a) ≡ spare (suc (c a)) = ap (λ (b : Bool). spare (cond b (suc (c a)) (c a))) (test-eq a a refl) in
-    let s = sum-change 512 a (λ v. spare (c v)) (λ v. spare (more a c v)) h (λ w u. sym (ap (λ (b : Bool). spare (cond b (suc (c w)) (c w))) (not-eq w a u))) in
-    ap (λ (x : ℕ). sumTo 512 (λ v. spare (c v)) + x) (sym e) ∙ s
 
 -- each number v is met c v times, and the second meetings with the spare ones make up all
 pub record Counts (s : ℕ) (c : ℕ → ℕ) (met : List ℕ) (twice ends : ℕ) : Type 0 where
@@ -144,12 +90,6 @@ counts-go s c met twice ends a C low = record {
 
 -- ---- a round of edges
 
-pub unmet-new : Unmet 1 (replicate 512 0)
-unmet-new = record {
-  long = length-replicate {A = ℕ} 512 0;
-  under = λ v h. let e = getD-replicate {A = ℕ} 512 v 0 0 h in (let q : getD (replicate 512 0) v 0 < 1 = omega (arith, e) in q);
-}
-
 -- k edges are met: what is counted, and what is left to meet, make up the whole
 pub record Round (es edges : List ℕ) (s : ℕ) (met : List ℕ) (twice k : ℕ) : Type 0 where
   pub times : ℕ → ℕ
@@ -167,10 +107,10 @@ round-start es edges s met U = record {
 pub round-go : (es edges : List ℕ) (s : ℕ) (met : List ℕ) (twice k x : ℕ) → Round es edges s met twice k → k < length edges → x ≡ getD edges k 0 → EndsLow es x → Round es edges s (bothMet s es met x) (twice + seconds s es met x) (k + 1)
 unfolding bothMet seconds
 round-go es edges s met twice k x R h e E =
-    let a = getD es (x * 36 + 4) 0 in
-    let b = getD es (x * 36 + 5) 0 in
+    let a = firstEnd es x in
+    let b = secondEnd es x in
     let rest = rawEnds es (drop (k + 1) edges) in
-    let one = counts-go s (R .times) met twice (2 * k) a (R .counts) (E .first) in
+    let one = counts-go s (R .times) met twice (2 * k) a (R .counts) (first-low es x E) in
     let both = counts-go s (more a (R .times)) (meeting s met a) (twice + isSecond s met a) (2 * k + 1) b one (E .second) in
     record {
       times = more b (more a (R .times));
@@ -178,7 +118,7 @@ round-go es edges s met twice k x R h e E =
       whole = λ v.
           let w = R .whole v in
           let on : occurrences v (rawEnds es (drop k edges)) ≡ occurrences v (a ∷ b ∷ rest) =
-          ap (occurrences v) (ends-on es edges k h ∙ ap (λ (y : ℕ). getD es (y * 36 + 4) 0 ∷ getD es (y * 36 + 5) 0 ∷ rest) (sym e)) in
+          ap (occurrences v) (ends-on es edges k h ∙ ap (λ (y : ℕ). firstEnd es y ∷ secondEnd es y ∷ rest) (sym e)) in
           let t₁ = times-cons v a (b ∷ rest) in
           let t₂ = times-cons v b rest in
           let m₁ = more-is (eqb v a) (R .times v) in
@@ -206,34 +146,35 @@ module _ (es edges : List ℕ) (s : ℕ) (met : List ℕ) (twice k : ℕ) (R : R
         omega arith
 
     -- every end is met twice where as many are met for the second time as there are edges
-    pairs : twice ≡ length edges → closedRaw es 2 edges ≡ true
+    pairs : twice ≡ length edges → metTwice es edges ≡ true
     unfolding spares
-    pairs e = passes (λ v. eqb (occurrences v (rawEnds es edges)) 2) (rawEnds es edges) (λ v o.
+    pairs e = all-of (λ v. eqb (occurrences v (rawEnds es edges)) 2) (rawEnds es edges) (λ v m.
+        let o = met-in v (rawEnds es edges) m in
         let t = counted v in
         let b = R .counts .balance in
         let z = zeros-sum 512 v (λ w. spare (R .times w)) (omega arith) (occurs-low es edges low v o) in
         test-eq (occurrences v (rawEnds es edges)) 2 (t ∙ spare-none (R .times v) z (omega arith)))
 
     -- and only there
-    no-spare : closedRaw es 2 edges ≡ true → (v : ℕ) → spare (R .times v) ≡ 0
+    no-spare : metTwice es edges ≡ true → (v : ℕ) → spare (R .times v) ≡ 0
     no-spare e v = go (R .times v) refl
       where
         go : (c : ℕ) → R .times v ≡ c → spare (R .times v) ≡ 0
         go zero q = ap spare q
         go (suc c) q =
             let t = counted v in
-            ap spare (sym t ∙ eq-test (occurrences v (rawEnds es edges)) 2 (passed (λ w. eqb (occurrences w (rawEnds es edges)) 2) (rawEnds es edges) e v (omega arith)))
+            ap spare (sym t ∙ eq-test (occurrences v (rawEnds es edges)) 2 (of-all (λ w. eqb (occurrences w (rawEnds es edges)) 2) (rawEnds es edges) v e (in-met v (rawEnds es edges) (omega arith))))
 
-    only-pairs : closedRaw es 2 edges ≡ true → twice ≡ length edges
+    only-pairs : metTwice es edges ≡ true → twice ≡ length edges
     unfolding spares
     only-pairs e =
         let z = sum-zeros 512 (λ v. spare (R .times v)) (λ v h. no-spare e v) in
         let b = R .counts .balance in
         omega arith
 
-    pub round-end : eqb twice (length edges) ≡ closedRaw es 2 edges
+    pub round-end : eqb twice (length edges) ≡ metTwice es edges
     round-end = go (eqb twice (length edges)) refl
       where
-        go : (y : Bool) → eqb twice (length edges) ≡ y → y ≡ closedRaw es 2 edges
+        go : (y : Bool) → eqb twice (length edges) ≡ y → y ≡ metTwice es edges
         go true q = sym (pairs (eq-test twice (length edges) q))
-        go false q = sym (refute (closedRaw es 2 edges) (λ e. unlike-eq twice (length edges) q (only-pairs e)))
+        go false q = sym (refute (metTwice es edges) (λ e. unlike-eq twice (length edges) q (only-pairs e)))

@@ -1,0 +1,131 @@
+-- The numbers that are left fit exactly when all do, until one does not; the ends of those before are met.
+use Prim.Native.Nat.{ℕ, _+_, _-_, _≤_}
+use mathlib.Core.Bool.{false≢true}
+use mathlib.Core.Path.{_≡_, sym, subst, _∙_}
+use native.Mathlib.Omega.{arith}
+use lib.ListN.{drop, take}
+use borrow.Author.Needs.{needs}
+use Rattle.rules.specs.Limits.{desk}
+use Rattle.rules.proofs.Laws.{not-true, not-false}
+use Rattle.space.proofs.EndsCounted.{Round, round-start, round-few, round-out}
+use Rattle.soundness.specs.Words.{numbersFit, stampOf}
+use Rattle.soundness.proofs.BoundaryFits.{left, fits-start, fits-go, fits-no, fits-end}
+use Rattle.soundness.proofs.BoundaryLoops.{number-ends, number-low}
+use Rattle.soundness.proofs.FaceLoops.{few-go, few-end, unmet-above}
+use Rattle.soundness.proofs.OnePass.{no-first}
+use Rattle.soundness.proofs.boundaries.few_fits.Statement.{statement}
+use Rattle.soundness.proofs.boundaries.few_fits.Tie as tie
+
+abbrev Inv-loop : tie.InvT-loop
+Inv-loop elements from to e met₀ stamp low₀ twice₀ i₀ met low twice i = (from ≤ i) × (i ≤ to) × (stamp ≡ stampOf e) × (numbersFit desk elements e 2 (drop from (take to elements)) ≡ left elements to e 2 low i)
+    × Round elements (drop from (take to elements)) (stampOf e) met twice (i - from)
+
+abbrev μ-loop : tie.MeasureT-loop
+μ-loop elements from to e met₀ stamp low₀ twice₀ i₀ met low twice i = to - i
+
+stamp-of-requires : tie.Need-stamp-of-requires Inv-loop μ-loop
+stamp-of-requires c κs = search needs
+
+loop-holds : tie.Need-loop-holds Inv-loop μ-loop
+loop-holds c =
+    let a = c .before .before .args in
+    let p = c .before .before .pre in (
+      search needs,
+      p .0,
+      c .stamp-of .ensures .0,
+      fits-start (a .elements .now) (a .to) (a .e) 2 (a .from),
+      subst (λ (k : ℕ). Round (a .elements .now) (drop (a .from) (take (a .to) (a .elements .now))) (stampOf (a .e)) (a .met .now) 0 k) (let z : 0 ≡ a .from - a .from = omega arith in z)
+          (round-start (a .elements .now) (drop (a .from) (take (a .to) (a .elements .now))) (stampOf (a .e)) (a .met .now) (p .6)),
+    )
+
+mul-wide : tie.Need-mul-wide Inv-loop μ-loop
+mul-wide c = search needs
+
+shared-slice-read-wide : tie.Need-shared-slice-read-wide Inv-loop μ-loop
+shared-slice-read-wide c = search needs
+
+wide-requires : tie.Need-wide-requires Inv-loop μ-loop
+wide-requires c κs = search needs
+
+number-fits-requires : tie.Need-number-fits-requires Inv-loop μ-loop
+number-fits-requires c κs = (search needs, omega (arith, c .before .before .before .before .before .before .pre .4))
+
+returns : tie.Need-returns Inv-loop μ-loop
+returns c =
+    let a = c .before .before .before .before .before .before .before .before .args in
+    let at = c .before .before .before .before .before .loop in
+    (no-first _ _ (fits-no (a .elements .now) (a .to) (a .e) 2 (c .before .before .before .before .before .before .before .before .pre .2) (at .low) (at .i) _ (at .inv .3) (c .before .before .wide .ensures .0) (c .before .before .before .before .loop-test .taken) (sym (c .before .number-fits .ensures) ∙ not-true _ (c .if1 .taken))), λ e. absurd (false≢true e))
+
+meet-ends-requires : tie.Need-meet-ends-requires Inv-loop μ-loop
+meet-ends-requires c κs =
+    let a = c .before .before .before .before .before .before .before .before .before .args in
+    let p = c .before .before .before .before .before .before .before .before .before .pre in
+    let fits = sym (c .before .before .number-fits .ensures) ∙ not-false _ (c .before .if1 .left) in
+    let l = number-low (a .elements .now) (a .e) 2 (c .before .before .before .before .before .before .loop .low) _ fits in
+    (p .3, omega (arith, l, p .4), number-ends (a .elements .now) (a .e) (p .5) (c .before .before .before .before .before .before .loop .low) _ fits, c .before .before .before .before .before .before .before .stamp-of .ensures .1)
+
+add-twice : tie.Need-add-twice Inv-loop μ-loop
+add-twice c =
+    let p = c .before .before .before .before .before .before .before .before .before .before .pre in
+    let at = c .before .before .before .before .before .before .before .loop in
+    let f = round-few _ _ _ _ _ _ (at .inv .4) in
+    omega (arith, f, c .meet-ends .ensures .2, p .1, at .inv .0, at .inv .1)
+
+add-low : tie.Need-add-low Inv-loop μ-loop
+add-low c = search needs
+
+add-i : tie.Need-add-i Inv-loop μ-loop
+add-i c = search needs
+
+loop-less : tie.Need-loop-less Inv-loop μ-loop
+loop-less c = search needs
+
+loop-again : tie.Need-loop-again Inv-loop μ-loop
+loop-again c =
+    let a = c .before .before .before .before .before .before .before .before .before .before .args in
+    let p = c .before .before .before .before .before .before .before .before .before .before .pre in
+    let at = c .before .before .before .before .before .before .before .loop in
+    let fits = sym (c .before .before .before .number-fits .ensures) ∙ not-false _ (c .before .before .if1 .left) in (
+      search needs,
+      search needs,
+      at .inv .2,
+      fits-go (a .elements .now) (a .to) (a .e) 2 (p .2) (at .low) (at .i) _ (at .inv .3) (c .before .before .before .before .wide .ensures .0) (c .before .before .before .before .before .before .loop-test .taken) fits,
+      few-go (a .elements .now) (a .from) (a .to) (a .e) (p .2) (at .met) _ (at .twice) (at .i) _ _ (stampOf (a .e)) _ (at .inv .4) (at .inv .0) (c .before .before .before .before .before .before .loop-test .taken) (c .before .before .before .before .wide .ensures .0)
+          (number-ends (a .elements .now) (a .e) (p .5) (at .low) _ fits) (at .inv .2) (c .meet-ends .ensures .0) (c .meet-ends .ensures .1),
+    )
+
+sub-result : tie.Need-sub-result Inv-loop μ-loop
+sub-result c = c .before .before .before .before .pre .0
+
+returns-2 : tie.Need-returns-2 Inv-loop μ-loop
+returns-2 c =
+    let a = c .before .before .before .before .args in
+    let p = c .before .before .before .before .pre in
+    let at = c .before .loop in
+    let e : at .i ≡ a .to = omega (arith, at .inv .1, c .loop-test .left) in (
+      few-end (a .elements .now) (a .from) (a .to) (a .e) (p .2) (at .met) (at .twice) (at .i) (stampOf (a .e)) (at .inv .4) e (p .5)
+          (fits-end (a .elements .now) (a .to) (a .e) 2 (p .2) (at .low) (at .i) (at .inv .3) (c .loop-test .left)),
+      λ t. unmet-above (stampOf (a .e) + 2) (stampOf (a .e + 1)) (at .met) (omega arith) (round-out _ _ (stampOf (a .e)) (at .met) _ _ (at .inv .4)),
+    )
+
+pub few-fits-spec : {M : Type 1} → statement M
+few-fits-spec =
+    tie.close
+    (tie.spec
+    Inv-loop
+    μ-loop
+    stamp-of-requires
+    loop-holds
+    mul-wide
+    shared-slice-read-wide
+    wide-requires
+    number-fits-requires
+    returns
+    meet-ends-requires
+    add-twice
+    add-low
+    add-i
+    loop-less
+    loop-again
+    sub-result
+    returns-2)
