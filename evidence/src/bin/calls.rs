@@ -1,13 +1,16 @@
-//! `calls N SEED`: N calls of every entry point, on random, damaged and strange memory, by the engine and by the model. The
-//! reply and every word of the memory and of the list room afterwards are compared; the first difference is shown.
+//! `calls N SEED [--bytes]`: N calls of every entry point, on random, damaged and strange memory, by the engine and by the model.
+//! The reply and every word of the memory and of the list room afterwards are compared; the first difference is shown. With
+//! --bytes each call is written to standard output with what the engine made of it, for another engine; words go to the other.
 
 use evidence::arguments;
+use evidence::bytes::{self, Calls};
 use evidence::call::Call;
 use evidence::memories::{self, Kind};
 use evidence::model::memory::{Lent, Memory};
 use evidence::model::table::Table;
 use evidence::random::Random;
 use std::collections::BTreeMap;
+use std::io::{self, BufWriter, Stdout};
 use std::process::ExitCode;
 
 /// Each outcome that document 01 names for an entry point, which a run has to meet.
@@ -44,7 +47,11 @@ const OUTCOMES: [(&str, &[&str]); 9] = [
     ("has_primordial_facet", &["yes", "no", "refused 3", "refused 4", "refused 6"]),
 ];
 
-type Met = BTreeMap<(&'static str, String), u64>;
+/// How often each outcome was met, and where the calls are written, if they are.
+struct Run {
+    met: BTreeMap<(&'static str, String), u64>,
+    written: Option<Calls<BufWriter<Stdout>>>,
+}
 
 /// The same memory, lent to the model and to the engine.
 struct Pair {
@@ -67,26 +74,36 @@ impl Pair {
 }
 
 fn main() -> ExitCode {
-    let numbers: Vec<u64> = std::env::args().skip(1).filter_map(|word| word.parse().ok()).collect();
-    let (n, seed) = match numbers[..] {
-        [n, seed] => (n, seed),
+    let words: Vec<String> = std::env::args().skip(1).collect();
+    let (numbers, others): (Vec<_>, Vec<_>) = words.iter().partition(|word| word.parse::<u64>().is_ok());
+    let is_written = others == ["--bytes"];
+    let (n, seed) = match numbers.iter().filter_map(|word| word.parse().ok()).collect::<Vec<u64>>()[..] {
+        [n, seed] if is_written || others.is_empty() => (n, seed),
         _ => {
-            eprintln!("calls N SEED");
+            eprintln!("calls N SEED [--bytes]");
             return ExitCode::from(2);
         }
     };
-    let mut met = Met::new();
-    match compare(n, seed, &mut met) {
-        Ok(()) => report(n, &met),
-        Err(difference) => {
-            println!("seed {seed}, {difference}");
-            ExitCode::FAILURE
-        }
+    let written = is_written.then(|| Calls::new(BufWriter::with_capacity(1 << 20, io::stdout())));
+    let mut run = Run { met: BTreeMap::new(), written };
+    let (says, is_whole) = match compare(n, seed, &mut run) {
+        Ok(()) => report(n, &run),
+        Err(difference) => (format!("seed {seed}, {difference}\n"), false),
+    };
+    if is_written {
+        eprint!("{says}");
+    } else {
+        print!("{says}");
+    }
+    if is_whole {
+        ExitCode::SUCCESS
+    } else {
+        ExitCode::FAILURE
     }
 }
 
 /// Each step is one call of every entry point on one memory; a memory stands for some steps.
-fn compare(n: u64, seed: u64, met: &mut Met) -> Result<(), String> {
+fn compare(n: u64, seed: u64, run: &mut Run) -> Result<(), String> {
     let mut r = Random::new(seed);
     let (mut pair, mut left) = (Pair::new(Memory::clear()), 0);
     for step in 0..n {
@@ -98,9 +115,9 @@ fn compare(n: u64, seed: u64, met: &mut Met) -> Result<(), String> {
         left -= 1;
         let mut damaged = if r.one_in(4) { damaged_copy(&mut r, &pair) } else { None };
         let stand = damaged.as_mut().unwrap_or(&mut pair);
-        compare_step(&mut r, stand, met).map_err(|difference| format!("step {step}: {difference}"))?;
+        compare_step(&mut r, stand, run).map_err(|difference| format!("step {step}: {difference}"))?;
     }
-    Ok(())
+    run.written.as_mut().map_or(Ok(()), Calls::end).map_err(not_written)
 }
 
 /// Few sessions go on until a room is full, for the cost grows with the table.
@@ -119,14 +136,14 @@ fn damaged_copy(r: &mut Random, pair: &Pair) -> Option<Pair> {
 }
 
 /// Questions are asked of the table that the cut leaves; the cube takes a copy away.
-fn compare_step(r: &mut Random, pair: &mut Pair, met: &mut Met) -> Result<(), String> {
+fn compare_step(r: &mut Random, pair: &mut Pair, run: &mut Run) -> Result<(), String> {
     let cut = arguments::cut(r, pair.table());
-    compare_call(&cut, pair, &[], met)?;
+    compare_call(&cut, pair, &[], run)?;
     for call in arguments::questions(r, pair.table()) {
         let room = list_room(r, &call, &mut pair.model);
-        compare_call(&call, pair, &room, met)?;
+        compare_call(&call, pair, &room, run)?;
     }
-    compare_call(&arguments::cube(r), &mut pair.copy(), &[], met)
+    compare_call(&arguments::cube(r), &mut pair.copy(), &[], run)
 }
 
 /// Old words, and none, too few, enough or more of them than the list has.
@@ -137,14 +154,17 @@ fn list_room(r: &mut Random, call: &Call, lent: &mut Lent) -> Vec<u16> {
     (0..length).map(|_| r.word() as u16).collect()
 }
 
-fn compare_call(call: &Call, pair: &mut Pair, room: &[u16], met: &mut Met) -> Result<(), String> {
+fn compare_call(call: &Call, pair: &mut Pair, room: &[u16], run: &mut Run) -> Result<(), String> {
     let before = pair.engine.clone();
     let (mut model_room, mut engine_room) = (room.to_vec(), room.to_vec());
     let by_model = call.by_model(&mut pair.model, &mut model_room);
     let by_engine = call.by_engine(&mut pair.engine, &mut engine_room);
     if by_model == by_engine && model_room == engine_room && pair.engine.is_same(pair.model.memory()) {
-        *met.entry((call.name(), call.outcome(by_model))).or_default() += 1;
-        return Ok(());
+        *run.met.entry((call.name(), call.outcome(by_model))).or_default() += 1;
+        let Some(written) = &mut run.written else { return Ok(()) };
+        let [before, after] =
+            [(&before, room), (&pair.engine, &engine_room)].map(|(memory, room)| bytes::Lent { memory, room });
+        return written.call(call, before, by_engine, after).map_err(not_written);
     }
     let rooms = format!("list room {room:x?}, by the model {model_room:x?}, by the engine {engine_room:x?}");
     let memories = [before.shown(), pair.model.memory().shown(), pair.engine.shown()];
@@ -155,27 +175,27 @@ fn compare_call(call: &Call, pair: &mut Pair, room: &[u16], met: &mut Met) -> Re
     ))
 }
 
+fn not_written(error: io::Error) -> String {
+    format!("not written: {error}")
+}
+
 /// How often each outcome was met. One that was never met makes the run fail.
-fn report(n: u64, met: &Met) -> ExitCode {
-    let mut is_whole = true;
+fn report(n: u64, run: &Run) -> (String, bool) {
+    let (mut says, mut is_whole) = (String::new(), true);
     for (name, outcomes) in OUTCOMES {
-        println!("{name}");
+        says += &format!("{name}\n");
         for outcome in outcomes {
-            let times = met.get(&(name, outcome.to_string())).copied().unwrap_or(0);
-            println!("{times:>12}  {outcome}{}", if times == 0 { "  NEVER MET" } else { "" });
+            let times = run.met.get(&(name, outcome.to_string())).copied().unwrap_or(0);
+            says += &format!("{times:>12}  {outcome}{}\n", if times == 0 { "  NEVER MET" } else { "" });
             is_whole &= times > 0;
         }
     }
     let named =
         |(name, outcome): &(&str, String)| OUTCOMES.iter().any(|row| row.0 == *name && row.1.contains(&&**outcome));
-    for unnamed in met.keys().filter(|key| !named(key)) {
-        println!("{unnamed:?}  NOT NAMED FOR IT");
+    for unnamed in run.met.keys().filter(|key| !named(key)) {
+        says += &format!("{unnamed:?}  NOT NAMED FOR IT\n");
         is_whole = false;
     }
-    println!("{n} calls of each of {} entry points, no difference", OUTCOMES.len());
-    if is_whole {
-        ExitCode::SUCCESS
-    } else {
-        ExitCode::FAILURE
-    }
+    says += &format!("{n} calls of each of {} entry points, no difference\n", OUTCOMES.len());
+    (says, is_whole)
 }
