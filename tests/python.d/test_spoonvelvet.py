@@ -168,7 +168,7 @@ class Refusals(Case):
 
     def test_numbers_that_do_not_fit_are_not_wrapped(self):
         t = square()
-        for n in (65_536, 65_544, -1, -65_528, 2**32 + 8, 2**64 + 8):
+        for n in (264, 65_536, 65_544, -1, -65_528, 2**32 + 8, 2**64 + 8):
             for call in (t.subelements_of, t.vertex_set, t.edges_in_order, t.has_primordial_facet):
                 self.refused(4, call, ElementId(n))
             self.refused(4, t.subelements_with_rank, ElementId(n), 1)
@@ -189,6 +189,7 @@ class Refusals(Case):
         for distance in (10**400, -(10**400), 262_145.0, -262_145):
             self.refused(5, square().slice, at_x(distance), SQUARE)
         self.refused(5, square().slice, Hyperplane((10**400, 0), 0), SQUARE)
+        self.assertLess(at_x(-(10**400)).distance, -262_144)
         self.assertEqual(square().slice(at_x(Fraction(1, 2)), SQUARE), parts(16, 17, 15))
 
     def test_past_the_dimension_only_plus_zero_is_taken(self):
