@@ -137,6 +137,9 @@ class Calls(Case):
     def test_there_is_no_table_but_from_a_cube(self):
         self.assertRaises(TypeError, Table)
 
+    def test_a_table_changes_and_so_has_no_hash(self):
+        self.assertRaises(TypeError, hash, square())
+
 
 class Refusals(Case):
     def test_a_refused_call_leaves_the_table(self):

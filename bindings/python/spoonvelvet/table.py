@@ -52,8 +52,6 @@ class Table:
     Two tables are equal when every word and float of theirs has the same bits.
     """
 
-    __hash__ = None  # type: ignore[assignment]
-
     _counts: Any
     _points: Any
     _planes: Any
@@ -228,7 +226,7 @@ class Table:
         return None if number == raw.NONE else HyperplaneId(number)
 
     def is_primordial(self, element: ElementId) -> bool:
-        """Whether it has the primordial mark: a facet of the cube, or what cuts left of one."""
+        """Whether it has the primordial mark: the cube's own facets do, and the entries that a cut adds for a side of one."""
         return self._row(element)[1] == 1
 
     def coordinates_of(self, vertex: VertexId) -> Tuple[float, ...]:

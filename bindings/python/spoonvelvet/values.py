@@ -27,7 +27,7 @@ REFUSALS: Mapping[int, str] = {
 
 
 class Refused(Exception):
-    """A call was refused, and left the table as it came.
+    """A call was refused, and left the table as it came. Its number is 1 to 12, as document 01 has them.
 
     >>> print(Refused(4))
     refused 4: an element number is not in use
@@ -36,7 +36,6 @@ class Refused(Exception):
     def __init__(self, number: int) -> None:
         super().__init__(number)
         self.number = number
-        """1 to 12, as document 01 has them."""
 
     @property
     def words(self) -> str:
