@@ -1,11 +1,11 @@
 //! Calls as bytes, for an engine in another process: each with what it was lent before, and what the archive replied and left.
 //!
-//! Little-endian, floats by their bits:
+//! Little-endian, floats by their bits, lengths in brackets:
 //!
-//!     call      the exported name's length (1) and the name; memory; how many arguments (1), and each; reply (8); memory; words
-//!     memory    0, where it is as the call before left it, or as it came; else 1, and four slices: length (4) and entries
-//!     argument  n and a number (2), f and a float (8), or w and words
-//!     words     length (4) and entries (2 each): as an argument roots or a list room, at the end the list room as it was left
+//! - a call: the exported name's length (1) and the name; memory; how many arguments (1), and each; reply (8); memory; words
+//! - memory: 0 where it is the memory before it, else 1 and four slices, each its length (4) and its entries
+//! - an argument: `n` and a number (2), `f` and a float (8), or `w` and words
+//! - words: their length (4) and the words (2 each); those at the end are the list room as it was left, or none
 
 use crate::call::Call;
 use crate::model::memory::Memory;
