@@ -112,8 +112,8 @@ function replay() {
     counts.set(name, (counts.get(name) ?? 0) + 1);
     const unlike = reply !== wanted ? `reply ${reply}, and the archive's is ${wanted}` : isSame() ? null : firstUnlike();
     if (unlike === null) return true;
-    const shown = given.map(argument => argument.length !== undefined ? `[${argument.length}]` : argument).join(" ");
-    console.log(`call ${counts.get(name)} of ${name} differs: ${unlike}\ncounts ${[...held.subarray(slices[0].at, slices[0].at + 8)]}, given ${shown}`);
+    const shown = given.map(argument => (typeof argument === "number" ? argument : `[${argument.length}]`)).join(" ");
+    console.log(`call ${counts.get(name)} of ${name} differs: ${unlike}\nlent ${slices.map(slice => slice.length).join(" ")}, given ${shown}`);
     return false;
 }
 
