@@ -1,7 +1,9 @@
-//! `calls N SEED`: N calls of every entry point, on random, damaged and strange memory, by the engine and by the model. The
-//! reply and every word of the memory and of the list room afterwards are compared; the first difference is shown.
+//! `calls N SEED [--bytes]`: N calls of every entry point, on random, damaged and strange memory, by the engine and by the model.
+//! The reply and every word of the memory and of the list room afterwards are compared; the first difference is shown. With
+//! --bytes each call is written to standard output with what the engine made of it, for another engine; words go to the other.
 
 use evidence::arguments;
+use evidence::bytes::{self, Calls};
 use evidence::call::Call;
 use evidence::memories;
 use evidence::model::memory::{Lent, Memory};
@@ -9,6 +11,7 @@ use evidence::model::table::Table;
 use evidence::random::Random;
 use evidence::seeded;
 use std::collections::BTreeMap;
+use std::io::{self, BufWriter, Stdout};
 use std::process::ExitCode;
 
 /// Each outcome that document 01 names for an entry point, which a run has to meet.
@@ -45,7 +48,18 @@ const OUTCOMES: [(&str, &[&str]); 9] = [
     ("has_primordial_facet", &["yes", "no", "refused 3", "refused 4", "refused 6"]),
 ];
 
-type Met = BTreeMap<(&'static str, String), u64>;
+/// How often each outcome was met, and where the calls are written, if they are.
+struct Run {
+    met: BTreeMap<(&'static str, String), u64>,
+    written: Option<Calls<BufWriter<Stdout>>>,
+}
+
+impl Default for Run {
+    fn default() -> Self {
+        let written = seeded::is_written().then(|| Calls::new(BufWriter::with_capacity(1 << 20, io::stdout())));
+        Self { met: BTreeMap::new(), written }
+    }
+}
 
 /// The same memory, lent to the model and to the engine.
 struct Pair {
@@ -68,11 +82,11 @@ impl Pair {
 }
 
 fn main() -> ExitCode {
-    seeded::run("calls", compare, report)
+    seeded::run("calls N SEED [--bytes]", compare, report)
 }
 
 /// Each step is one call of every entry point on one memory; a memory stands for some steps.
-fn compare(n: u64, seed: u64, met: &mut Met) -> Result<(), String> {
+fn compare(n: u64, seed: u64, run: &mut Run) -> Result<(), String> {
     let mut r = Random::new(seed);
     let (mut pair, mut left) = (Pair::new(Memory::clear()), 0);
     for step in 0..n {
@@ -84,9 +98,9 @@ fn compare(n: u64, seed: u64, met: &mut Met) -> Result<(), String> {
         left -= 1;
         let mut damaged = if r.one_in(4) { damaged_copy(&mut r, &pair) } else { None };
         let stand = damaged.as_mut().unwrap_or(&mut pair);
-        compare_step(&mut r, stand, met).map_err(|difference| format!("step {step}: {difference}"))?;
+        compare_step(&mut r, stand, run).map_err(|difference| format!("step {step}: {difference}"))?;
     }
-    Ok(())
+    run.written.as_mut().map_or(Ok(()), Calls::end).map_err(not_written)
 }
 
 fn damaged_copy(r: &mut Random, pair: &Pair) -> Option<Pair> {
@@ -96,14 +110,14 @@ fn damaged_copy(r: &mut Random, pair: &Pair) -> Option<Pair> {
 }
 
 /// Questions are asked of the table that the cut leaves; the cube takes a copy away.
-fn compare_step(r: &mut Random, pair: &mut Pair, met: &mut Met) -> Result<(), String> {
+fn compare_step(r: &mut Random, pair: &mut Pair, run: &mut Run) -> Result<(), String> {
     let cut = arguments::cut(r, pair.table());
-    compare_call(&cut, pair, &[], met)?;
+    compare_call(&cut, pair, &[], run)?;
     for call in arguments::questions(r, pair.table()) {
         let room = list_room(r, &call, &mut pair.model);
-        compare_call(&call, pair, &room, met)?;
+        compare_call(&call, pair, &room, run)?;
     }
-    compare_call(&arguments::cube(r), &mut pair.copy(), &[], met)
+    compare_call(&arguments::cube(r), &mut pair.copy(), &[], run)
 }
 
 /// Old words, and none, too few, enough or more of them than the list has.
@@ -114,14 +128,17 @@ fn list_room(r: &mut Random, call: &Call, lent: &mut Lent) -> Vec<u16> {
     (0..length).map(|_| r.word() as u16).collect()
 }
 
-fn compare_call(call: &Call, pair: &mut Pair, room: &[u16], met: &mut Met) -> Result<(), String> {
+fn compare_call(call: &Call, pair: &mut Pair, room: &[u16], run: &mut Run) -> Result<(), String> {
     let before = pair.engine.clone();
     let (mut model_room, mut engine_room) = (room.to_vec(), room.to_vec());
     let by_model = call.by_model(&mut pair.model, &mut model_room);
     let by_engine = call.by_engine(&mut pair.engine, &mut engine_room);
     if by_model == by_engine && model_room == engine_room && pair.engine.is_same(pair.model.memory()) {
-        *met.entry((call.name(), call.outcome(by_model))).or_default() += 1;
-        return Ok(());
+        *run.met.entry((call.name(), call.outcome(by_model))).or_default() += 1;
+        let Some(written) = &mut run.written else { return Ok(()) };
+        let [before, after] =
+            [(&before, room), (&pair.engine, &engine_room)].map(|(memory, room)| bytes::Lent { memory, room });
+        return written.call(call, before, by_engine, after).map_err(not_written);
     }
     let rooms = format!("list room {room:x?}, by the model {model_room:x?}, by the engine {engine_room:x?}");
     let memories = [before.shown(), pair.model.memory().shown(), pair.engine.shown()];
@@ -132,21 +149,25 @@ fn compare_call(call: &Call, pair: &mut Pair, room: &[u16], met: &mut Met) -> Re
     ))
 }
 
+fn not_written(error: io::Error) -> String {
+    format!("not written: {error}")
+}
+
 /// How often each outcome was met. One that was never met makes the run fail.
-fn report(n: u64, met: &Met) -> bool {
+fn report(n: u64, run: &Run) -> bool {
     let mut is_whole = true;
     for (name, outcomes) in OUTCOMES {
-        println!("{name}");
+        seeded::say(name);
         for outcome in outcomes {
-            is_whole &= seeded::is_met(met.get(&(name, outcome.to_string())), outcome);
+            is_whole &= seeded::is_met(run.met.get(&(name, outcome.to_string())), outcome);
         }
     }
     let named =
         |(name, outcome): &(&str, String)| OUTCOMES.iter().any(|row| row.0 == *name && row.1.contains(&&**outcome));
-    for unnamed in met.keys().filter(|key| !named(key)) {
-        println!("{unnamed:?}  NOT NAMED FOR IT");
+    for unnamed in run.met.keys().filter(|key| !named(key)) {
+        seeded::say(&format!("{unnamed:?}  NOT NAMED FOR IT"));
         is_whole = false;
     }
-    println!("{n} calls of each of {} entry points, no difference", OUTCOMES.len());
+    seeded::say(&format!("{n} calls of each of {} entry points, no difference", OUTCOMES.len()));
     is_whole
 }
