@@ -1,0 +1,136 @@
+// The sheet for the mould shop: for each piece its counts, its corners exactly, and each face's walk and plane. Every number is
+// the engine's; what is printed is this sheet and nothing else.
+import { $, tag } from "./dom.js";
+import { picture } from "./drawing.js";
+import { bytesOf, checksum, lineOf, plain } from "./session.js";
+import { AXES, MANY, RANKS, SHAPES, short } from "./words.js";
+
+const NEAR = 6; // digits in which two corners should not look alike
+
+const cells = (numbers, kind = "td") => numbers.map(x => `<${kind} class="exact">${plain(x)}</${kind}>`).join("");
+
+function cornerTable(table, vertices, elements) {
+    const rows = vertices.map(v => `<tr><td>${tag("v", v)}</td>${cells(table.vertex(v))}<td>${tag("E", elements[v])}</td></tr>`);
+    const axes = AXES.slice(0, table.dimension).map(axis => `<th scope="col">${axis}</th>`).join("");
+    return `<table class="corners"><caption>Corners, exactly</caption><thead><tr><th scope="col">vertex</th>${axes}<th scope="col">element</th></tr></thead>
+        <tbody>${rows.join("")}</tbody></table>`;
+}
+
+function planeCells(table, face) {
+    const { hyperplane, primordial } = table.element(face);
+    if (hyperplane === null) return '<td colspan="4">in no hyperplane of the table</td>';
+    const { normal, distance } = table.hyperplane(hyperplane);
+    return `<td>${tag("h", hyperplane)}</td><td class="exact">${normal.map(plain).join(", ")}</td><td class="exact">${plain(distance)}</td><td>${primordial ? "primordial" : "a cut"}</td>`;
+}
+
+// the engine's walk, from its first vertex round to it
+function walkText(table, face) {
+    const { number, list } = table.ask("edgesInOrder", face);
+    if (number !== 0) return `refused ${number}`;
+    const round = list.filter((_, i) => i % 2 === 0);
+    return [...round, round[0]].map(v => tag("v", v)).join(" ");
+}
+
+function faceTable(table, e, rank) {
+    const withPlanes = table.dimension === 3;
+    const faces = rank === 2 ? [e] : table.list("withRank", e, 2);
+    const rows = faces.map(face => `<tr><td>${tag("E", face)}</td><td class="walk">${walkText(table, face)}</td>${withPlanes ? planeCells(table, face) : ""}</tr>`);
+    const heads = withPlanes ? ["face", "walk", "plane", "normal", "distance", "from"] : ["face", "walk"];
+    return `<table class="faces"><caption>${rank === 2 ? "The face" : "Faces"}, each corner by corner</caption>
+        <thead><tr>${heads.map(head => `<th scope="col">${head}</th>`).join("")}</tr></thead><tbody>${rows.join("")}</tbody></table>`;
+}
+
+// in two dimensions an edge has a plane of its own, in four a body has
+function facetTable(table, e) {
+    if (table.dimension !== 2 && table.dimension !== 4) return "";
+    const rows = table.element(e).boundary.map(f => `<tr><td>${tag("E", f)}</td><td class="walk">${table.list("vertexSet", f).map(v => tag("v", v)).join(" ")}</td>${planeCells(table, f)}</tr>`);
+    const name = MANY[table.dimension - 1];
+    return `<table class="facets"><caption>${name[0].toUpperCase()}${name.slice(1)} and their planes</caption><thead><tr><th scope="col">element</th><th scope="col">corners</th>
+        <th scope="col">plane</th><th scope="col">normal</th><th scope="col">distance</th><th scope="col">from</th></tr></thead><tbody>${rows.join("")}</tbody></table>`;
+}
+
+// pairs of corners that look alike in a few digits, for a sliver has to be seen before it is signed
+function slivers(table, vertices) {
+    const seen = new Map();
+    const pairs = [];
+    for (const v of vertices) {
+        const text = table.vertex(v).map(x => Number(short(x, NEAR)) + 0).join();
+        if (seen.has(text)) pairs.push([seen.get(text), v]);
+        else seen.set(text, v);
+    }
+    if (pairs.length === 0) return "";
+    return `<p class="sliver"><strong>Look closely:</strong> in ${NEAR} digits these corners look alike, and they are not: ${pairs.map(([a, b]) => `${tag("v", a)} and ${tag("v", b)}`).join("; ")}. The piece may be a sliver there.</p>`;
+}
+
+function piece(table, shapes, e, corners, look, radius) {
+    const rank = table.rank(e);
+    const vertices = table.list("vertexSet", e);
+    const counts = Array.from({ length: Math.max(rank, 1) }, (_, r) => [MANY[r], table.list("withRank", e, r).length]);
+    const facet = table.ask("hasPrimordialFacet", e);
+    return `<article class="sheetpiece" data-piece="${e}">
+        <header><h3>Piece ${tag("E", e)}</h3><dl class="counts">${counts.map(([name, n]) => `<div><dt>${name}</dt><dd>${n}</dd></div>`).join("")}</dl></header>
+        <div class="front">${cornerTable(table, vertices, corners)}${picture(table, shapes, e, look, radius)}</div>
+        ${slivers(table, vertices)}${rank >= 2 ? faceTable(table, e, rank) : ""}${facetTable(table, e)}
+        <p class="check">${facet.yes ? "It has a primordial facet: part of its surface is the first cube’s." : "It has no primordial facet."}</p>
+    </article>`;
+}
+
+const PROMISE = `<p class="promise"><strong>One crossing, one corner.</strong> The counts on this sheet rest on a proved promise: from a cube, by any cuts, no vertex
+    matches an earlier one. It holds for a table that came from a cube by cuts, and this one did: its session stands below. So no corner
+    is entered twice. Two corners match when every coordinate of theirs is the same within 1/1,048,576.</p>`;
+
+function sheetOf(desk, pieces) {
+    const { live, step, look, radius, history } = desk;
+    const all = history.records();
+    const used = all.slice(desk.cubeStep);
+    const cube = used[0];
+    return `<header class="sheethead"><div><h2>Sheet for the mould shop</h2>
+        <p>${pieces.length} ${pieces.length === 1 ? "piece" : "pieces"}, each a ${RANKS[live.dimension]}, of the ${SHAPES[live.dimension]} of radius ${plain(cube.radius)}.
+        Three numberings, never one for another: ${tag("v")} a vertex, ${tag("E")} an element, ${tag("h")} a hyperplane.</p></div>
+        <dl class="sign"><div><dt>Date</dt><dd></dd></div><div><dt>Signed</dt><dd></dd></div></dl></header>
+        ${PROMISE}${pieces.map(e => piece(live, step.shapes, e, live.cornerElements(), look, radius)).join("") || "<p>No piece is chosen.</p>"}
+        <footer><h3>The session that this sheet comes from</h3>
+        <p class="digest">${all.length} records, checksum <code>${checksum(bytesOf(all))}</code> (CRC-32 of the session’s bytes). The table comes from the last ${used.length}:</p>
+        <pre>${used.map(lineOf).join("\n")}</pre>
+        <p>Coordinates are the shortest decimals that read back as the same numbers, to the last bit.</p></footer>`;
+}
+
+// worked out only when it is in sight or printed; an old sheet is never there to be signed
+const left = new Set();
+let [isOld, isSeen] = [true, false];
+
+function show(desk) {
+    isOld = false;
+    if (!desk.stands) {
+        $("sheet").innerHTML = "<p>There is no table, so there is no sheet.</p>";
+        return $("choice").replaceChildren();
+    }
+    const { pieces } = desk.bench;
+    $("choice").innerHTML = pieces.map(e => `<label><input type="checkbox" data-piece="${e}"${left.has(e) ? "" : " checked"}> ${tag("E", e)}</label>`).join(" ");
+    $("sheet").innerHTML = sheetOf(desk, pieces.filter(e => !left.has(e)));
+}
+
+export const sheet = {
+    wire(desk) {
+        new IntersectionObserver(([{ isIntersecting }]) => {
+            isSeen = isIntersecting;
+            if (isSeen && isOld) show(desk);
+        }, { rootMargin: "200px" }).observe($("sheetpart"));
+        addEventListener("beforeprint", () => isOld && show(desk));
+        $("print").onclick = () => print();
+        $("choice").onchange = ({ target }) => {
+            const e = Number(target.dataset.piece);
+            if (target.checked) left.delete(e);
+            else left.add(e);
+            show(desk);
+            $("choice").querySelector(`[data-piece="${e}"]`).focus();
+        };
+    },
+
+    changed(desk) {
+        isOld = true;
+        if (desk.step?.record.kind === "cube") left.clear();
+        if (isSeen) show(desk);
+        else for (const id of ["sheet", "choice"]) $(id).replaceChildren();
+    },
+};
