@@ -22,7 +22,7 @@ function slots({ record, line, before, after }) {
 }
 
 const place = ({ name, state, says }, i) =>
-    `<div class="place ${KINDS[i]} ${state}"><h3>${name} <span class="state">${STATES[state]}</span></h3><p>${html(says)}</p></div>`;
+    `<div class="place ${KINDS[i]} ${state}"><h3><span class="name">${name}</span> <span class="state">${STATES[state]}</span></h3><p>${html(says)}</p></div>`;
 
 export const answer = {
     changed(desk) {

@@ -47,7 +47,7 @@ function cutFace(scene) {
     const { face, table, pieces, eye } = scene;
     if (face === null || !table.has(face)) return "";
     const isDrawn = eye.dimension === 3 && pieces.some(({ e }) => table.element(e).boundary.includes(face));
-    return `<g class="cutface${isDrawn ? " edgesonly" : ""}">${drawElement(scene, face)}</g>`;
+    return `<g class="cutface${isDrawn ? " edgesonly" : ""}${eye.dimension === 4 ? " thin" : ""}">${drawElement(scene, face)}</g>`;
 }
 
 function pointedVertex(scene, v) {
@@ -75,9 +75,10 @@ function pointedAt(scene) {
 // all that lies between the axes and the arrow; `scene` has what is drawn, and an eye
 export function drawAll(scene) {
     const { arrow, busy } = drawArrow(scene);
+    const { removedSides, removedWords, spots } = drawRemoved(scene);
     return HATCH + `<g class="axes">${scene.eye.flat ? flatAxes(scene.eye) : spaceAxes(scene.eye)}</g>` +
-        drawRemoved(scene) + drawPieces(scene, drawPlane(scene)) + outlines(scene) + cutFace(scene) + pointedAt(scene) +
-        drawLabels(scene, busy) + arrow;
+        removedSides + drawPieces(scene, drawPlane(scene)) + outlines(scene) + cutFace(scene) + pointedAt(scene) +
+        removedWords + drawLabels(scene, [...busy, ...spots]) + arrow;
 }
 
 // one piece by itself, with the numbers of its vertices, for a sheet

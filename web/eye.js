@@ -8,7 +8,7 @@ export class Eye {
     constructor({ dimension, radius, width, height, yaw = 30, pitch = 35, roll = 0, apart = 0, zoom = 1 }) {
         Object.assign(this, { dimension, radius, width, height });
         this.flat = dimension < 3;
-        const share = this.flat ? 0.3 : dimension === 3 ? 0.27 : 0.22;
+        const share = this.flat ? 0.285 : dimension === 3 ? 0.27 : 0.22;
         this.scale = zoom * share * Math.min(width, height) / (radius * (1 + 0.75 * apart));
         const [a, b] = [yaw * DEGREE, pitch * DEGREE];
         const [ca, sa, cb, sb] = [Math.cos(a), Math.sin(a), Math.cos(b), Math.sin(b)];

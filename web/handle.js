@@ -81,5 +81,6 @@ export function drawArrow({ eye, divider }) {
     const reach = circle(f, 16, 'class="catch" data-hand="move"');
     const arrow = `<g class="hand">${shaft}${eye.flat ? side(o, "outside") + side(i, "inside") : ""}` +
         `<path class="tip" d="${path(head)}"/>${turns}${reach}${grip}</g>`;
-    return { arrow, busy: [0, 0.25, 0.5, 0.75, 1].map(k => ({ x: f.x + k * dx, y: f.y + k * dy })) };
+    const taken = eye.flat ? [-0.8, -0.5, 0, 0.4, 0.8, 1.2, 1.6, 2] : [0, 0.25, 0.5, 0.75, 1];
+    return { arrow, busy: taken.map(k => ({ x: f.x + k * dx, y: f.y + k * dy })) };
 }

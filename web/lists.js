@@ -37,7 +37,7 @@ function elementRow(desk, e, isAdded) {
     const isLit = places.length > 0 && !isAdded;
     const old = isLit ? ' <i class="mark old">old entry</i>' : "";
     const what = rank === 0 ? tag("v", vertex) : boundary.map(b => tag("E", b)).join(" ");
-    const where = hyperplane === null ? "" : ` <span class="in">in ${tag("h", hyperplane)}${primordial ? " primordial" : ""}</span>`;
+    const where = hyperplane === null ? "" : ` <span class="in">in ${tag("h", hyperplane)}${primordial ? ' <abbr title="primordial">prim.</abbr>' : ""}</span>`;
     const says = [`element ${e}`, RANKS[rank], rank === 0 ? `vertex ${vertex}` : `boundary elements ${boundary.join(", ")}`,
         ...(hyperplane === null ? [] : [`in hyperplane ${hyperplane}${primordial ? ", primordial" : ""}`]),
         ...places.map(place => `${PLACES[place]} of the answer`), ...(isAdded ? ["added by this record"] : isLit ? ["an old entry"] : [])].join(", ");

@@ -76,14 +76,18 @@ export function drawPieces(scene, plane) {
     return scene.pieces.map(piece => draw(scene, piece)).join("") + plane;
 }
 
-// a removed side is crossed out: its edges broken, in two dimensions hatched, and its word on it
+// a removed side is crossed out: its edges broken, in two dimensions hatched; its words lie on all else
 export function drawRemoved({ eye, removed }) {
-    return removed.map(({ name, edges, loop, middle }) => {
+    const drawn = removed.map(({ edges, loop }) => {
         const area = loop.length ? `<path class="hatched" d="${path(loop.map(p => eye.paper(p)))}"/>` : "";
-        const at = eye.paper(middle);
-        return `<g class="gone">${area}${edges.map(([a, b]) => line(eye.paper(a), eye.paper(b))).join("")}` +
-            text(at.x, at.y + (eye.dimension === 1 ? -14 : 22), `${name}: removed`) + "</g>";
-    }).join("");
+        return `<g class="gone">${area}${edges.map(([a, b]) => line(eye.paper(a), eye.paper(b))).join("")}</g>`;
+    });
+    const spots = removed.map(({ name, middle }, i) => {
+        const { x, y } = eye.paper(middle);
+        return { name, x, y: y + (eye.dimension === 1 ? -18 : eye.flat ? 0 : i * 40 - 20 * (removed.length - 1)) };
+    });
+    const words = spots.map(({ name, x, y }) => text(x, y + 4, `${name}: removed`)).join("");
+    return { removedSides: drawn.join(""), removedWords: `<g class="gone">${words}</g>`, spots };
 }
 
 // ---- one element by itself: chosen, pointed at, or the face of the cut
