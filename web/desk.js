@@ -115,20 +115,21 @@ class Desk {
 
     // a session's bytes in place of the session that is there; gives words for what was bad, or none
     run(bytes, lesson = null) {
-        this.earlier = { history: this.history, lesson: this.lesson };
-        this.history = new History();
-        this.lesson = lesson;
+        const { history, lesson: oldLesson, earlier } = this;
+        Object.assign(this, { history: new History(), lesson, earlier: { history, lesson: oldLesson } });
         this.live.restore(this.blank);
+        let says = "";
         let before = NOTHING;
         for (const { record, reply, line, bad } of turns(this.live, bytes)) {
-            if (bad !== undefined) return this.ran(`${line}: the bytes from ${bad} on are no record.`);
-            this.take(record, reply, line, before);
+            if (bad !== undefined) says = `${line}: the bytes from ${bad} on are no record.`;
+            else this.take(record, reply, line, before);
             before = this.live.sizes;
         }
-        return this.ran("");
-    }
-
-    ran(says) {
+        if (!this.step) {
+            Object.assign(this, { history, lesson: oldLesson, earlier });
+            this.live.restore(this.step?.saved ?? this.blank);
+            return `${says || "There is no record."} The session is as it was.`;
+        }
         this.aimNext();
         return says;
     }

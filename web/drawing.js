@@ -15,7 +15,7 @@ function flatAxes(eye) {
     const parts = [-3, -2, -1, 0, 1, 2, 3].map(i => {
         const k = i * radius / 2;
         const look = i === 0 ? 'class="zero"' : "";
-        const low = at(k, dimension === 1 ? -0.5 * radius : -far), left = at(-far, k);
+        const low = at(k, dimension === 1 ? -0.75 * radius : -far), left = at(-far, k);
         const numbers = i % 2 === 0 ? text(low.x, low.y + 14, k) + (dimension === 2 ? text(left.x - 12, left.y + 4, k) : "") : "";
         if (dimension === 1) return line(at(k, -0.5 * radius), at(k, 0.5 * radius), look) + numbers;
         return line(at(k, -far), at(k, far), look) + line(at(-far, k), at(far, k), look) + numbers;

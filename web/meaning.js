@@ -13,11 +13,11 @@ function touched(copy, record) {
     return copy.list("vertexSet", record.root).filter(v => ask(copy, { ...record, root: corners[v] }).flush);
 }
 
-// "the plane misses it", or at which corners it touches it
-function missing(copy, record) {
+// that the plane misses it, or at which corners it touches it
+function missing(copy, record, what) {
     const on = touched(copy, record);
-    if (on.length === 0) return "misses";
-    return `only touches, at ${on.slice(0, 4).map(v => `[v${v}]`).join(", ")}${on.length > 4 ? " and more" : ""},`;
+    if (on.length === 0) return `The plane misses ${what}`;
+    return `The plane touches ${what} only at ${on.slice(0, 4).map(v => `[v${v}]`).join(", ")}${on.length > 4 ? " and more" : ""}`;
 }
 
 function side(name, { record, reply, before, copy }) {
@@ -28,7 +28,7 @@ function side(name, { record, reply, before, copy }) {
     if (e === record.root) {
         const always = Math.abs(record.distance) === Infinity ? "at an infinite distance the root is given whole" : "a corner is given on its side";
         if (!isKept) return { e, state: "old", says: `${E(e)} itself, though this side is not kept: ${always}.` };
-        return { e, state: "old", says: `${E(e)} itself: the plane ${missing(copy, record)} it. The answer is its old entry, no copy.` };
+        return { e, state: "old", says: `${E(e)} itself. ${missing(copy, record, "it")}, so the answer is its old entry, no copy.` };
     }
     const isOld = e < before.elements;
     return { e, state: isOld ? "old" : "new", says: isOld ? `${E(e)}, an entry that was there already.` : `${E(e)}, a new entry.` };
@@ -100,5 +100,5 @@ export function briefly({ record, reply, before, after, copy }) {
         : "Would add nothing.";
     const isMissed = reply.face === null && (reply.inside === record.root || reply.outside === record.root) && copy.rank(record.root) > 0;
     if (!isMissed || Math.abs(record.distance) === Infinity) return adds;
-    return `The plane ${missing(copy, record)} ${E(record.root)}, which is its old entry. ${adds}`;
+    return `${missing(copy, record, E(record.root))}, so the answer is its old entry. ${adds}`;
 }

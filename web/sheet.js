@@ -3,9 +3,9 @@
 import { $, tag } from "./dom.js";
 import { picture } from "./drawing.js";
 import { bytesOf, checksum, lineOf, plain } from "./session.js";
-import { AXES, MANY, RANKS, SHAPES, short } from "./words.js";
+import { AXES, MANY, RANKS, SHAPES } from "./words.js";
 
-const NEAR = 6; // digits in which two corners should not look alike
+const NEAR = 1e-4; // of the radius: nearer than this, two corners look alike in a few digits
 
 const cells = (numbers, kind = "td") => numbers.map(x => `<${kind} class="exact">${plain(x)}</${kind}>`).join("");
 
@@ -49,17 +49,15 @@ function facetTable(table, e) {
         <th scope="col">plane</th><th scope="col">normal</th><th scope="col">distance</th><th scope="col">from</th></tr></thead><tbody>${rows.join("")}</tbody></table>`;
 }
 
-// pairs of corners that look alike in a few digits, for a sliver has to be seen before it is signed
-function slivers(table, vertices) {
-    const seen = new Map();
-    const pairs = [];
-    for (const v of vertices) {
-        const text = table.vertex(v).map(x => Number(short(x, NEAR)) + 0).join();
-        if (seen.has(text)) pairs.push([seen.get(text), v]);
-        else seen.set(text, v);
-    }
+// two corners that look alike in a few digits are told, for a sliver has to be seen before a sheet is signed
+function slivers(table, vertices, radius) {
+    const points = vertices.map(v => table.vertex(v));
+    const isNear = (p, q) => p.every((x, i) => Math.abs(x - q[i]) < NEAR * radius);
+    const pairs = points.flatMap((p, i) => points.slice(i + 1).flatMap((q, k) => (isNear(p, q) ? [[vertices[i], vertices[i + 1 + k]]] : [])));
     if (pairs.length === 0) return "";
-    return `<p class="sliver"><strong>Look closely:</strong> in ${NEAR} digits these corners look alike, and they are not: ${pairs.map(([a, b]) => `${tag("v", a)} and ${tag("v", b)}`).join("; ")}. The piece may be a sliver there.</p>`;
+    const some = pairs.slice(0, 8).map(([a, b]) => `${tag("v", a)} and ${tag("v", b)}`).join("; ");
+    const more = pairs.length > 8 ? `; and ${pairs.length - 8} pairs more` : "";
+    return `<p class="sliver"><strong>Look closely:</strong> these corners look alike in a few digits, and are two: ${some}${more}. The piece is a sliver there.</p>`;
 }
 
 function piece(table, shapes, e, corners, look, radius) {
@@ -70,7 +68,7 @@ function piece(table, shapes, e, corners, look, radius) {
     return `<article class="sheetpiece" data-piece="${e}">
         <header><h3>Piece ${tag("E", e)}</h3><dl class="counts">${counts.map(([name, n]) => `<div><dt>${name}</dt><dd>${n}</dd></div>`).join("")}</dl></header>
         <div class="front">${cornerTable(table, vertices, corners)}${picture(table, shapes, e, look, radius)}</div>
-        ${slivers(table, vertices)}${rank >= 2 ? faceTable(table, e, rank) : ""}${facetTable(table, e)}
+        ${slivers(table, vertices, radius)}${rank >= 2 ? faceTable(table, e, rank) : ""}${facetTable(table, e)}
         <p class="check">${facet.yes ? "It has a primordial facet: part of its surface is the first cube’s." : "It has no primordial facet."}</p>
     </article>`;
 }

@@ -6,7 +6,7 @@ import { sceneOf, sceneWords } from "./scene.js";
 import { describe } from "./words.js";
 
 const HINT = "Point at something in the drawing or in the lists.";
-const NEXT = { 4: "Four dimensions: above, the edges of all pieces; what lies far on w is small. Below, each facet by itself, in its own three dimensions." };
+const FOUR = "Above: the edges of all pieces, small where they lie far on w. Below: each facet in its own three dimensions.";
 
 let scene = null;
 
@@ -31,7 +31,7 @@ function sayPointed(desk) {
     const isSoon = list === "e" && n >= desk.live.sizes.elements;
     $("pointed").innerHTML = n < size
         ? html(describe(table, desk.pointed) + (isSoon ? " It would be added by this cut." : ""))
-        : html(NEXT[desk.live.dimension] ?? HINT);
+        : html(desk.live.dimension === 4 ? FOUR : HINT);
 }
 
 export const view = {
