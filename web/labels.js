@@ -2,7 +2,6 @@
 import { circle, tag } from "./svg.js";
 
 const TRIED = [[0, 0], [0, -30], [0, 30], [-46, 0], [46, 0], [0, -56], [0, 56]];
-const MANY = 9; // of more pieces the vertices have no numbers, for they would hide the drawing
 
 function away(p, from, k) {
     const [dx, dy] = [p.x - from.x, p.y - from.y];
@@ -66,11 +65,11 @@ function elementTags({ eye, table, shapes }, shown, places) {
 }
 
 export function drawLabels(scene, busy) {
-    const { pieces, numbers, extra, shifts } = scene;
+    const { pieces, numbers, extra, shifts, isMany } = scene;
     const shown = [...pieces.map(({ e }) => ({ e, shift: shifts.get(e) })), ...extra.map(e => ({ e, shift: null }))];
     const places = new Places(busy);
     const withPieces = ["both", "pieces", "all"].includes(numbers);
-    const withVertices = ["both", "vertices"].includes(numbers) && shown.length <= MANY;
+    const withVertices = ["both", "vertices"].includes(numbers) && !isMany;
     return `<g class="dots">${dots(scene, shown)}</g>` +
         (withPieces ? pieceTags(scene, shown, places) : "") +
         (withVertices ? vertexTags(scene, shown, places) : "") +

@@ -29,8 +29,8 @@ function flatPiece(scene, piece) {
         edges.map(edge => edgeLine(scene, edge, shift, `class="edge" data-e="${edge}" data-pick="${e}"`)).join(""));
 }
 
-// an element of rank 3 in its own space; `body` is the piece that it stands for
-export function solid({ shapes, eye, face: cutFace = null }, piece, shift = null) {
+// an element of rank 3 in its own space; `body` is the piece that it stands for. Of many, what is hidden is left out
+export function solid({ shapes, eye, face: cutFace = null, isMany = false }, piece, shift = null) {
     const { e, body = e } = piece;
     const { faces, edges, ends } = shapes.hull(e);
     const light = unit(along(along(eye.towards, eye.up, 0.7), eye.right, -0.35));
@@ -46,8 +46,9 @@ export function solid({ shapes, eye, face: cutFace = null }, piece, shift = null
         const [a, b] = ends.get(edge).map(p => eye.paper(p, shift));
         return line(a, b, `class="edge${isSeen(faces) ? "" : " hidden"}" data-e="${edge}" data-pick="${body}"`);
     };
-    const [back, near] = [faces.filter(({ face }) => !front.has(face)), faces.filter(({ face }) => front.has(face))];
-    const [hidden, seen] = [[...edges].filter(([, on]) => !isSeen(on)), [...edges].filter(([, on]) => isSeen(on))];
+    const back = isMany ? [] : faces.filter(({ face }) => !front.has(face));
+    const hidden = isMany ? [] : [...edges].filter(([, on]) => !isSeen(on));
+    const [near, seen] = [faces.filter(({ face }) => front.has(face)), [...edges].filter(([, on]) => isSeen(on))];
     return group(piece, back.map(drawn).join("") + hidden.map(drawnEdge).join("") + near.map(drawn).join("") + seen.map(drawnEdge).join(""));
 }
 

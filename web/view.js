@@ -9,10 +9,11 @@ const HINT = "Point at something in the drawing or in the lists.";
 const FOUR = "Above: the edges of all pieces, small where they lie far on w. Below: each facet in its own three dimensions.";
 
 let scene = null;
+let room = { width: 0, height: 0 }; // as it was told, for asking the page would lay it out once more in each frame
 
 function draw(desk) {
     const svg = $("drawing");
-    const { clientWidth: width, clientHeight: height } = svg;
+    const { width, height } = room;
     if (!desk.stands || width === 0 || height === 0) {
         scene = null;
         svg.replaceChildren();
@@ -37,7 +38,10 @@ function sayPointed(desk) {
 export const view = {
     wire(desk) {
         holdDrawing($("drawing"), desk, () => scene);
-        new ResizeObserver(() => draw(desk)).observe($("drawing"));
+        new ResizeObserver(([{ contentRect }]) => {
+            room = contentRect;
+            draw(desk);
+        }).observe($("drawing"));
         $("numbers").onchange = event => desk.lookFrom({ numbers: event.target.value });
         $("apart").oninput = event => desk.lookFrom({ apart: Number(event.target.value) });
         $("front").onclick = () => desk.resetView();

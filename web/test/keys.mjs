@@ -40,7 +40,7 @@ export async function checkKeys(checks, hands) {
     for (let i = 0; i < 3; i++) await page.key("ArrowLeft");
     await page.key("ArrowUp");
     checks.same("turned and moved", await hands.run("[document.querySelector('[data-angle]').value, desk.aim.distance]"), ["45", 0.05]);
-    await page.until("document.querySelector('#said').textContent.includes('would print cut')", 3000).catch(() => {});
+    await page.until("document.querySelector('#said').textContent.includes('distance 0.05')", 3000).catch(() => {});
     checks.holds("said once it rests", (await hands.text("#said")).includes("distance 0.05, keep both: would print cut"));
     await page.key("Enter");
     checks.holds("cut", (await hands.line()).startsWith("cut "));

@@ -1,4 +1,4 @@
-// The page in a real browser: node web/test/page.mjs CHROMIUM, from the project's folder, after web/serve --build.
+// The page in a real browser: node web/test/page.mjs CHROMIUM [PART ..], from the project's folder, after web/serve --build.
 import { mkdtempSync, rmSync } from "node:fs";
 import { tmpdir } from "node:os";
 import { join } from "node:path";
@@ -14,19 +14,21 @@ import { checkSessions, checkSheet } from "./session.mjs";
 
 const PARTS = [checkLesson, checkWords, checkCuts, checkHand, checkDimensions, checkRefusals, checkKeys, checkNames, checkSessions, checkSheet, checkLooks, checkDrag];
 
+const [program, ...parts] = process.argv.slice(2);
+const isAsked = part => parts.length === 0 || parts.includes(part.name);
 const checks = new Checks();
 const files = mkdtempSync(join(tmpdir(), "desk-files-"));
 const { server, url } = await serve("target/web");
-const chromium = await browser(process.argv[2]);
+const chromium = await browser(program);
 try {
     const page = await chromium.page(url);
     const hands = new Hands(page, files);
     checks.same("it begins with a square", await hands.line(), "cube 9 4 4");
-    for (const part of PARTS)
+    for (const part of PARTS.filter(isAsked))
         await part(checks, hands).catch(error => checks.same(`${part.name} stopped`, error.message, ""));
     checks.same("nothing but the page's own files was asked for", page.requests.filter(asked => !asked.startsWith(url) && !/^(blob|data):/.test(asked)), []);
     checks.same("no errors", page.errors, []);
-    await checkBroken(checks, chromium).catch(error => checks.same("checkBroken stopped", error.message, ""));
+    if (isAsked(checkBroken)) await checkBroken(checks, chromium).catch(error => checks.same("checkBroken stopped", error.message, ""));
 } finally {
     await chromium.close();
     server.close();
