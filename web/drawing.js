@@ -75,7 +75,7 @@ function pointedAt(scene) {
 // all that lies between the axes and the arrow; `scene` has what is drawn, and an eye
 export function drawAll(scene) {
     const { arrow, busy } = drawArrow(scene);
-    const { removedSides, removedWords, spots } = drawRemoved(scene);
+    const { removedSides, removedWords, spots } = drawRemoved(scene, busy);
     return HATCH + `<g class="axes">${scene.eye.flat ? flatAxes(scene.eye) : spaceAxes(scene.eye)}</g>` +
         removedSides + drawPieces(scene, drawPlane(scene)) + outlines(scene) + cutFace(scene) + pointedAt(scene) +
         removedWords + drawLabels(scene, [...busy, ...spots]) + arrow;

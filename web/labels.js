@@ -2,11 +2,12 @@
 import { circle, tag } from "./svg.js";
 
 const TRIED = [[0, 0], [0, -30], [0, 30], [-46, 0], [46, 0], [0, -56], [0, 56]];
+const AROUND = [[17, 0], [19, 1], [19, -1], [34, 0], [18, Math.PI], [24, 2], [24, -2]];
 
-function away(p, from, k) {
-    const [dx, dy] = [p.x - from.x, p.y - from.y];
-    const long = Math.hypot(dx, dy);
-    return long < 1e-6 ? { x: p.x, y: p.y + k } : { x: p.x + k * dx / long, y: p.y + k * dy / long };
+// beside a point, away from another, or turned from that by an angle
+function away(p, from, k, turn = 0) {
+    const angle = turn + (Math.hypot(p.x - from.x, p.y - from.y) < 1e-6 ? Math.PI / 2 : Math.atan2(p.y - from.y, p.x - from.x));
+    return { x: p.x + k * Math.cos(angle), y: p.y + k * Math.sin(angle) };
 }
 
 class Places {
@@ -49,8 +50,8 @@ function vertexTags({ eye, table, shapes, apart }, shown, places) {
         return shapes.vertices(e).map(v => {
             const p = eye.paper(table.vertex(v), shift);
             if (eye.dimension === 1) return places.take({ x: p.x, y: p.y + 22 }, 26) ? tag("v", v, { x: p.x, y: p.y + 22 }) : "";
-            const at = [17, 34, -17].map(k => away(p, inner, k)).find(q => places.isClear(q, 20)) ?? away(p, inner, 17);
-            return places.take(at, 26) ? tag("v", v, at) : "";
+            const at = AROUND.map(([k, turn]) => away(p, inner, k, turn)).find(q => places.isClear(q, 20) && places.take(q, 26));
+            return at ? tag("v", v, at) : "";
         }).join("");
     }).join("");
 }

@@ -78,15 +78,18 @@ export function drawPieces(scene, plane) {
 }
 
 // a removed side is crossed out: its edges broken, in two dimensions hatched; its words lie on all else
-export function drawRemoved({ eye, removed }) {
+export function drawRemoved({ eye, removed }, busy) {
     const drawn = removed.map(({ edges, loop }) => {
         const area = loop.length ? `<path class="hatched" d="${path(loop.map(p => eye.paper(p)))}"/>` : "";
         return `<g class="gone">${area}${edges.map(([a, b]) => line(eye.paper(a), eye.paper(b))).join("")}</g>`;
     });
-    const spots = removed.map(({ name, middle }, i) => {
+    const isClear = (x, y, others) => others.every(p => Math.abs(p.x - x) > 62 || Math.abs(p.y - y) > 20);
+    const spots = [];
+    for (const { name, middle } of removed) {
         const { x, y } = eye.paper(middle);
-        return { name, x, y: y + (eye.dimension === 1 ? -18 : eye.flat ? 0 : i * 40 - 20 * (removed.length - 1)) };
-    });
+        const raise = (eye.dimension === 1 ? [-18] : [0, 34, -34, 60, -60]).find(k => isClear(x, y + k, [...busy, ...spots])) ?? 0;
+        spots.push({ name, x, y: y + raise });
+    }
     const words = spots.map(({ name, x, y }) => text(x, y + 4, `${name}: removed`)).join("");
     return { removedSides: drawn.join(""), removedWords: `<g class="gone">${words}</g>`, spots };
 }

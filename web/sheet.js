@@ -3,7 +3,7 @@
 import { $, tag } from "./dom.js";
 import { picture } from "./drawing.js";
 import { bytesOf, checksum, lineOf, plain } from "./session.js";
-import { AXES, MANY, RANKS, SHAPES } from "./words.js";
+import { AXES, MANY, SHAPES } from "./words.js";
 
 const NEAR = 1e-4; // of the radius: nearer than this, two corners look alike in a few digits
 
@@ -83,7 +83,7 @@ function sheetOf(desk, pieces) {
     const used = all.slice(desk.cubeStep);
     const cube = used[0];
     return `<header class="sheethead"><div><h2>Sheet for the mould shop</h2>
-        <p>${pieces.length} ${pieces.length === 1 ? "piece" : "pieces"}, each a ${RANKS[live.dimension]}, of the ${SHAPES[live.dimension]} of radius ${plain(cube.radius)}.
+        <p>${pieces.length} ${pieces.length === 1 ? "piece" : "pieces"} of the ${SHAPES[live.dimension]} of radius ${plain(cube.radius)}.
         Three numberings, never one for another: ${tag("v")} a vertex, ${tag("E")} an element, ${tag("h")} a hyperplane.</p></div>
         <dl class="sign"><div><dt>Date</dt><dd></dd></div><div><dt>Signed</dt><dd></dd></div></dl></header>
         ${PROMISE}${pieces.map(e => piece(live, step.shapes, e, live.cornerElements(), look, radius)).join("") || "<p>No piece is chosen.</p>"}

@@ -48,6 +48,9 @@ export async function checkLooks(checks, hands) {
             await hands.start(dimension);
             await hands.press("#cut");
             checks.same(`${name}, ${dimension} dimensions: nothing is wider than the screen`, await hands.run("document.documentElement.scrollWidth - innerWidth"), 0);
+            const over = await hands.run(`[...document.querySelectorAll(".top, .board, #aim, .answer, .lists > section, .session > div, .sheetpart")].map(part => part.getBoundingClientRect())
+                .filter((a, i, all) => all.some((b, k) => k > i && a.left < b.right - 1 && b.left < a.right - 1 && a.top < b.bottom - 1 && b.top < a.bottom - 1)).length`);
+            checks.same(`${name}, ${dimension} dimensions: no part lies over another`, over, 0);
             checks.holds(`${name}, ${dimension} dimensions: there is a drawing`, await hands.run("document.querySelector('#drawing').clientHeight >= 120"));
         }
     await page.size(1024, 768);
