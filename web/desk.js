@@ -11,18 +11,19 @@ import { axis } from "./plane.js";
 const NOTHING = { elements: 0, vertices: 0, hyperplanes: 0 };
 const VIEW = { yaw: 30, pitch: 35, roll: 25, apart: 0 };
 
-export const loadDesk = async bytes => new Desk(await load(bytes, 3 * TABLE_BYTES));
+export const loadDesk = async (bytes, parts) => new Desk(await load(bytes, 3 * TABLE_BYTES), parts);
 
 class Desk {
-    constructor(engine) {
+    constructor(engine, parts) {
         this.engine = engine;
+        this.parts = parts; // of the lesson
         this.live = new Table(engine); // the table that stands
         this.trial = new Table(engine); // the copy that is cut before a cut is made
         this.aside = new Table(engine); // a copy for what is asked beside an answer
         this.blank = this.live.save();
         this.history = new History();
         this.earlier = null; // the session before this one, and where it was
-        this.lesson = null;
+        this.lesson = null; // which part of it is gone through
         this.aim = { normal: [1, 0], distance: 0, kept: "both", root: 0, aiming: true };
         this.look = { ...VIEW, numbers: "both" };
         this.pointed = null;

@@ -42,7 +42,7 @@ const AIMING = {
 const LOOKING = {
     a: desk => seen(desk, 8, 0), d: desk => seen(desk, -8, 0), w: desk => seen(desk, 0, 8), s: desk => seen(desk, 0, -8),
     q: desk => seen(desk, 0, 0, 8), e: desk => seen(desk, 0, 0, -8),
-    "+": desk => pulled(desk, 0.1), "-": desk => pulled(desk, -0.1),
+    "+": desk => pulled(desk, 0.1), "=": desk => pulled(desk, 0.1), "-": desk => pulled(desk, -0.1),
 };
 
 function inDrawing(event, desk) {

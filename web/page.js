@@ -41,8 +41,8 @@ function wireStart(desk) {
 }
 
 async function begin() {
-    const desk = await loadDesk(await (await fetched("desk.wasm")).arrayBuffer());
-    desk.parts = partsOf(await (await fetched("LESSON.md")).text());
+    const parts = partsOf(await (await fetched("LESSON.md")).text());
+    const desk = await loadDesk(await (await fetched("desk.wasm")).arrayBuffer(), parts);
     desk.panels = PANELS;
     for (const panel of PANELS) panel.wire?.(desk);
     wireStart(desk);
@@ -50,10 +50,17 @@ async function begin() {
     globalThis.desk = Object.assign(desk, { measureDrag: frames => measureDrag(desk, frames) }); // for tests and for the curious
 }
 
+// what went wrong is told, for what stands on the page then may be of another table
+function tellError({ message }) {
+    $("noengine").textContent = message;
+    $("noengine").hidden = false;
+}
+
+addEventListener("error", ({ message }) => tellError({ message: `This went wrong, and what stands here may be old: ${message}` }));
 try {
     await begin();
+    $("noengine").hidden = true;
 } catch (error) {
-    $("noengine").textContent = `The engine could not be loaded, so nothing can be answered: ${error.message}`;
-    $("noengine").hidden = false;
+    tellError({ message: `The engine could not be loaded, so nothing can be answered: ${error.message}` });
 }
 document.documentElement.dataset.ready = "yes";

@@ -4,6 +4,8 @@ import { Eye } from "./eye.js";
 
 const MANY = 9; // of more pieces, hidden edges and the numbers of vertices would hide the drawing
 
+const ROOMY = 260; // pixels; in less, the vertices of four dimensions have no numbers
+
 // the pieces with the cut that is aimed at as if it were made
 function aimed(desk) {
     const { record, reply, removed } = desk.preview;
@@ -40,7 +42,7 @@ export function sceneOf(desk, width, height) {
     const scene = isAnswered(desk) ? aimed(desk) : standing(desk);
     const eye = new Eye({ ...look, dimension: live.dimension, radius: desk.radius, width, height });
     return {
-        ...scene, eye, isMany: scene.pieces.length > MANY, apart: look.apart, numbers: look.numbers, pointed: desk.pointed, aiming: aim.aiming,
+        ...scene, eye, isMany: scene.pieces.length > MANY || (live.dimension === 4 && height < ROOMY), apart: look.apart, numbers: look.numbers, pointed: desk.pointed, aiming: aim.aiming,
         shifts: new Map(scene.pieces.map(({ e }) => [e, scene.shapes.middle(e).map(x => x * look.apart)])),
         extra: scene.pieces.length === 0 && live.has(aim.root) ? [aim.root] : [],
         divider: { normal: aim.normal, distance: aim.distance },

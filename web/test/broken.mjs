@@ -39,6 +39,7 @@ export async function checkBroken(checks, chromium) {
         const { server, url } = await serve("target/web", changed);
         const page = await chromium.page(url);
         const hands = new Hands(page, null);
+        checks.same(`${name}: it is told`, await hands.run("document.querySelector('#noengine').hidden"), false);
         checks.holds(name, (await hands.text("#noengine")).startsWith("The engine could not be loaded, so nothing can be answered"));
         checks.same(`${name}: no answer`, [await hands.text("#line"), await hands.count(".lists li"), await hands.count("#drawing *")], ["", 0, 0]);
         server.close();

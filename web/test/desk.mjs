@@ -42,7 +42,8 @@ export async function checkHand(checks, hands) {
     const { page } = hands;
     await hands.start(2);
     await hands.press("#cut");
-    const long = await hands.run("document.querySelector('.axes line:nth-child(8)') && (() => { const lines = [...document.querySelectorAll('.axes line')].map(line => Number(line.getAttribute('x1'))); return (Math.max(...lines) - Math.min(...lines)) / 3; })()");
+    // the grid goes from -1.5 to 1.5
+    const long = await hands.run("(xs => (Math.max(...xs) - Math.min(...xs)) / 3)([...document.querySelectorAll('.axes line')].map(line => Number(line.getAttribute('x1'))))");
     const foot = await hands.middle(".hand .foot");
     await page.drag(foot, { x: foot.x + 0.487 * long, y: foot.y });
     checks.same("dragged, and settled", await hands.run("[desk.aim.normal, desk.aim.distance]"), [[1, 0], 0.5]);

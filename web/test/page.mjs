@@ -23,7 +23,7 @@ const chromium = await browser(program);
 try {
     const page = await chromium.page(url);
     const hands = new Hands(page, files);
-    checks.same("it begins with a square", await hands.line(), "cube 9 4 4");
+    checks.same("it begins with a square", [await hands.line(), await hands.run("document.querySelector('#noengine').hidden")], ["cube 9 4 4", true]);
     for (const part of PARTS.filter(isAsked))
         await part(checks, hands).catch(error => checks.same(`${part.name} stopped`, error.message, ""));
     checks.same("nothing but the page's own files was asked for", page.requests.filter(asked => !asked.startsWith(url) && !/^(blob|data):/.test(asked)), []);
