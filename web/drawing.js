@@ -8,6 +8,8 @@ import { path, line, circle, text } from "./svg.js";
 const HATCH = '<defs><pattern id="hatch" width="9" height="9" patternUnits="userSpaceOnUse" patternTransform="rotate(45)">' +
     '<line x1="0" y1="0" x2="0" y2="9"/></pattern></defs>';
 
+const PICTURE = 290; // a sheet's picture is drawn about as large as it is shown, so that its numbers can be read
+
 function flatAxes(eye) {
     const { radius, dimension } = eye;
     const at = (x, y) => eye.paper([x, y]);
@@ -83,7 +85,7 @@ export function drawAll(scene) {
 
 // one piece by itself, with the numbers of its vertices, for a sheet
 export function picture(table, shapes, e, look, radius) {
-    const eye = new Eye({ ...look, apart: 0, dimension: table.dimension, radius, width: 420, height: 420 });
+    const eye = new Eye({ ...look, apart: 0, dimension: table.dimension, radius, width: PICTURE, height: PICTURE });
     const scene = { table, shapes, eye, pieces: [{ e, look: "plainpiece" }], shifts: new Map(), extra: [], apart: 0, face: null,
         numbers: "vertices", divider: { normal: Array(table.dimension).fill(0), distance: Infinity } };
     const spots = shapes.corners(e).map(p => eye.paper(p));

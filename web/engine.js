@@ -1,6 +1,6 @@
 // The proved engine, desk.wasm, behind typed numbers. Every reply is the engine's own; nothing here works out geometry.
 
-const NONE = 0xffff;
+export const NONE = 0xffff;
 const LIST_WORDS = 512;
 const CALLS = ["desk_is_sound", "desk_cube", "desk_cut", "desk_subelements_of", "desk_subelements_with_rank", "desk_vertex_set",
     "desk_greatest_common_subelements", "desk_edges_in_order", "desk_has_primordial_facet"];

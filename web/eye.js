@@ -1,5 +1,5 @@
 // From space to paper: x to the right, y down, z towards the eye; one unit of paper is one pixel.
-import { dot, along } from "./plane.js";
+import { along } from "./plane.js";
 
 const DEGREE = Math.PI / 180;
 const FAR = 4; // the eye's place on the fourth axis, in radii
@@ -28,8 +28,9 @@ export class Eye {
     }
 
     paper(p, shift = null) {
-        const q = this.inSpace(shift ? along(p, shift, 1) : p);
-        return { x: this.scale * dot(this.right, q), y: -this.scale * dot(this.up, q) };
+        const [x, y, z] = this.inSpace(shift ? along(p, shift, 1) : p);
+        const { right, up, scale } = this;
+        return { x: scale * (right[0] * x + right[1] * y + right[2] * z), y: -scale * (up[0] * x + up[1] * y + up[2] * z) };
     }
 
     // how a step along a direction of the table looks on paper

@@ -8,7 +8,7 @@ const LISTS = ["elements", "vertices", "hyperplanes"];
 const PLACES = { inside: "inside", outside: "outside", face: "face of the cut" };
 
 // the numbers of each row, short, but never so short that two rows look alike: those get more digits, in the end all
-export function toldApart(rows) {
+function toldApart(rows) {
     const texts = new Map();
     for (const digits of [4, 7, 10, 17]) {
         const alike = new Map();
@@ -78,7 +78,7 @@ function settle() {
     }
 }
 
-function step(list, row, way) {
+function step(row, way) {
     let next = row[way];
     while (next?.classList.contains("parting")) next = next[way];
     if (!next) return;
@@ -90,7 +90,7 @@ function step(list, row, way) {
 function pressed(event, desk) {
     const row = event.target.closest("li");
     const way = { ArrowDown: "nextElementSibling", ArrowUp: "previousElementSibling" }[event.key];
-    if (way) step(row.parentNode, row, way);
+    if (way) step(row, way);
     else if ((event.key === "Enter" || event.key === " ") && row.dataset.e !== undefined) desk.aimAt({ root: Number(row.dataset.e) });
     else return;
     event.preventDefault();
@@ -124,9 +124,10 @@ export const lists = {
     },
 
     aimed({ aim }) {
-        for (const row of $("elements").querySelectorAll("li[data-e]")) {
-            const isChosen = Number(row.dataset.e) === aim.root;
-            if (row.classList.toggle("chosen", isChosen) !== (row.getAttribute("aria-selected") === "true")) row.setAttribute("aria-selected", String(isChosen));
+        const [old, now] = [$("elements").querySelector(".chosen"), $("elements").querySelector(`li[data-e="${aim.root}"]`)];
+        for (const row of [old, now]) {
+            row?.classList.toggle("chosen", row === now);
+            row?.setAttribute("aria-selected", String(row === now));
         }
     },
 

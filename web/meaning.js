@@ -20,26 +20,31 @@ function missing(copy, record, what) {
     return `The plane touches ${what} only at ${on.slice(0, 4).map(v => `[v${v}]`).join(", ")}${on.length > 4 ? " and more" : ""}`;
 }
 
-function side(name, { record, reply, before, copy }) {
+// the root itself is the answer: its old entry
+function itself({ record, copy }, isKept) {
+    const always = Math.abs(record.distance) === Infinity ? "at an infinite distance the root is given whole" : "a corner is given on its side";
+    return isKept
+        ? `${E(record.root)} itself. ${missing(copy, record, "it")}, so the answer is its old entry, no copy.`
+        : `${E(record.root)} itself, though this side is not kept: ${always}.`;
+}
+
+function side(name, answer) {
+    const { record, reply, before } = answer;
     const e = reply[name];
     const isKept = record.kept === "both" || record.kept === name;
     if (e === null && !isKept) return { e, state: "removed", says: "Removed, because this side is not kept. No entry was added for it." };
     if (e === null) return { e, state: "nothing", says: `This side is kept, but nothing of ${E(record.root)} lies there.` };
-    if (e === record.root) {
-        const always = Math.abs(record.distance) === Infinity ? "at an infinite distance the root is given whole" : "a corner is given on its side";
-        if (!isKept) return { e, state: "old", says: `${E(e)} itself, though this side is not kept: ${always}.` };
-        return { e, state: "old", says: `${E(e)} itself. ${missing(copy, record, "it")}, so the answer is its old entry, no copy.` };
-    }
-    const isOld = e < before.elements;
-    return { e, state: isOld ? "old" : "new", says: isOld ? `${E(e)}, an entry that was there already.` : `${E(e)}, a new entry.` };
+    if (e === record.root) return { e, state: "old", says: itself(answer, isKept) };
+    if (e < before.elements) return { e, state: "old", says: `${E(e)}, an entry that was there already.` };
+    return { e, state: "new", says: `${E(e)}, a new entry.` };
 }
 
 function noFace({ record, reply, copy }) {
     const root = E(record.root);
     if (copy.rank(record.root) === 0) return "None: a corner has no face of the cut.";
     if (Math.abs(record.distance) === Infinity) return `None: at an infinite distance the plane misses ${root}.`;
-    if (touched(copy, record).length > 0) return `None: the plane only touches ${root}, at fewer elements than make a face.`;
     if (reply.inside !== null && reply.outside !== null) return "None: the two sides share fewer elements than make a face.";
+    if (touched(copy, record).length > 0) return `None: the plane only touches ${root}, at fewer elements than make a face.`;
     return `None: the plane misses ${root}.`;
 }
 
@@ -51,12 +56,13 @@ function face(answer) {
     const corners = count(table.list("vertexSet", e).length, "corner", "corners");
     const what = rank === 0 ? `the corner at [v${vertex}]` : `${rank === 1 ? "an" : "a"} ${RANKS[rank]} with ${corners}`;
     const isOld = e < before.elements;
-    const also = { both: "", neither: " It is there although both sides are removed." }[record.kept] ?? " It is there although a side is removed.";
-    return { e, state: isOld ? "old" : "new", says: `${E(e)}, ${what}${isOld ? ", an entry that was there already" : ""}: what of ${E(record.root)} lies in the plane.${also}` };
+    const removed = { both: "", neither: " It is there although both sides are removed." }[record.kept] ?? " It is there although a side is removed.";
+    const says = `${E(e)}, ${what}${isOld ? ", an entry that was there already" : ""}: what of ${E(record.root)} lies in the plane.${removed}`;
+    return { e, state: isOld ? "old" : "new", says };
 }
 
 // what was added between two sizes of the table, in a sentence
-export function added(before, after) {
+function added(before, after) {
     const parts = [["E", "elements", "element"], ["v", "vertices", "vertex"], ["h", "hyperplanes", "hyperplane"]]
         .filter(([, list]) => after[list] > before[list])
         .map(([letter, list, one]) => `${count(after[list] - before[list], one, list)}, ${runs(letter, before[list], after[list])}`);

@@ -3,7 +3,6 @@ import { Shapes } from "./shapes.js";
 import { Eye } from "./eye.js";
 
 const MANY = 9; // of more pieces, hidden edges and the numbers of vertices would hide the drawing
-
 const ROOMY = 260; // pixels; in less, the vertices of four dimensions have no numbers
 
 // the pieces with the cut that is aimed at as if it were made
@@ -42,7 +41,8 @@ export function sceneOf(desk, width, height) {
     const scene = isAnswered(desk) ? aimed(desk) : standing(desk);
     const eye = new Eye({ ...look, dimension: live.dimension, radius: desk.radius, width, height });
     return {
-        ...scene, eye, isMany: scene.pieces.length > MANY || (live.dimension === 4 && height < ROOMY), apart: look.apart, numbers: look.numbers, pointed: desk.pointed, aiming: aim.aiming,
+        ...scene, eye, apart: look.apart, numbers: look.numbers, pointed: desk.pointed, aiming: aim.aiming,
+        isMany: scene.pieces.length > MANY || (live.dimension === 4 && height < ROOMY),
         shifts: new Map(scene.pieces.map(({ e }) => [e, scene.shapes.middle(e).map(x => x * look.apart)])),
         extra: scene.pieces.length === 0 && live.has(aim.root) ? [aim.root] : [],
         divider: { normal: aim.normal, distance: aim.distance },

@@ -39,15 +39,16 @@ export class Shapes {
         this.older = older;
         this.upTo = older ? older.size : 0;
         this.size = table.sizes.elements;
-        this.known = new Map();
+        this.known = new Map(); // by kind, then by element
     }
 
     once(kind, e, work) {
         let home = this;
         while (e < home.upTo) home = home.older;
-        const key = `${kind} ${e}`;
-        if (!home.known.has(key)) home.known.set(key, work(home.table));
-        return home.known.get(key);
+        let known = home.known.get(kind);
+        if (!known) home.known.set(kind, known = new Map());
+        if (!known.has(e)) known.set(e, work(home.table));
+        return known.get(e);
     }
 
     vertices(e) {

@@ -7,20 +7,22 @@ import { AXES, MANY, SHAPES } from "./words.js";
 
 const NEAR = 1e-4; // of the radius: nearer than this, two corners look alike in a few digits
 
-const cells = (numbers, kind = "td") => numbers.map(x => `<${kind} class="exact">${plain(x)}</${kind}>`).join("");
+const head = names => `<thead><tr>${names.map(name => `<th scope="col">${name}</th>`).join("")}</tr></thead>`;
+const tags = (letter, numbers) => numbers.map(n => tag(letter, n)).join(" ");
+const PLANE = ["plane", "normal", "distance", "from"];
 
 function cornerTable(table, vertices, elements) {
-    const rows = vertices.map(v => `<tr><td>${tag("v", v)}</td>${cells(table.vertex(v))}<td>${tag("E", elements[v])}</td></tr>`);
-    const axes = AXES.slice(0, table.dimension).map(axis => `<th scope="col">${axis}</th>`).join("");
-    return `<table class="corners"><caption>Corners, exactly</caption><thead><tr><th scope="col">vertex</th>${axes}<th scope="col">element</th></tr></thead>
+    const coordinates = v => table.vertex(v).map(x => `<td class="exact">${plain(x)}</td>`).join("");
+    const rows = vertices.map(v => `<tr><td>${tag("v", v)}</td>${coordinates(v)}<td>${tag("E", elements[v])}</td></tr>`);
+    return `<table class="corners"><caption>Corners, exactly</caption>${head(["vertex", ...AXES.slice(0, table.dimension), "element"])}
         <tbody>${rows.join("")}</tbody></table>`;
 }
 
-function planeCells(table, face) {
-    const { hyperplane, primordial } = table.element(face);
-    if (hyperplane === null) return '<td colspan="4">in no hyperplane of the table</td>';
+function planeCells(table, facet) {
+    const { hyperplane, primordial } = table.element(facet);
     const { normal, distance } = table.hyperplane(hyperplane);
-    return `<td>${tag("h", hyperplane)}</td><td class="exact">${normal.map(plain).join(", ")}</td><td class="exact">${plain(distance)}</td><td>${primordial ? "primordial" : "a cut"}</td>`;
+    return `<td>${tag("h", hyperplane)}</td><td class="exact">${normal.map(plain).join(", ")}</td>` +
+        `<td class="exact">${plain(distance)}</td><td>${primordial ? "primordial" : "a cut"}</td>`;
 }
 
 // the engine's walk, from its first vertex round to it
@@ -28,25 +30,25 @@ function walkText(table, face) {
     const { number, list } = table.ask("edgesInOrder", face);
     if (number !== 0) return `refused ${number}`;
     const round = list.filter((_, i) => i % 2 === 0);
-    return [...round, round[0]].map(v => tag("v", v)).join(" ");
+    return tags("v", [...round, round[0]]);
 }
 
 function faceTable(table, e, rank) {
+    if (rank < 2) return "";
     const withPlanes = table.dimension === 3;
     const faces = rank === 2 ? [e] : table.list("withRank", e, 2);
     const rows = faces.map(face => `<tr><td>${tag("E", face)}</td><td class="walk">${walkText(table, face)}</td>${withPlanes ? planeCells(table, face) : ""}</tr>`);
-    const heads = withPlanes ? ["face", "walk", "plane", "normal", "distance", "from"] : ["face", "walk"];
     return `<table class="faces"><caption>${rank === 2 ? "The face" : "Faces"}, each corner by corner</caption>
-        <thead><tr>${heads.map(head => `<th scope="col">${head}</th>`).join("")}</tr></thead><tbody>${rows.join("")}</tbody></table>`;
+        ${head(["face", "walk", ...(withPlanes ? PLANE : [])])}<tbody>${rows.join("")}</tbody></table>`;
 }
 
-// in two dimensions an edge has a plane of its own, in four a body has
-function facetTable(table, e) {
-    if (table.dimension !== 2 && table.dimension !== 4) return "";
-    const rows = table.element(e).boundary.map(f => `<tr><td>${tag("E", f)}</td><td class="walk">${table.list("vertexSet", f).map(v => tag("v", v)).join(" ")}</td>${planeCells(table, f)}</tr>`);
-    const name = MANY[table.dimension - 1];
-    return `<table class="facets"><caption>${name[0].toUpperCase()}${name.slice(1)} and their planes</caption><thead><tr><th scope="col">element</th><th scope="col">corners</th>
-        <th scope="col">plane</th><th scope="col">normal</th><th scope="col">distance</th><th scope="col">from</th></tr></thead><tbody>${rows.join("")}</tbody></table>`;
+// in two dimensions an edge has a plane, in four a body has; in three it is the face, and stands with its walk
+function facetTable(table, e, rank) {
+    if (rank !== 2 && rank !== 4) return "";
+    const corners = facet => tags("v", table.list("vertexSet", facet));
+    const rows = table.element(e).boundary.map(facet => `<tr><td>${tag("E", facet)}</td><td class="walk">${corners(facet)}</td>${planeCells(table, facet)}</tr>`);
+    return `<table class="facets"><caption>${rank === 2 ? "Edges" : "Bodies"} and their planes</caption>
+        ${head(["element", "corners", ...PLANE])}<tbody>${rows.join("")}</tbody></table>`;
 }
 
 // two corners that look alike in a few digits are told, for a sliver has to be seen before a sheet is signed
@@ -63,12 +65,12 @@ function slivers(table, vertices, radius) {
 function piece(table, shapes, e, corners, look, radius) {
     const rank = table.rank(e);
     const vertices = table.list("vertexSet", e);
-    const counts = Array.from({ length: Math.max(rank, 1) }, (_, r) => [MANY[r], table.list("withRank", e, r).length]);
+    const counts = MANY.slice(0, rank).map((name, r) => `<div><dt>${name}</dt><dd>${table.list("withRank", e, r).length}</dd></div>`);
     const facet = table.ask("hasPrimordialFacet", e);
     return `<article class="sheetpiece" data-piece="${e}">
-        <header><h3>Piece ${tag("E", e)}</h3><dl class="counts">${counts.map(([name, n]) => `<div><dt>${name}</dt><dd>${n}</dd></div>`).join("")}</dl></header>
+        <header><h3>Piece ${tag("E", e)}</h3><dl class="counts">${counts.join("")}</dl></header>
         <div class="front">${cornerTable(table, vertices, corners)}${picture(table, shapes, e, look, radius)}</div>
-        ${slivers(table, vertices, radius)}${rank >= 2 ? faceTable(table, e, rank) : ""}${facetTable(table, e)}
+        ${slivers(table, vertices, radius)}${faceTable(table, e, rank)}${facetTable(table, e, rank)}
         <p class="check">${facet.yes ? "It has a primordial facet: part of its surface is the first cube’s." : "It has no primordial facet."}</p>
     </article>`;
 }

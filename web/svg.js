@@ -1,6 +1,6 @@
 // Texts of SVG: lines, paths and the tags of the three numberings, each with a shape and a letter of its own.
 
-export const n1 = x => x.toFixed(1);
+export const n1 = x => Math.round(10 * x) / 10;
 export const path = points => points.map((p, i) => `${i ? "L" : "M"}${n1(p.x)} ${n1(p.y)}`).join("") + "Z";
 export const line = (a, b, rest = "") => `<line x1="${n1(a.x)}" y1="${n1(a.y)}" x2="${n1(b.x)}" y2="${n1(b.y)}" ${rest}/>`;
 export const circle = (p, r, rest = "") => `<circle cx="${n1(p.x)}" cy="${n1(p.y)}" r="${r}" ${rest}/>`;

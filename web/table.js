@@ -1,8 +1,8 @@
 // A table: room lent to the engine, what is asked of it, and its three lists as they lie there.
+import { NONE } from "./engine.js";
 
 export const ROOM = { dimensions: 4, vertices: 256, elements: 512, hyperplanes: 64, boundary: 32 };
 
-const NONE = 0xffff;
 const ELEMENT_WORDS = 4 + ROOM.boundary;
 const PLANE_FLOATS = 1 + ROOM.dimensions;
 const PARTS = [

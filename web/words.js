@@ -33,8 +33,7 @@ export function runs(letter, from, to) {
 
 // for reading on the page; a sheet and a session have all digits
 export function short(x, digits = 5) {
-    if (!Number.isFinite(x)) return plain(x);
-    if (digits >= 17) return plain(x);
+    if (!Number.isFinite(x) || digits >= 17) return plain(x);
     return Math.abs(x) >= 1e-4 || x === 0 ? plain(Number(x.toPrecision(digits))) : x.toExponential(digits - 2);
 }
 

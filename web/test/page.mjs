@@ -10,9 +10,10 @@ import { Hands } from "./hands.mjs";
 import { checkKeys, checkNames } from "./keys.mjs";
 import { checkLesson, checkWords } from "./lesson.mjs";
 import { checkDrag, checkLooks } from "./looks.mjs";
-import { checkSessions, checkSheet } from "./session.mjs";
+import { checkCutlist, checkSessions, checkSheet } from "./session.mjs";
 
-const PARTS = [checkLesson, checkWords, checkCuts, checkHand, checkDimensions, checkRefusals, checkKeys, checkNames, checkSessions, checkSheet, checkLooks, checkDrag];
+const PARTS = [checkLesson, checkWords, checkCuts, checkHand, checkDimensions, checkRefusals, checkKeys, checkNames, checkSessions, checkCutlist,
+    checkSheet, checkLooks, checkDrag];
 
 const [program, ...parts] = process.argv.slice(2);
 const isAsked = part => parts.length === 0 || parts.includes(part.name);

@@ -1,6 +1,6 @@
 // A session out and in, as bytes and as lines, and the sheet.
 import { execFileSync } from "node:child_process";
-import { readFileSync, readdirSync } from "node:fs";
+import { existsSync, readFileSync, readdirSync } from "node:fs";
 import { join } from "node:path";
 import { blocks } from "./lesson.mjs";
 
@@ -36,6 +36,24 @@ export async function checkSessions(checks, hands) {
     checks.same("no record", await hands.text("#runsays"), "no record: cut some 8 1 0 0. The session is as it was.");
     await hands.press("#history button[data-step='0']");
     checks.same("back to a record", await hands.text("#stepname"), `Record 1 of ${await hands.count("#history li")}`);
+}
+
+// what the page did by hand, cutlist repeats; it is there once it was proved and built
+export async function checkCutlist(checks, hands) {
+    if (!existsSync("target/bin/cutlist")) return console.log("cutlist is not built, so what the page did was not held against it");
+    await hands.start(3);
+    for (const [root, kept, x, y, z, distance] of [[26, "both", "0.6", "0.8", "0", "0.3"], [52, "inside", "0", "0", "1", "-1/3"], [53, "neither", "0", "-0", "1", "0"],
+        [8, "both", "0", "0", "1", "-1"], [600, "both", "1", "0", "0", "0"], [53, "outside", "1", "1", "0", "0"], [53, "both", "1", "0", "0", "inf"]]) {
+        await hands.type("#root", String(root));
+        await hands.press(`input[value="${kept}"]`);
+        for (const [axis, value] of [x, y, z].entries()) await hands.type(`[data-axis="${axis}"]`, value);
+        await hands.type("#distance", distance);
+        await hands.press("#cut");
+    }
+    await hands.press("#addcube");
+    const printed = await hands.printed();
+    checks.same("every kind of line", [...new Set(printed.trim().split("\n").map(line => line.split(" ")[0]))], ["cube", "cut", "flush", "refused"]);
+    checks.same("cutlist repeats what the page did", execFileSync("./cutlist", { input: await hands.download("#savebytes", "desk.session") }).toString(), printed);
 }
 
 export async function checkSheet(checks, hands) {
