@@ -54,8 +54,9 @@ function showPreview({ preview, aim }) {
 // what the fields say, as a change of what is aimed at
 function read(target, desk) {
     const { aim, radius } = desk;
-    if (target.dataset.axis !== undefined) return { normal: aim.normal.map((x, i) => (i === Number(target.dataset.axis) ? number(target.value) : x)) };
-    if (target.dataset.angle !== undefined) return { normal: normalOf([...$("angles").querySelectorAll("input")].map(input => number(input.value))) };
+    const { axis, angle } = target.dataset;
+    if (axis !== undefined) return { normal: aim.normal.map((x, i) => (i === Number(axis) ? number(target.value) : x)) };
+    if (angle !== undefined) return { normal: normalOf([...$("angles").querySelectorAll("input")].map(input => number(input.value))) };
     if (target.id === "distance") return { distance: number(target.value) };
     if (target.id === "slide") return { distance: settleDistance(Number(target.value), radius) };
     if (target.name === "kept") return { kept: target.value };

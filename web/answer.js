@@ -17,12 +17,14 @@ function slots({ record, line, before, after }) {
     if (word === "refused") return slot(numbers[0], "reason", "reason");
     const places = word === "cut" ? numbers.slice(0, 3) : [];
     const counts = numbers.slice(places.length);
+    const more = list => (record.kind === "cut" ? after[list] - before[list] : 0);
     return places.map((n, i) => (n === "-" ? slot(n, "none", PLACES[i]) : slot(n, KINDS[i], PLACES[i], { e: n }))).join("") +
-        counts.map((n, i) => slot(n, `count ${COUNTS[i]}`, COUNTS[i], { more: record.kind === "cut" ? after[COUNTS[i]] - before[COUNTS[i]] : 0 })).join("");
+        counts.map((n, i) => slot(n, `count ${COUNTS[i]}`, COUNTS[i], { more: more(COUNTS[i]) })).join("");
 }
 
 const place = ({ name, state, says }, i) =>
-    `<div class="place ${KINDS[i]} ${state}"><h3><span class="name">${name}</span> <span class="state">${STATES[state]}</span></h3><p>${html(says)}</p></div>`;
+    `<div class="place ${KINDS[i]} ${state}"><h3><span class="name">${name}</span> <span class="state">${STATES[state]}</span></h3>` +
+    `<p>${html(says)}</p></div>`;
 
 export const answer = {
     changed(desk) {

@@ -19,7 +19,8 @@ function parts(desk, facet) {
     return { drawn: [{ e: facet, look: "ghost" }, ...sides], face: reply.face };
 }
 
-function figure(table, shapes, facet, { drawn, face }, look, radius, name) {
+// `name` stands before its number
+function figure({ table, shapes, look, radius }, facet, { drawn, face, name = "" }) {
     const { hyperplane } = table.element(facet);
     const eye = new Eye({ ...look, apart: 0, dimension: 3, radius, width: SIZE, height: SIZE, zoom: 1.05 });
     const basis = shapes.basis(facet);
@@ -27,24 +28,25 @@ function figure(table, shapes, facet, { drawn, face }, look, radius, name) {
     const bodies = drawn.map(({ e, look }) => solid({ shapes, eye, face }, { e, look, body: facet }, shift)).join("");
     const loop = face !== null && table.rank(face) === 2 ? shapes.loop(face).map(v => basis.map(way => dot(way, table.vertex(v)))) : [];
     const cut = loop.length ? `<g class="cutface"><path class="area" d="${path(loop.map(p => eye.paper(p, shift)))}"/></g>` : "";
-    const where = hyperplane === null ? "" : ` in ${tag("h", hyperplane)}`;
-    return `<li data-e="${facet}"><svg class="drawing" viewBox="${-SIZE / 2} ${-SIZE / 2} ${SIZE} ${SIZE}" aria-hidden="true">${bodies}${cut}</svg>` +
-        `<span>${name}${tag("E", facet)}${where}</span></li>`;
+    const box = [-SIZE / 2, -SIZE / 2, SIZE, SIZE].join(" ");
+    return `<li data-e="${facet}"><svg class="drawing" viewBox="${box}" aria-hidden="true">${bodies}${cut}</svg>` +
+        `<span>${name}${tag("E", facet)} in ${tag("h", hyperplane)}</span></li>`;
 }
 
 function draw(desk) {
-    const isShown = desk.live.dimension === 4 && desk.live.isFull(desk.aim.root);
+    const { live, trial, aim, step, look, radius } = desk;
+    const isShown = live.dimension === 4 && live.isFull(aim.root);
     $("facets").hidden = !isShown;
     if (!isShown) return $("facets").replaceChildren();
     const isAimed = isAnswered(desk);
-    const table = isAimed ? desk.trial : desk.live;
-    const facets = table.element(desk.aim.root).boundary;
+    const table = isAimed ? trial : live;
+    const facets = table.element(aim.root).boundary;
     const found = facets.map(facet => (isAimed ? parts(desk, facet) : { drawn: [{ e: facet, look: "plainpiece" }], face: null }));
-    const shapes = isAimed ? new Shapes(table, desk.step.shapes) : desk.step.shapes;
+    const shown = { table, shapes: isAimed ? new Shapes(trial, step.shapes) : step.shapes, look, radius };
     const face = isAimed ? desk.preview.reply.face : null;
     const isBody = face !== null && table.rank(face) === 3 && !facets.includes(face);
-    const first = isBody ? figure(table, shapes, face, { drawn: [{ e: face, look: "flush" }], face: null }, desk.look, desk.radius, "face of the cut ") : "";
-    $("facets").innerHTML = first + facets.map((facet, i) => figure(table, shapes, facet, found[i], desk.look, desk.radius, "")).join("");
+    const first = isBody ? figure(shown, face, { drawn: [{ e: face, look: "flush" }], face: null, name: "face of the cut " }) : "";
+    $("facets").innerHTML = first + facets.map((facet, i) => figure(shown, facet, found[i])).join("");
 }
 
 export const facets = { changed: draw, aimed: draw, looked: draw };

@@ -66,13 +66,14 @@ function everywhere(event, desk) {
 }
 
 // a plane that is moved by keys is said once it rests
-let rest = 0;
-function say(desk) {
-    clearTimeout(rest);
-    if (document.activeElement !== $("drawing")) return;
-    const { aim } = desk;
-    rest = setTimeout(() => ($("said").textContent =
-        `element ${aim.root}, normal ${aim.normal.map(x => rounded(x)).join(", ")}, distance ${aim.distance}, keep ${aim.kept}: would print ${$("wouldline").textContent}`), 400);
+const REST = 400;
+let resting = 0;
+
+function say({ aim, preview }) {
+    clearTimeout(resting);
+    if (document.activeElement !== $("drawing") || !preview) return;
+    const where = `normal ${aim.normal.map(rounded).join(", ")}, distance ${aim.distance}`;
+    resting = setTimeout(() => ($("said").textContent = `element ${aim.root}, ${where}, keep ${aim.kept}: would print ${preview.line}`), REST);
 }
 
 export const keys = {

@@ -8,7 +8,8 @@ export function partsOf(markdown) {
         const title = part.split("\n")[0].trim();
         const block = kind => part.match(new RegExp("^```" + kind + "\\n([^]*?)^```$", "m"))?.[1] ?? null;
         const text = part.slice(part.indexOf("\n")).replace(/^```[^]*?^```$/gm, "").trim();
-        return { title, session: block("session"), lines: block("lines"), paragraphs: text.split(/\n\s*\n/).map(words => words.replace(/\s+/g, " ")) };
+        const paragraphs = text.split(/\n\s*\n/).map(words => words.replace(/\s+/g, " "));
+        return { title, session: block("session"), lines: block("lines"), paragraphs };
     }).filter(({ session }) => session !== null);
 }
 
@@ -29,8 +30,10 @@ function row({ record, line }, i, at) {
 
 export const lesson = {
     wire(desk) {
-        $("lessons").innerHTML = desk.parts.map(({ title }, i) =>
-            `<button type="button" data-lesson="${i}" title="${escaped(title)}" aria-label="Lesson ${i + 1}: ${escaped(title)}">${i + 1}</button>`).join("");
+        $("lessons").innerHTML = desk.parts.map(({ title }, i) => {
+            const name = `Lesson ${i + 1}: ${escaped(title)}`;
+            return `<button type="button" data-lesson="${i}" title="${name}" aria-label="${name}">${i + 1}</button>`;
+        }).join("");
         $("lessons").onclick = event => {
             const button = event.target.closest("button");
             if (button) start(desk, Number(button.dataset.lesson));

@@ -37,7 +37,8 @@ function elementRow(desk, e, isAdded) {
     const isLit = places.length > 0 && !isAdded;
     const old = isLit ? ' <i class="mark old">old entry</i>' : "";
     const what = rank === 0 ? tag("v", vertex) : boundary.map(b => tag("E", b)).join(" ");
-    const where = hyperplane === null ? "" : ` <span class="in">in ${tag("h", hyperplane)}${primordial ? ' <abbr title="primordial">prim.</abbr>' : ""}</span>`;
+    const mark = primordial ? ' <abbr title="primordial">prim.</abbr>' : "";
+    const where = hyperplane === null ? "" : ` <span class="in">in ${tag("h", hyperplane)}${mark}</span>`;
     const says = [`element ${e}`, RANKS[rank], rank === 0 ? `vertex ${vertex}` : `boundary elements ${boundary.join(", ")}`,
         ...(hyperplane === null ? [] : [`in hyperplane ${hyperplane}${primordial ? ", primordial" : ""}`]),
         ...places.map(place => `${PLACES[place]} of the answer`), ...(isAdded ? ["added by this record"] : isLit ? ["an old entry"] : [])].join(", ");
@@ -54,9 +55,11 @@ function rows(size, before, row) {
 function vertexRows({ live }, before) {
     const points = Array.from({ length: live.sizes.vertices }, (_, v) => live.vertex(v));
     const [texts, corners] = [toldApart(points), live.cornerElements()];
-    return rows(points.length, before, (v, isAdded) => entry("v", v, {
-        looks: isAdded ? "added" : "", says: `vertex ${v}, at ${exact(points[v])}, is element ${corners[v]}${isAdded ? ", added by this record" : ""}`,
-    }, `${tag("v", v)}<span class="numbers" title="${exact(points[v])}">${texts[v]}</span><span class="is">is ${tag("E", corners[v])}</span>`));
+    return rows(points.length, before, (v, isAdded) => {
+        const says = `vertex ${v}, at ${exact(points[v])}, is element ${corners[v]}${isAdded ? ", added by this record" : ""}`;
+        return entry("v", v, { looks: isAdded ? "added" : "", says },
+            `${tag("v", v)}<span class="numbers" title="${exact(points[v])}">${texts[v]}</span><span class="is">is ${tag("E", corners[v])}</span>`);
+    });
 }
 
 function hyperplaneRows({ live }, before) {

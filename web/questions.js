@@ -26,7 +26,8 @@ function show({ live, stands }) {
     const words = wants === "more" ? [roots] : [roots[0] ?? NaN, ...(wants === "rank" ? [Number($("questionrank").value)] : [])];
     const reply = live.ask($("question").value, ...words);
     const size = reply.list ? `${reply.list.length} ${reply.list.length === 1 ? "number" : "numbers"}: ` : "";
-    $("questionsays").innerHTML = html(reply.number === 0 ? size + reads(reply) : `refused ${reply.number}. ${refusal(reply.number, { root: roots[0] }, live)}`);
+    const root = roots.find(root => !live.has(root));
+    $("questionsays").innerHTML = html(reply.number === 0 ? size + reads(reply) : `refused ${reply.number}. ${refusal(reply.number, { root }, live)}`);
 }
 
 export const questions = {

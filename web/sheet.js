@@ -37,7 +37,8 @@ function faceTable(table, e, rank) {
     if (rank < 2) return "";
     const withPlanes = table.dimension === 3;
     const faces = rank === 2 ? [e] : table.list("withRank", e, 2);
-    const rows = faces.map(face => `<tr><td>${tag("E", face)}</td><td class="walk">${walkText(table, face)}</td>${withPlanes ? planeCells(table, face) : ""}</tr>`);
+    const plane = face => (withPlanes ? planeCells(table, face) : "");
+    const rows = faces.map(face => `<tr><td>${tag("E", face)}</td><td class="walk">${walkText(table, face)}</td>${plane(face)}</tr>`);
     return `<table class="faces"><caption>${rank === 2 ? "The face" : "Faces"}, each corner by corner</caption>
         ${head(["face", "walk", ...(withPlanes ? PLANE : [])])}<tbody>${rows.join("")}</tbody></table>`;
 }
@@ -45,8 +46,8 @@ function faceTable(table, e, rank) {
 // in two dimensions an edge has a plane, in four a body has; in three it is the face, and stands with its walk
 function facetTable(table, e, rank) {
     if (rank !== 2 && rank !== 4) return "";
-    const corners = facet => tags("v", table.list("vertexSet", facet));
-    const rows = table.element(e).boundary.map(facet => `<tr><td>${tag("E", facet)}</td><td class="walk">${corners(facet)}</td>${planeCells(table, facet)}</tr>`);
+    const row = facet => `<tr><td>${tag("E", facet)}</td><td class="walk">${tags("v", table.list("vertexSet", facet))}</td>${planeCells(table, facet)}</tr>`;
+    const rows = table.element(e).boundary.map(row);
     return `<table class="facets"><caption>${rank === 2 ? "Edges" : "Bodies"} and their planes</caption>
         ${head(["element", "corners", ...PLANE])}<tbody>${rows.join("")}</tbody></table>`;
 }
@@ -59,7 +60,8 @@ function slivers(table, vertices, radius) {
     if (pairs.length === 0) return "";
     const some = pairs.slice(0, 8).map(([a, b]) => `${tag("v", a)} and ${tag("v", b)}`).join("; ");
     const more = pairs.length > 8 ? `; and ${pairs.length - 8} pairs more` : "";
-    return `<p class="sliver"><strong>Look closely:</strong> these corners look alike in a few digits, and are two: ${some}${more}. The piece is a sliver there.</p>`;
+    return `<p class="sliver"><strong>Look closely:</strong> these corners look alike in a few digits, and are two: ${some}${more}.
+        The piece is a sliver there.</p>`;
 }
 
 function piece(table, shapes, e, corners, look, radius) {
@@ -75,9 +77,9 @@ function piece(table, shapes, e, corners, look, radius) {
     </article>`;
 }
 
-const PROMISE = `<p class="promise"><strong>One crossing, one corner.</strong> The counts on this sheet rest on a proved promise: from a cube, by any cuts, no vertex
-    matches an earlier one. It holds for a table that came from a cube by cuts, and this one did: its session stands below. So no corner
-    is entered twice. Two corners match when every coordinate of theirs is the same within 1/1,048,576.</p>`;
+const PROMISE = `<p class="promise"><strong>One crossing, one corner.</strong> The counts on this sheet rest on a proved promise: from a cube,
+    by any cuts, no vertex matches an earlier one. It holds for a table that came from a cube by cuts, and this one did: its session
+    stands below. So no corner is entered twice. Two corners match when every coordinate of theirs is the same within 1/1,048,576.</p>`;
 
 function sheetOf(desk, pieces) {
     const { live, step, look, radius, history } = desk;
@@ -90,7 +92,8 @@ function sheetOf(desk, pieces) {
         <dl class="sign"><div><dt>Date</dt><dd></dd></div><div><dt>Signed</dt><dd></dd></div></dl></header>
         ${PROMISE}${pieces.map(e => piece(live, step.shapes, e, live.cornerElements(), look, radius)).join("") || "<p>No piece is chosen.</p>"}
         <footer><h3>The session that this sheet comes from</h3>
-        <p class="digest">${all.length} records, checksum <code>${checksum(bytesOf(all))}</code> (CRC-32 of the session’s bytes). The table comes from the last ${used.length}:</p>
+        <p class="digest">${all.length} records, checksum <code>${checksum(bytesOf(all))}</code> (CRC-32 of the session’s bytes).
+        The table comes from the last ${used.length}:</p>
         <pre>${used.map(lineOf).join("\n")}</pre>
         <p>Coordinates are the shortest decimals that read back as the same numbers, to the last bit.</p></footer>`;
 }
@@ -106,7 +109,8 @@ function show(desk) {
         return $("choice").replaceChildren();
     }
     const { pieces } = desk.bench;
-    $("choice").innerHTML = pieces.map(e => `<label><input type="checkbox" data-piece="${e}"${left.has(e) ? "" : " checked"}> ${tag("E", e)}</label>`).join(" ");
+    const choice = e => `<label><input type="checkbox" data-piece="${e}"${left.has(e) ? "" : " checked"}> ${tag("E", e)}</label>`;
+    $("choice").innerHTML = pieces.map(choice).join(" ");
     $("sheet").innerHTML = sheetOf(desk, pieces.filter(e => !left.has(e)));
 }
 

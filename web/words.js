@@ -43,8 +43,9 @@ export const point = p => `(${p.map(plain).join(", ")})`;
 export function refusal(number, { root, normal, distance, dimension }, table) {
     const reason = REFUSALS[number] ?? "This number is in no table of ours.";
     if (number === 1 && dimension !== undefined) return `${reason} It is ${dimension}.`;
-    if (number === 4 && root !== undefined && table.dimension > 0)
-        return `There is no element ${root}: in use are ${runs("E", 0, table.sizes.elements)}. Vertices and hyperplanes are other lists, with numbers of their own.`;
+    if (number === 4 && Number.isInteger(root))
+        return `There is no element ${root}: in use are ${runs("E", 0, table.sizes.elements)}. ` +
+            "Vertices and hyperplanes are other lists, with numbers of their own.";
     if (number === 5 && normal?.every(Number.isFinite) && (Math.abs(distance) <= 262144 || Math.abs(distance) === Infinity))
         return `The normal is not unit: its squares add up to ${short(normal.reduce((sum, x) => sum + x * x, 0))}, not to 1.`;
     return reason;

@@ -148,5 +148,7 @@ export async function checkRefusals(checks, hands) {
     checks.same("greatest common", await asked("greatestCommon", "2, 6"), "0 numbers:");
     checks.same("walk", await asked("edgesInOrder", "8"), "8 numbers: v0–v1, v1–v3, v3–v2, v2–v0");
     checks.same("primordial facet", await asked("hasPrimordialFacet", "8"), "yes");
+    checks.same("which of several is not in use", (await asked("greatestCommon", "8, 77")).slice(0, 33), "refused 4. There is no element 77");
+    checks.same("no number at all", await asked("vertexSet", "x"), "refused 4. That element number is not in use.");
     checks.same("a walk of an edge", await asked("edgesInOrder", "2"), "refused 6. The element has the wrong rank or kind.");
 }
