@@ -22,10 +22,11 @@ function missing(copy, record, what) {
 
 // the root itself is the answer: its old entry
 function itself({ record, copy }, isKept) {
+    const root = E(record.root);
     const always = Math.abs(record.distance) === Infinity ? "at an infinite distance the root is given whole" : "a corner is given on its side";
-    return isKept
-        ? `${E(record.root)} itself. ${missing(copy, record, "it")}, so the answer is its old entry, no copy.`
-        : `${E(record.root)} itself, though this side is not kept: ${always}.`;
+    if (!isKept) return `${root} itself, though this side is not kept: ${always}.`;
+    if (copy.rank(record.root) === 0) return `${root} itself, its old entry: ${always}.`;
+    return `${root} itself. ${missing(copy, record, "it")}, so the answer is its old entry, no copy.`;
 }
 
 function side(name, answer) {

@@ -27,7 +27,8 @@ function show({ live, stands }) {
     const reply = live.ask($("question").value, ...words);
     const size = reply.list ? `${reply.list.length} ${reply.list.length === 1 ? "number" : "numbers"}: ` : "";
     const root = roots.find(root => !live.has(root));
-    $("questionsays").innerHTML = html(reply.number === 0 ? size + reads(reply) : `refused ${reply.number}. ${refusal(reply.number, { root }, live)}`);
+    const says = reply.number === 0 ? size + reads(reply) : `refused ${reply.number}. ${refusal(reply.number, { root }, live)}`;
+    $("questionsays").innerHTML = html(says);
 }
 
 export const questions = {

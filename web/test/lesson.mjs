@@ -49,6 +49,8 @@ export async function checkWords(checks, hands) {
     checks.same("M3", [await hands.line(), await hands.texts(".place .state")], ["cut 8 - 7 9 4 5", ["old entry", "removed", "old entry"]]);
     await hands.runLines("cube 2 1\ncut outside 0 1 0 0");
     checks.same("M5", [await hands.line(), await hands.text(".place.inside p")], ["cut 0 - - 9 4 5", "E0 itself, though this side is not kept: a corner is given on its side."]);
+    await hands.runLines("cube 2 1\ncut both 3 1 0 0");
+    checks.same("a corner", await hands.text(".place.inside p"), "E3 itself, its old entry: a corner is given on its side.");
     await hands.runLines("cube 2 1\ncut neither 8 1 0 inf");
     checks.same("M4", [await hands.line(), await hands.text(".place.face p")], ["cut 8 - - 9 4 4", "None: at an infinite distance the plane misses E8."]);
 
