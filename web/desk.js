@@ -76,10 +76,11 @@ class Desk {
 
     // ---- records
 
+    // where nothing was added the table is the same, for old entries never change, and is kept once
     take(record, reply, line, before) {
         const { live, step } = this;
         const isNew = record.kind === "cube" && reply.number === 0;
-        const isSame = reply.number !== 0 && step !== null;
+        const isSame = step !== null && !isNew && Object.keys(NOTHING).every(list => step.after[list] === live.sizes[list]);
         const older = isNew || !step ? null : step.shapes;
         this.aside.restore(live.bytes);
         this.history.take({

@@ -50,17 +50,18 @@ async function begin() {
     globalThis.desk = Object.assign(desk, { measureDrag: frames => measureDrag(desk, frames) }); // for tests and for the curious
 }
 
-// what went wrong is told, for what stands on the page then may be of another table
-function tellError({ message }) {
-    $("noengine").textContent = message;
+function tell(words) {
+    $("noengine").textContent = words;
     $("noengine").hidden = false;
 }
 
-addEventListener("error", ({ message }) => tellError({ message: `This went wrong, and what stands here may be old: ${message}` }));
+// what goes wrong later is told too, for what stands on the page then may be of another table
+for (const name of ["error", "unhandledrejection"])
+    addEventListener(name, ({ message, reason }) => tell(`This went wrong, and what stands here may be old: ${message ?? reason?.message}`));
 try {
     await begin();
     $("noengine").hidden = true;
 } catch (error) {
-    tellError({ message: `The engine could not be loaded, so nothing can be answered: ${error.message}` });
+    tell(`The engine could not be loaded, so nothing can be answered: ${error.message}`);
 }
 document.documentElement.dataset.ready = "yes";

@@ -35,6 +35,14 @@ export async function checkBroken(checks, chromium) {
         checks.same(`${name}: no error`, page.errors, []);
         server.close();
     }
+    // a call that ends in a trap is told
+    const { server, url } = await serve("target/web", { "engine.js": text => text.toString().replace("cut(lent, {", "cut(lent, { root }) { throw new WebAssembly.RuntimeError(`trap ${root}`); }\n    unused(lent, {") });
+    const page = await chromium.page(url);
+    const hands = new Hands(page, null);
+    checks.holds("a trap is told", (await hands.text("#noengine")).includes("trap 8") && !await hands.run("document.querySelector('#noengine').hidden"));
+    checks.same("and no answer of it is shown", await hands.would(), "");
+    server.close();
+
     for (const [name, changed] of Object.entries({ "no module": { "desk.wasm": () => Buffer.alloc(0) }, "another module": { "desk.wasm": () => Buffer.from([0, 0x61, 0x73, 0x6d, 1, 0, 0, 0]) } })) {
         const { server, url } = await serve("target/web", changed);
         const page = await chromium.page(url);

@@ -45,7 +45,16 @@ function talk(child) {
             }
         }
     });
+    let hasEnded = false;
+    const end = error => {
+        hasEnded = true;
+        for (const { fail } of waiting.values()) fail(error);
+    };
+    child.once("error", end);
+    child.once("exit", () => end(new Error("the browser ended")));
+    to.on("error", end);
     const send = (method, params = {}, sessionId) => new Promise((done, fail) => {
+        if (hasEnded) return fail(new Error("the browser has ended"));
         waiting.set(++id, { done, fail });
         to.write(JSON.stringify({ id, method, params, sessionId }) + "\0");
     });
@@ -61,8 +70,7 @@ export async function browser(program) {
     const { send, listeners } = talk(child);
     const close = async () => {
         const gone = new Promise(done => child.once("exit", done));
-        await send("Browser.close").catch(() => {});
-        await gone;
+        await send("Browser.close").then(() => gone, () => {});
         rmSync(profile, { recursive: true, force: true, maxRetries: 5 });
     };
     return { close, page: url => openPage(send, listeners, url) };
