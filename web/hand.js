@@ -1,4 +1,4 @@
-// What a pointer does in the drawing: it moves the plane by its foot, turns it by its tip, turns the view, or picks a piece.
+// What a pointer does in the drawing: it moves the plane, turns it by its tip, turns the view, or picks a piece.
 import { dot, rounded, settle, settleDistance, unit } from "./plane.js";
 import { ARROW, footOf } from "./handle.js";
 import { named } from "./dom.js";
@@ -8,6 +8,12 @@ const STILL = 4; // a press that moves less than this many pixels picks
 function place(svg, event) {
     const p = new DOMPoint(event.clientX, event.clientY).matrixTransform(svg.getScreenCTM().inverse());
     return { x: p.x, y: p.y };
+}
+
+// the piece under a pointer, also where the plane lies over it
+function pieceUnder({ clientX, clientY }) {
+    const part = document.elementsFromPoint(clientX, clientY).map(part => part.closest("#drawing [data-pick]")).find(Boolean);
+    return part ? Number(part.dataset.pick) : null;
 }
 
 function moved({ eye, plane }, dx, dy, isFree) {
@@ -41,7 +47,7 @@ export function holdDrawing(svg, desk, sceneNow) {
         held = {
             eye, plane, yaw, pitch, from: place(svg, event), hasMoved: false,
             part: event.target.dataset.hand ?? "view",
-            pick: event.target.closest("[data-pick]")?.dataset.pick,
+            pick: pieceUnder(event),
             foot: eye.paper(footOf(eye, plane)),
             isBack: !eye.flat && dot(plane.normal.slice(0, 3), eye.towards) < 0,
         };
@@ -62,9 +68,9 @@ export function holdDrawing(svg, desk, sceneNow) {
     });
 
     svg.addEventListener("pointerup", () => {
-        const { hasMoved, part, pick } = held ?? {};
+        const { hasMoved, pick } = held ?? {};
         held = null;
-        if (hasMoved === false && part === "view" && pick !== undefined && desk.live.has(Number(pick))) desk.aimAt({ root: Number(pick) });
+        if (hasMoved === false && pick !== null && desk.live.has(pick)) desk.aimAt({ root: pick });
     });
     svg.addEventListener("pointercancel", () => (held = null));
     svg.addEventListener("pointerleave", () => held ?? desk.pointAt(null));

@@ -51,6 +51,10 @@ export async function checkHand(checks, hands) {
     checks.same("a piece picked that is missed", [await hands.would(), await hands.run("desk.aim.root")], ["cut 16 - - 18 6 6", 16]);
     checks.same("said before it is made", await hands.text("#wouldsay"), "The plane misses E16, so the answer is its old entry. Would add no elements, no vertices, one hyperplane.");
     await page.click(await hands.middle('.label[data-pick="17"]'));
+    checks.same("picked by its number", await hands.run("desk.aim.root"), 17);
+    await page.click(await hands.middle('path[data-pick="16"]'));
+    await page.click(await hands.middle('path[data-pick="17"]'));
+    checks.same("picked where the plane lies over it", await hands.run("desk.aim.root"), 17);
     await hands.press("#cut");
     checks.same("the other", await hands.line(), "cut 25 26 24 27 8 6");
     await hands.start(2);
