@@ -74,7 +74,10 @@ export function drawArrow({ eye, divider }) {
     const [dx, dy] = [t.x - f.x, t.y - f.y];
     const long = Math.hypot(dx, dy) || 1;
     const head = [[6, 0], [-12, 9], [-12, -9]].map(([k, w]) => ({ x: t.x + (k * dx - w * dy) / long, y: t.y + (k * dy + w * dx) / long }));
-    const side = (p, name) => text(p.x, p.y + 4, name, `class="side ${name}"`);
+    const side = (p, name) => { // within the paper, and then above the arrow
+        const x = Math.max(-eye.width / 2 + 30, Math.min(eye.width / 2 - 30, p.x));
+        return text(x, x === p.x ? p.y + 4 : p.y - 12, name, `class="side ${name}"`);
+    };
     const shaft = line(f, { x: t.x - 8 * dx / long, y: t.y - 8 * dy / long }, 'class="shaft"');
     const turns = eye.dimension < 4 ? circle(t, 17, 'class="catch" data-hand="turn"') : "";
     const grip = `<rect class="foot" x="${n1(f.x - 7)}" y="${n1(f.y - 7)}" width="14" height="14" rx="3" data-hand="move"/>`;

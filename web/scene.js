@@ -25,10 +25,11 @@ function standing(desk) {
     const { record, reply, removed } = step;
     const isMissed = e => record.kind === "cut" && e === record.root && (reply.inside === e || reply.outside === e);
     const look = e => `plainpiece${e === aim.root ? " rootpiece" : ""}${isMissed(e) ? " lit" : ""}`;
+    const isFlush = aim.aiming ? desk.preview?.reply.flush : reply.flush && aim.root === record.root;
     return {
         table: live, shapes: step.shapes, face: reply.face ?? null, removed,
         pieces: pieces.map(e => ({ e, look: look(e) })),
-        outlines: live.has(aim.root) && !pieces.includes(aim.root) ? [{ e: aim.root, look: "chosen" }] : [],
+        outlines: live.has(aim.root) && !pieces.includes(aim.root) ? [{ e: aim.root, look: isFlush ? "inplane" : "chosen" }] : [],
     };
 }
 

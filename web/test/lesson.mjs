@@ -54,6 +54,10 @@ export async function checkWords(checks, hands) {
     await hands.runLines("cube 2 1\ncut neither 8 1 0 inf");
     checks.same("M4", [await hands.line(), await hands.text(".place.face p")], ["cut 8 - - 9 4 4", "None: at an infinite distance the plane misses E8."]);
 
+    await hands.runLines("cube 2 1\ncut both 7 1 0 1");
+    checks.same("M6: flush", [await hands.line(), await hands.texts("#says p"), await hands.count(".outline.inplane .line")],
+        ["flush 9 4 5", ["E7 lies in the plane: it is flush, and neither side can be told.", "Added to the table: one hyperplane, h4. No old entry was changed or taken away."], 1]);
+
     // a vertex and the element of the same number are told apart
     await hands.start(2);
     await hands.page.point(await hands.middle('#vertices li[data-v="3"]'));
