@@ -22,7 +22,7 @@ class Desk {
         this.aside = new Table(engine); // a copy for what is asked beside an answer
         this.blank = this.live.save();
         this.history = new History();
-        this.earlier = null; // the session before this one, and where it was
+        this.earlier = null; // the session before this one and its lesson, if there was one
         this.lesson = null; // which part of it is gone through
         this.aim = { normal: [1, 0], distance: 0, kept: "both", root: 0, aiming: true };
         this.look = { ...VIEW, numbers: "both" };
@@ -118,7 +118,7 @@ class Desk {
     // a session's bytes in place of the session that is there; gives words for what was bad, or none
     run(bytes, lesson = null) {
         const { history, lesson: oldLesson, earlier } = this;
-        Object.assign(this, { history: new History(), lesson, earlier: { history, lesson: oldLesson } });
+        Object.assign(this, { history: new History(), lesson, earlier: history.step && { history, lesson: oldLesson } });
         this.live.restore(this.blank);
         let says = "";
         let before = NOTHING;

@@ -64,6 +64,6 @@ export const records = {
         $("lines").value = linesOf(history.records());
         enable($("undo"), history.can(-1));
         enable($("redo"), history.can(1));
-        enable($("earlier"), earlier !== null && earlier.history.steps.length > 0);
+        enable($("earlier"), earlier !== null);
     },
 };
