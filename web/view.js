@@ -40,7 +40,7 @@ export const view = {
         holdDrawing($("drawing"), desk, () => scene);
         new ResizeObserver(([{ contentRect }]) => {
             room = contentRect;
-            draw(desk);
+            this.changed(desk);
         }).observe($("drawing"));
         $("numbers").onchange = event => desk.lookFrom({ numbers: event.target.value });
         $("apart").oninput = event => desk.lookFrom({ apart: Number(event.target.value) });
@@ -48,7 +48,7 @@ export const view = {
     },
 
     changed(desk) {
-        this.aimed(desk);
+        draw(desk);
         sayPointed(desk);
         if (scene) $("drawn").textContent = sceneWords(desk, scene);
     },
