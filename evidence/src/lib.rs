@@ -1,6 +1,7 @@
 //! Evidence beside the proofs: the engine, as hosts link it, beside a model of document 01 and beside the published Rust.
 
 pub mod arguments;
+pub mod bytes;
 pub mod call;
 pub mod carvings;
 pub mod dividers;
