@@ -14,7 +14,7 @@
    A divider is a normal and a distance, and the signed distance of a point is normal . point - distance. Inside is below -2^-20,
    outside above 2^-20, between them is on the plane. The normal has components from -1 to 1 whose squares add up to 1, give or
    take 2^-20: 0.7071 twice is not unit, 0.707107 twice is. Past the dimension its components are +0.0, and -0.0 is refused.
-   The distance is from -262,144 to 262,144, or infinite: then the answer is the root itself. */
+   The distance is from -262,144 to 262,144, or infinite: then the answer is the root itself. Coordinates are from -65,536 to 65,536. */
 #ifndef SPOONVELVET_DESK_H
 #define SPOONVELVET_DESK_H
 
@@ -122,7 +122,7 @@ uint32_t desk_has_primordial_facet(DESK_READS, uint16_t root);
 /* ---- Readers of a reply */
 
 /* DESK_DONE, or why it was refused. */
-static inline enum desk_number desk_number(uint64_t reply) { return (enum desk_number)(reply & 0xff); }
+static inline enum desk_number desk_number_of(uint64_t reply) { return (enum desk_number)(reply & 0xff); }
 
 static inline const char *desk_words(enum desk_number number) {
     switch (number) {

@@ -11,13 +11,13 @@ static int refused(enum desk_number number) {
 
 int main(void) {
     uint32_t cube = desk_table_cube(&table, 2, 1.0);
-    if (desk_number(cube) != DESK_DONE) return refused(desk_number(cube));
+    if (desk_number_of(cube) != DESK_DONE) return refused(desk_number_of(cube));
 
     uint16_t square = desk_table_last_element(&table);
     struct desk_hyperplane divider = {{1.0, 0.0, 0.0, 0.0}, 0.0};
     for (int i = 0; i < 2; i++) {
         uint64_t cut = desk_table_cut(&table, divider, DESK_KEEP_BOTH, square);
-        if (desk_number(cut) != DESK_DONE) return refused(desk_number(cut));
+        if (desk_number_of(cut) != DESK_DONE) return refused(desk_number_of(cut));
         printf("%u %u %u\n", desk_inside(cut), desk_outside(cut), desk_intersection(cut));
     }
     return 0;

@@ -16,11 +16,11 @@ static uint64_t at_x(double distance, unsigned kept, uint16_t root) {
 
 static enum desk_number oblique(double x, double past) {
     struct desk_hyperplane divider = {{x, x, past, 0.0}, 0.0};
-    return desk_number(desk_table_cut(&table, divider, DESK_KEEP_BOTH, 8));
+    return desk_number_of(desk_table_cut(&table, divider, DESK_KEEP_BOTH, 8));
 }
 
 static int rows(void) {
-    HOLDS(desk_number(desk_table_cube(&table, 2, 1.0)) == DESK_DONE);
+    HOLDS(desk_number_of(desk_table_cube(&table, 2, 1.0)) == DESK_DONE);
     HOLDS(desk_table_is_sound(&table) == DESK_DONE);
     HOLDS(desk_table_last_element(&table) == 8);
     HOLDS(table.counts[DESK_COUNT_DIMENSION] == 2 && table.counts[DESK_COUNT_ELEMENTS] == 9);
@@ -43,11 +43,11 @@ static int replies(void) {
     HOLDS(desk_size(desk_table_subelements_of(&table, 8, list, DESK_LONGEST_LIST)) == 9 && list[8] == 8);
     HOLDS(desk_size(desk_table_subelements_with_rank(&table, 8, 1, list, DESK_LONGEST_LIST)) == 4 && list[0] == 2);
     HOLDS(desk_size(desk_table_vertex_set(&table, 7, list, 2)) == 2 && list[0] == 1 && list[1] == 3);
-    HOLDS(desk_number(desk_table_vertex_set(&table, 7, list, 1)) == DESK_REFUSED_LIST_SHORT);
+    HOLDS(desk_number_of(desk_table_vertex_set(&table, 7, list, 1)) == DESK_REFUSED_LIST_SHORT);
     HOLDS(desk_table_greatest_common_subelements(&table, roots, 2, list, DESK_LONGEST_LIST) == 0);
     HOLDS(desk_size(desk_table_edges_in_order(&table, 8, list, 8)) == 8 && list[2] == 1 && list[3] == 3);
     HOLDS(desk_is_yes(desk_table_has_primordial_facet(&table, 8)));
-    HOLDS(desk_number(desk_table_has_primordial_facet(&table, 7)) == DESK_REFUSED_RANK);
+    HOLDS(desk_number_of(desk_table_has_primordial_facet(&table, 7)) == DESK_REFUSED_RANK);
     HOLDS(desk_is_flush(at_x(1.0, DESK_KEEP_BOTH, 7)));
     uint64_t cut = at_x(0.0, DESK_KEEP_OUTSIDE, 8);
     HOLDS(desk_inside(cut) == DESK_NONE && desk_outside(cut) != DESK_NONE && desk_intersection(cut) != DESK_NONE && !desk_is_flush(cut));
@@ -63,12 +63,12 @@ static int replies(void) {
 
 static int refusals(void) {
     before = table;
-    HOLDS(desk_number(at_x(0.0, DESK_KEEP_BOTH, 9999)) == DESK_REFUSED_NOT_IN_USE);
-    HOLDS(desk_number(at_x(262145.0, DESK_KEEP_BOTH, 8)) == DESK_REFUSED_DIVIDER && desk_number(at_x(262144.0, 3, 8)) == DESK_DONE);
+    HOLDS(desk_number_of(at_x(0.0, DESK_KEEP_BOTH, 9999)) == DESK_REFUSED_NOT_IN_USE);
+    HOLDS(desk_number_of(at_x(262145.0, DESK_KEEP_BOTH, 8)) == DESK_REFUSED_DIVIDER && desk_number_of(at_x(262144.0, 3, 8)) == DESK_DONE);
     table = before;
     HOLDS(oblique(0.7071, 0.0) == DESK_REFUSED_DIVIDER && oblique(0.707107, -0.0) == DESK_REFUSED_DIVIDER);
-    HOLDS(desk_number(desk_table_cube(&table, 5, 1.0)) == DESK_REFUSED_DIMENSION);
-    HOLDS(desk_number(desk_table_cube(&table, 2, 0.5)) == DESK_REFUSED_RADIUS);
+    HOLDS(desk_number_of(desk_table_cube(&table, 5, 1.0)) == DESK_REFUSED_DIMENSION);
+    HOLDS(desk_number_of(desk_table_cube(&table, 2, 0.5)) == DESK_REFUSED_RADIUS);
     HOLDS(memcmp(&table, &before, sizeof table) == 0);
     HOLDS(oblique(0.707107, 0.0) == DESK_DONE);
     HOLDS(strcmp(desk_words(DESK_REFUSED_NOT_IN_USE), "an element number is not in use") == 0);
