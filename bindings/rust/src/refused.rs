@@ -11,7 +11,7 @@
 /// assert_eq!(refused.to_string(), "refused 4: an element number is not in use");
 /// # Ok::<(), Refused>(())
 /// ```
-#[derive(Clone, Copy, Debug, PartialEq, Eq, Hash)]
+#[derive(Clone, Copy, PartialEq, Eq, Hash)]
 pub struct Refused(
     /// The number of the refusal, 1 to 12.
     pub u8,
@@ -51,6 +51,13 @@ refusals! {
 impl std::fmt::Display for Refused {
     fn fmt(&self, f: &mut std::fmt::Formatter<'_>) -> std::fmt::Result {
         write!(f, "refused {}: {}", self.0, self.words())
+    }
+}
+
+/// With its words, for this is what a `main` that fails shows.
+impl std::fmt::Debug for Refused {
+    fn fmt(&self, f: &mut std::fmt::Formatter<'_>) -> std::fmt::Result {
+        write!(f, "Refused({}: {})", self.0, self.words())
     }
 }
 

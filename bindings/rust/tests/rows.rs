@@ -76,6 +76,13 @@ fn room_left_and_counts_fill_the_room() {
 }
 
 #[test]
+fn refusals_are_shown_with_their_words() {
+    assert_eq!(Refused::BOUNDARY_FULL.to_string(), "refused 11: a boundary would have more than 32 elements");
+    assert_eq!(format!("{:?}", Refused(12)), "Refused(12: the room for the list is too short)");
+    assert_eq!(Refused(13).words(), "no refusal has this number");
+}
+
+#[test]
 fn slices_there_and_back() {
     let mut table = square();
     table.slice(at_x(0.0), SQUARE).unwrap();
