@@ -49,15 +49,15 @@ const OUTCOMES: [(&str, &[&str]); 9] = [
 ];
 
 /// How often each outcome was met, and where the calls are written, if they are.
-struct Run {
-    met: BTreeMap<(&'static str, String), u64>,
+struct Met {
+    outcomes: BTreeMap<(&'static str, String), u64>,
     written: Option<Calls<BufWriter<Stdout>>>,
 }
 
-impl Default for Run {
+impl Default for Met {
     fn default() -> Self {
         let written = seeded::is_written().then(|| Calls::new(BufWriter::with_capacity(1 << 20, io::stdout())));
-        Self { met: BTreeMap::new(), written }
+        Self { outcomes: BTreeMap::new(), written }
     }
 }
 
@@ -86,7 +86,7 @@ fn main() -> ExitCode {
 }
 
 /// Each step is one call of every entry point on one memory; a memory stands for some steps.
-fn compare(n: u64, seed: u64, run: &mut Run) -> Result<(), String> {
+fn compare(n: u64, seed: u64, met: &mut Met) -> Result<(), String> {
     let mut r = Random::new(seed);
     let (mut pair, mut left) = (Pair::new(Memory::clear()), 0);
     for step in 0..n {
@@ -98,9 +98,9 @@ fn compare(n: u64, seed: u64, run: &mut Run) -> Result<(), String> {
         left -= 1;
         let mut damaged = if r.one_in(4) { damaged_copy(&mut r, &pair) } else { None };
         let stand = damaged.as_mut().unwrap_or(&mut pair);
-        compare_step(&mut r, stand, run).map_err(|difference| format!("step {step}: {difference}"))?;
+        compare_step(&mut r, stand, met).map_err(|difference| format!("step {step}: {difference}"))?;
     }
-    run.written.as_mut().map_or(Ok(()), Calls::end).map_err(not_written)
+    met.written.as_mut().map_or(Ok(()), Calls::end).map_err(not_written)
 }
 
 fn damaged_copy(r: &mut Random, pair: &Pair) -> Option<Pair> {
@@ -110,14 +110,14 @@ fn damaged_copy(r: &mut Random, pair: &Pair) -> Option<Pair> {
 }
 
 /// Questions are asked of the table that the cut leaves; the cube takes a copy away.
-fn compare_step(r: &mut Random, pair: &mut Pair, run: &mut Run) -> Result<(), String> {
+fn compare_step(r: &mut Random, pair: &mut Pair, met: &mut Met) -> Result<(), String> {
     let cut = arguments::cut(r, pair.table());
-    compare_call(&cut, pair, &[], run)?;
+    compare_call(&cut, pair, &[], met)?;
     for call in arguments::questions(r, pair.table()) {
         let room = list_room(r, &call, &mut pair.model);
-        compare_call(&call, pair, &room, run)?;
+        compare_call(&call, pair, &room, met)?;
     }
-    compare_call(&arguments::cube(r), &mut pair.copy(), &[], run)
+    compare_call(&arguments::cube(r), &mut pair.copy(), &[], met)
 }
 
 /// Old words, and none, too few, enough or more of them than the list has.
@@ -128,14 +128,14 @@ fn list_room(r: &mut Random, call: &Call, lent: &mut Lent) -> Vec<u16> {
     (0..length).map(|_| r.word() as u16).collect()
 }
 
-fn compare_call(call: &Call, pair: &mut Pair, room: &[u16], run: &mut Run) -> Result<(), String> {
+fn compare_call(call: &Call, pair: &mut Pair, room: &[u16], met: &mut Met) -> Result<(), String> {
     let before = pair.engine.clone();
     let (mut model_room, mut engine_room) = (room.to_vec(), room.to_vec());
     let by_model = call.by_model(&mut pair.model, &mut model_room);
     let by_engine = call.by_engine(&mut pair.engine, &mut engine_room);
     if by_model == by_engine && model_room == engine_room && pair.engine.is_same(pair.model.memory()) {
-        *run.met.entry((call.name(), call.outcome(by_model))).or_default() += 1;
-        let Some(written) = &mut run.written else { return Ok(()) };
+        *met.outcomes.entry((call.name(), call.outcome(by_model))).or_default() += 1;
+        let Some(written) = &mut met.written else { return Ok(()) };
         let [before, after] =
             [(&before, room), (&pair.engine, &engine_room)].map(|(memory, room)| bytes::Lent { memory, room });
         return written.call(call, before, by_engine, after).map_err(not_written);
@@ -154,17 +154,17 @@ fn not_written(error: io::Error) -> String {
 }
 
 /// How often each outcome was met. One that was never met makes the run fail.
-fn report(n: u64, run: &Run) -> bool {
+fn report(n: u64, met: &Met) -> bool {
     let mut is_whole = true;
     for (name, outcomes) in OUTCOMES {
         seeded::say(name);
         for outcome in outcomes {
-            is_whole &= seeded::is_met(run.met.get(&(name, outcome.to_string())), outcome);
+            is_whole &= seeded::is_met(met.outcomes.get(&(name, outcome.to_string())), outcome);
         }
     }
     let named =
         |(name, outcome): &(&str, String)| OUTCOMES.iter().any(|row| row.0 == *name && row.1.contains(&&**outcome));
-    for unnamed in run.met.keys().filter(|key| !named(key)) {
+    for unnamed in met.outcomes.keys().filter(|key| !named(key)) {
         seeded::say(&format!("{unnamed:?}  NOT NAMED FOR IT"));
         is_whole = false;
     }
