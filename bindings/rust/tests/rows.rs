@@ -120,6 +120,7 @@ fn past_the_dimension_only_plus_zero_is_taken() {
 }
 
 #[test]
+#[allow(clippy::approx_constant)] // how many digits it takes is what is asked
 fn how_exact_a_unit_normal_is() {
     let oblique = |x: f64| Hyperplane::new(&[x, x], 0.0).unwrap();
     assert_eq!(square().slice(oblique(0.7071), SQUARE), Err(Refused::DIVIDER));
