@@ -34,7 +34,7 @@ def exported(data):
 
 module, header = sys.argv[1:]
 found = dict(sections(open(module, "rb").read()))
-declared = set(re.findall(r"\bdesk_\w+(?=\()", open(header).read()))
+declared = set(re.findall(r"^uint\d+_t (desk_\w+)\(", open(header).read(), re.M))
 if IMPORTS in found:
     sys.exit("the module imports something")
 if set(exported(found[EXPORTS])) != declared | {"memory", "__heap_base"}:

@@ -99,6 +99,14 @@ class Hyperplane:
         object.__setattr__(self, "normal", given + (0.0,) * (AXES - len(given)))
         object.__setattr__(self, "distance", as_float(distance))
 
+    def flipped(self) -> "Hyperplane":
+        """The same plane with its sides exchanged. Zeros stay +0.0, as they have to past the dimension.
+
+        >>> Hyperplane((1,), 0.5).flipped()
+        Hyperplane(normal=(-1.0, 0.0, 0.0, 0.0), distance=-0.5)
+        """
+        return Hyperplane([0.0 - x for x in self.normal], 0.0 - self.distance)
+
 
 class PolytopeFate(enum.Enum):
     """What becomes of what lies on one side of the divider."""
