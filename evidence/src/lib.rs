@@ -8,6 +8,7 @@ pub mod memories;
 pub mod model;
 pub mod random;
 pub mod renumbering;
+pub mod rows;
 pub mod seeded;
 pub mod session;
 pub mod strange;

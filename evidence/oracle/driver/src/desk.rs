@@ -64,7 +64,10 @@ impl Desk {
         let answer = cut(&mut self.space, &record);
         match answer {
             Ok(_) => self.taken.push(record),
-            Err(_) => self.restore()?,
+            Err(_) => {
+                eprintln!("left behind: {}", self.counts());
+                self.restore()?;
+            }
         }
         answer
     }

@@ -1,7 +1,7 @@
 //! `oracle [--rules] [--rows] [--clear] [--quiet] [--scramble N] [--ask QUESTION].. [--questions ROOT|all].. < SESSION`: a
 //! session by the published Rust. Printed are a line for each record, as cutlist has them; with --rows the table that is
 //! left; then the answers to questions. Without --rules the Rust is by itself: no room, and `refused ?` for any error.
-//! With --clear only a verdict is printed, whether the session is clear.
+//! With --clear only a verdict is printed, whether the session is clear. What an error left behind goes to standard error.
 
 mod desk;
 mod questions;
@@ -23,7 +23,9 @@ struct Options {
 
 fn main() {
     let Some(options) = options() else {
-        eprintln!("oracle [--rules] [--rows] [--clear] [--quiet] [--scramble N] [--ask QUESTION].. [--questions ROOT|all].. < SESSION");
+        eprintln!(
+            "oracle [--rules] [--rows] [--clear] [--quiet] [--scramble N] [--ask QUESTION].. [--questions ROOT|all].. < SESSION"
+        );
         std::process::exit(2)
     };
     std::panic::set_hook(Box::new(|_| {}));

@@ -8,7 +8,7 @@ use tinyset::Set64;
 
 pub fn ask(space: &Space, question: &str, rules: bool) -> Result<String> {
     let words: Vec<&str> = question.split_whitespace().collect();
-    let element = |word: &str| in_use(space, word);
+    let element = |word: &str| number(space, word, rules);
     guarded(|| match words[..] {
         ["sub", root] => Ok(listed(space.get(element(root)?).subelements().map(|e| e.id()))),
         ["rank", root, rank] => {
@@ -31,9 +31,9 @@ pub fn ask(space: &Space, question: &str, rules: bool) -> Result<String> {
     })
 }
 
-fn in_use(space: &Space, word: &str) -> Result<ElementId> {
+fn number(space: &Space, word: &str, rules: bool) -> Result<ElementId> {
     let number: u32 = word.parse()?;
-    if number as usize >= space.probe_counts()[0] {
+    if rules && number as usize >= space.probe_counts()[0] {
         bail!("reply 4");
     }
     Ok(ElementId(number))

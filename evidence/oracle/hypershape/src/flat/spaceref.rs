@@ -61,6 +61,31 @@ impl Space {
         self.polytopes[e].boundary().map(|b| b.iter().map(|x| x.0).collect()).unwrap_or_default()
     }
 
+    /// A face of these edges between these points. Each edge has a hyperplane of its own, so that no two are equal.
+    pub fn probe_add_face(&mut self, points: &[[f64; 2]], edges: &[[usize; 2]]) -> Result<ElementId> {
+        let mut corners = vec![];
+        for point in points {
+            corners.push(self.add_vertex(Point::from(&point[..]))?.1);
+        }
+        let mut boundary = Set64::new();
+        for (i, edge) in edges.iter().enumerate() {
+            boundary.insert(self.add_polytope(PolytopeData::Polytope {
+                rank: 1,
+                boundary: edge.iter().map(|&end| corners[end]).collect(),
+                boundary_portals: BoundaryPortals::EMPTY,
+                hyperplane: Some(HyperplaneId(i as u16 % 4)),
+                is_primordial: false,
+            })?);
+        }
+        self.add_polytope(PolytopeData::Polytope {
+            rank: 2,
+            boundary,
+            boundary_portals: BoundaryPortals::EMPTY,
+            hyperplane: None,
+            is_primordial: false,
+        })
+    }
+
     /// A line for each entry, floats by their bits. A corner's last number is its vertex's.
     pub fn probe_rows(&self) -> String {
         let mut rows = String::new();

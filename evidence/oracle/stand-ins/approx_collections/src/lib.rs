@@ -199,13 +199,7 @@ fn matches(old: &[f64], new: &[f64]) -> bool {
 }
 impl<K: Clone + ApproxInternable, V> ApproxHashMap<K, V> {
     pub fn new(_prec: Precision) -> Self {
-        Self {
-            keys: vec![],
-            floats: vec![],
-            values: vec![],
-            cells: HashMap::default(),
-            odd: vec![],
-        }
+        Self { keys: vec![], floats: vec![], values: vec![], cells: HashMap::default(), odd: vec![] }
     }
     pub fn from_iter(prec: Precision, it: impl IntoIterator<Item = (K, V)>) -> Self {
         let mut m = Self::new(prec);
