@@ -132,13 +132,6 @@ where
         }
     }
 }
-#[derive(Debug, Default)]
-pub struct FloatPool;
-
-pub mod traits {
-    pub use super::{ApproxEq, ApproxEqZero, ApproxHash, ApproxInternable};
-}
-
 type Floats = SmallVec<[f64; 8]>;
 
 #[derive(Default, Clone)]
@@ -266,9 +259,6 @@ impl<K: Clone + ApproxInternable, V> ApproxHashMap<K, V> {
                 None
             }
         }
-    }
-    pub fn get(&self, k: &K) -> Option<&V> {
-        self.find(&Self::floats_of(k)).map(|i| &self.values[i])
     }
     pub fn entry(&mut self, k: K) -> hash_map::Entry<'_, K, V> {
         let f = Self::floats_of(&k);

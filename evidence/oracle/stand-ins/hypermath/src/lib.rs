@@ -1,22 +1,20 @@
 //! Stand-in: floats as document 01 has them. Beside it `build` puts the published `vector.rs`.
-pub use approx_collections;
-pub use num_traits as num;
-pub use smallvec;
-
-pub type Float = f64;
-pub const EPSILON: Float = 0.000001;
-pub const AXIS_NAMES: &str = "XYZWVUT";
-pub const MAX_NDIM: u8 = 7;
-pub const APPROX: Precision = Precision::new_simple(22);
 
 #[macro_use]
 mod vector;
 
-pub mod ndim {
-    pub trait Ndim {
-        fn ndim(&self) -> u8;
-    }
+pub use prelude::*;
+pub use smallvec;
+
+pub type Float = f64;
+
+/// The map and the tests that it is handed to take no notice of it.
+pub const APPROX: Precision = Precision::new_simple(22);
+
+pub trait Ndim {
+    fn ndim(&self) -> u8;
 }
+
 pub mod util {
     use crate::*;
     pub fn try_div(a: Float, b: Float) -> Option<Float> {
@@ -36,6 +34,7 @@ pub mod util {
         out
     }
 }
+
 pub mod point {
     use crate::*;
     #[derive(Debug, Default, Clone, PartialEq)]
@@ -77,17 +76,18 @@ pub mod point {
         }
     }
 }
-pub mod which_side {
-    #[derive(Debug, Copy, Clone, PartialEq, Eq, Hash)]
+
+pub mod hyperplane {
+    use crate::*;
+    use approx_collections::T;
+
+    #[derive(Debug, Copy, Clone, PartialEq, Eq)]
     pub enum PointWhichSide {
         On,
         Inside,
         Outside,
     }
-}
-pub mod hyperplane {
-    use crate::*;
-    use approx_collections::T;
+
     #[derive(Debug, Clone, PartialEq)]
     pub struct Hyperplane {
         normal: Vector,
@@ -189,6 +189,7 @@ pub mod hyperplane {
         }
     }
 }
+
 pub mod centroid {
     use crate::*;
     #[derive(Debug, Clone, PartialEq)]
@@ -224,6 +225,7 @@ pub mod centroid {
         }
     }
 }
+
 pub mod pga {
     use crate::*;
     pub struct Motor(pub Hyperplane);
@@ -233,22 +235,9 @@ pub mod pga {
         }
     }
 }
-pub use ndim::Ndim;
-pub use which_side::PointWhichSide;
+
 pub mod prelude {
-    pub use crate::centroid::Centroid;
-    pub use crate::hyperplane::*;
-    pub use crate::point::*;
-    pub use crate::traits::*;
-    pub use crate::vector::*;
-    pub use crate::which_side::*;
-    pub use crate::{APPROX, AXIS_NAMES, EPSILON, Float, MAX_NDIM, pga, vector};
-    pub use approx_collections::{self, ApproxHashMap, FloatPool, Precision};
-}
-pub use prelude::*;
-pub mod traits {
-    pub use crate::ndim::Ndim;
-    pub use crate::vector::VectorRef;
-    pub use approx_collections::traits::*;
+    pub use crate::{APPROX, Float, Ndim, centroid::Centroid, hyperplane::*, pga, point::Point, vector, vector::*};
+    pub use approx_collections::{self, ApproxHashMap, Precision};
     pub use tinyset::Fits64;
 }
