@@ -10,6 +10,7 @@ pub mod model;
 pub mod no_rings;
 pub mod random;
 pub mod renumbering;
+pub mod rows;
 pub mod seeded;
 pub mod session;
 pub mod strange;
