@@ -8,19 +8,21 @@ export const AXES = ["x", "y", "z", "w"];
 
 // document 01's numbered replies
 export const REFUSALS = {
-    1: "The dimension has to be 1 to 4.",
-    2: "The radius has to be a number from 1 to 65,536.",
-    3: "The table is not sound, or the room lent for it has another size.",
-    4: "That element number is not in use.",
-    5: "The normal has to be unit, and the distance a number from −262,144 to 262,144, or infinite.",
-    6: "The element has the wrong rank or kind.",
-    7: "A new edge would not have two ends, or a vertex of a new face would not lie on two of its edges, or a walk would not take every edge once.",
-    8: "There is no room for another vertex: the table holds 256.",
-    9: "There is no room for another element: the table holds 512.",
-    10: "There is no room for another hyperplane: the table holds 64.",
-    11: "A new element would have more than 32 boundary elements.",
-    12: "The room for the list is too short.",
+    1: "the dimension is not 1 to 4",
+    2: "the radius is not a number from 1 to 65,536",
+    3: "the table is not sound, or its room has another size",
+    4: "an element number is not in use",
+    5: "the normal is not unit, or the distance is not a number or finite beyond 262,144",
+    6: "an element of another rank or kind is asked for",
+    7: "an edge would not have two ends, or the edges of a face do not go round once",
+    8: "there is no room for another vertex",
+    9: "there is no room for another element",
+    10: "there is no room for another hyperplane",
+    11: "a boundary would have more than 32 elements",
+    12: "the room for the list is too short",
 };
+
+const sentence = (words) => `${words[0].toUpperCase()}${words.slice(1)}.`;
 
 const SMALL = ["no", "one", "two", "three", "four", "five", "six", "seven", "eight", "nine", "ten", "eleven", "twelve"];
 
@@ -41,7 +43,7 @@ export const point = p => `(${p.map(plain).join(", ")})`;
 
 // why a record or a question was refused, with what is wrong in it
 export function refusal(number, { root, normal, distance, dimension }, table) {
-    const reason = REFUSALS[number] ?? "This number is in no table of ours.";
+    const reason = sentence(REFUSALS[number] ?? "this number is in no table of ours");
     if (number === 1 && dimension !== undefined) return `${reason} It is ${dimension}.`;
     if (number === 4 && Number.isInteger(root))
         return `There is no element ${root}: in use are ${runs("E", 0, table.sizes.elements)}. ` +

@@ -25,7 +25,7 @@ export async function checkBroken(checks, chromium) {
         const page = await chromium.page(url);
         const hands = new Hands(page, null);
         checks.same(name, [await hands.line(), await hands.texts("#says p")],
-            ["refused 3", ["The table is not sound, or the room lent for it has another size.", "A refused record leaves the table as it was."]]);
+            ["refused 3", ["The table is not sound, or its room has another size.", "A refused record leaves the table as it was."]]);
         await hands.press("#cut");
         await hands.press('[data-lesson="0"]');
         await hands.press("#lessonnext");

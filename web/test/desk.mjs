@@ -135,7 +135,7 @@ export async function checkRefusals(checks, hands) {
     checks.same("what is no number is told and not taken", await hands.run("[desk.aim.distance, document.querySelector('#distance').getAttribute('aria-invalid')]"), [0.25, "true"]);
     await hands.run("document.activeElement.blur()");
     await hands.start(2, "0.5");
-    checks.same("radius", [await hands.line(), await hands.texts("#says p")], ["refused 2", ["The radius has to be a number from 1 to 65,536.", "A refused record leaves the table as it was."]]);
+    checks.same("radius", [await hands.line(), await hands.texts("#says p")], ["refused 2", ["The radius is not a number from 1 to 65,536.", "A refused record leaves the table as it was."]]);
     checks.same("no table, no sheet, no cut", await hands.run("[desk.stands, document.querySelector('#cut').disabled, document.querySelectorAll('.lists li').length]"), [false, true, 0]);
     await hands.start(2);
 
@@ -153,6 +153,6 @@ export async function checkRefusals(checks, hands) {
     checks.same("walk", await asked("edgesInOrder", "8"), "8 numbers: v0–v1, v1–v3, v3–v2, v2–v0");
     checks.same("primordial facet", await asked("hasPrimordialFacet", "8"), "yes");
     checks.same("which of several is not in use", (await asked("greatestCommon", "8, 77")).slice(0, 33), "refused 4. There is no element 77");
-    checks.same("no number at all", await asked("vertexSet", "x"), "refused 4. That element number is not in use.");
-    checks.same("a walk of an edge", await asked("edgesInOrder", "2"), "refused 6. The element has the wrong rank or kind.");
+    checks.same("no number at all", await asked("vertexSet", "x"), "refused 4. An element number is not in use.");
+    checks.same("a walk of an edge", await asked("edgesInOrder", "2"), "refused 6. An element of another rank or kind is asked for.");
 }
