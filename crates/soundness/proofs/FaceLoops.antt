@@ -17,7 +17,7 @@ use Rattle.space.specs.Closed.{metTwice, bothMet, seconds, ringRaw, joining, jo
 use Rattle.space.proofs.EndsCounted.{Round, round-met, round-end}
 use Rattle.space.proofs.PathsJoined.{Paths, paths-go, paths-stamped}
 use Rattle.space.proofs.Rings.{never-closed, no-edges, answers-thrice, answers-early, answers-last}
-use Rattle.soundness.specs.Words.{numbersFit, fewWords, faceWords, stampOf, pathStamp, Fresh, EdgesLow}
+use Rattle.soundness.specs.Words.{numbersFit, fewWords, faceWords, stampOf, EdgesLow}
 use Rattle.soundness.proofs.BoundaryLoops.{numbers-ends}
 
 -- ---- edge after edge
@@ -108,15 +108,8 @@ module _ (es : List ℕ) (from to e : ℕ) (fit : to ≤ length es) where
 pub unmet-above : (s s′ : ℕ) (met : List ℕ) → s ≤ s′ → Unmet s met → Unmet s′ met
 unmet-above s s′ met l u = record { long = u .long; under = λ v h. let k = u .under v h in let z : getD met v 0 < s′ = omega (arith, k, l) in z }
 
-pub stamp-next : (e : ℕ) (met : List ℕ) → Unmet (stampOf e) met → Unmet (stampOf (e + 1)) met
-stamp-next e met u = unmet-above (stampOf e) (stampOf (e + 1)) met (let z : 2 * e + 1 ≤ 2 * (e + 1) + 1 = omega arith in z) u
+pub unmet-next : (e : ℕ) (met : List ℕ) → Unmet (stampOf e) met → Unmet (stampOf (e + 1)) met
+unmet-next e met u = unmet-above (stampOf e) (stampOf (e + 1)) met (let z : 513 * e + 1 ≤ 513 * (e + 1) + 1 = omega arith in z) u
 
-pub path-next : (e : ℕ) (paths : List ℕ) → Unmet (pathStamp e) paths → Unmet (pathStamp (e + 1)) paths
-path-next e paths u = unmet-above (pathStamp e) (pathStamp (e + 1)) paths (let z : 513 * e + 1 ≤ 513 * (e + 1) + 1 = omega arith in z) u
-
-pub stamped-next : (e : ℕ) (paths : List ℕ) → Stamped (pathStamp e) paths → Unmet (pathStamp (e + 1)) paths
-stamped-next e paths u = record { long = u .long; under = λ v h. let k = u .under v h in let z : getD paths v 0 < 513 * (e + 1) + 1 = omega (arith, k) in z }
-
--- an element for which no corner is met
-pub fresh-next : (e : ℕ) (met paths : List ℕ) → Fresh e met paths → Fresh (e + 1) met paths
-fresh-next e met paths f = record { counted = stamp-next e met (f .counted); joined = path-next e paths (f .joined) }
+pub stamped-next : (e : ℕ) (met : List ℕ) → Stamped (stampOf e) met → Unmet (stampOf (e + 1)) met
+stamped-next e met u = record { long = u .long; under = λ v h. let k = u .under v h in let z : getD met v 0 < 513 * (e + 1) + 1 = omega (arith, k) in z }

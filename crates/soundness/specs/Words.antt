@@ -13,7 +13,7 @@ use Rattle.rules.specs.Memory.{planeWidth, elementWidth, rightSize}
 use Rattle.rules.specs.Held.{memoryOf}
 use Rattle.rules.specs.Table.{primordials}
 use Rattle.space.specs.Chains.{rowAt}
-use Rattle.space.specs.Closed.{closedRaw, metTwice, ringRaw, EndsLow, Unmet}
+use Rattle.space.specs.Closed.{closedRaw, metTwice, ringRaw, EndsLow}
 
 abbrev pub blank : List ℕ → Bool
 blank = all (eqb 0)
@@ -98,17 +98,9 @@ fewWords L es e b = numbersFit L es e 2 b && metTwice es b
 abbrev pub faceWords : Limits → List ℕ → ℕ → List ℕ → Bool
 faceWords L es e b = numbersFit L es e 2 b && ringRaw es b
 
--- the stamp of an element, above every word that was written for the elements before it: where corners are counted, and where paths are joined
+-- the stamp of an element, above every word that was written for the elements before it
 abbrev pub stampOf : ℕ → ℕ
-stampOf e = 2 * e + 1
-
-abbrev pub pathStamp : ℕ → ℕ
-pathStamp e = 513 * e + 1
-
--- the words of the corners are ready for element e: those for counting, and those for joining
-pub record Fresh (e : ℕ) (met paths : List ℕ) : Type 0 where
-  pub counted : Unmet (stampOf e) met
-  pub joined : Unmet (pathStamp e) paths
+stampOf e = 513 * e + 1
 
 unfoldable pub facetWords : ℕ → ℕ → ℕ → ℕ → ℕ → Bool
 facetWords d h r plane mark = if eqb (suc r) d then ltb plane h else (eqb plane noPlane && not (eqb mark 1))

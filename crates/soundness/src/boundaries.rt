@@ -12,20 +12,12 @@ ghost use mathlib.Core.Bool.{true};
 ghost use lib.ListN.{length, take, drop};
 ghost use Rattle.rules.specs.Limits.{desk};
 ghost use Rattle.space.specs.Closed.{Unmet};
-ghost use Rattle.soundness.specs.Words.{numberFits, numbersFit, fewWords, faceWords, stampOf, pathStamp, Fresh, boundaryWords, EdgesLow};
+ghost use Rattle.soundness.specs.Words.{numberFits, numbersFit, fewWords, faceWords, stampOf, boundaryWords, EdgesLow};
 
-// An element's stamp is two above the one before it, so that the corners met for a face are told from those met for an earlier one.
-fn stamp_of(e: usize) -> u16
+// An element's stamp is above every word that was written for the elements before it: the words of one face are 513 at most above its own.
+fn stamp_of(e: usize) -> u32
     requires { ⌜ e < 512 ⌝ }
-    ensures { λ r. ⌜ (r ≡ stampOf e) × (r < 65535) ⌝ }
-{
-    (2 * e + 1) as u16
-}
-
-// Where paths are joined, an element's stamp is above every word that was written before: those of one face are 512 at most above its own.
-fn path_stamp(e: usize) -> u32
-    requires { ⌜ e < 512 ⌝ }
-    ensures { λ r. ⌜ (r ≡ pathStamp e) × (r < 1000000) ⌝ }
+    ensures { λ r. ⌜ (r ≡ stampOf e) × (r < 1000000) ⌝ }
 {
     (513 * e + 1) as u32
 }
@@ -61,7 +53,7 @@ pub fn numbers_fit(elements: &[u16], from: usize, to: usize, e: usize, rank: usi
 }
 
 // The numbers of a face of few edges: the ends of each are met in the same pass.
-fn few_fits(elements: &[u16], from: usize, to: usize, e: usize, met: &mut [u16; 512]) -> bool
+fn few_fits(elements: &[u16], from: usize, to: usize, e: usize, met: &mut [u32; 512]) -> bool
     requires { ⌜ (from ≤ to) × (to ≤ from + 32) × (to ≤ length (now elements)) × (length (now elements) ≡ 18432) × (e < 512) × EdgesLow (now elements) e × Unmet (stampOf e) (now met) ⌝ }
     ensures { λ r. ⌜ (r ≡ fewWords desk (now (elements .entry)) e (drop from (take to (now (elements .entry))))) × (r ≡ true → Unmet (stampOf (e + 1)) (now (met .exit))) ⌝ }
 {
@@ -80,11 +72,11 @@ fn few_fits(elements: &[u16], from: usize, to: usize, e: usize, met: &mut [u16; 
 }
 
 // The numbers of any other face: each edge joins paths in the same pass.
-fn face_fits(elements: &[u16], from: usize, to: usize, e: usize, paths: &mut [u32; 512]) -> bool
-    requires { ⌜ (from ≤ to) × (to ≤ from + 32) × (to ≤ length (now elements)) × (length (now elements) ≡ 18432) × (e < 512) × EdgesLow (now elements) e × Unmet (pathStamp e) (now paths) ⌝ }
-    ensures { λ r. ⌜ (r ≡ faceWords desk (now (elements .entry)) e (drop from (take to (now (elements .entry))))) × (r ≡ true → Unmet (pathStamp (e + 1)) (now (paths .exit))) ⌝ }
+fn face_fits(elements: &[u16], from: usize, to: usize, e: usize, met: &mut [u32; 512]) -> bool
+    requires { ⌜ (from ≤ to) × (to ≤ from + 32) × (to ≤ length (now elements)) × (length (now elements) ≡ 18432) × (e < 512) × EdgesLow (now elements) e × Unmet (stampOf e) (now met) ⌝ }
+    ensures { λ r. ⌜ (r ≡ faceWords desk (now (elements .entry)) e (drop from (take to (now (elements .entry))))) × (r ≡ true → Unmet (stampOf (e + 1)) (now (met .exit))) ⌝ }
 {
-    let stamp = path_stamp(e);
+    let stamp = stamp_of(e);
     let mut low = 0usize;
     let mut twice = 0usize;
     for i in from..to {
@@ -92,7 +84,7 @@ fn face_fits(elements: &[u16], from: usize, to: usize, e: usize, paths: &mut [u3
         if !number_fits(elements, x, low, e, 2) {
             return false;
         }
-        let joins = join_ends(elements, x, paths, stamp);
+        let joins = join_ends(elements, x, met, stamp);
         if joins == THRICE {
             return false;
         }
@@ -116,11 +108,10 @@ pub fn boundary_sound(
     e: usize,
     d: usize,
     rank: usize,
-    met: &mut [u16; 512],
-    paths: &mut [u32; 512],
+    met: &mut [u32; 512],
 ) -> bool
-    requires { ⌜ (length (now elements) ≡ 18432) × (at + n ≤ 18432) × (n ≤ 32) × (e < 512) × (rank ≡ 1 → ⊥) × EdgesLow (now elements) e × Fresh e (now met) (now paths) ⌝ }
-    ensures { λ r. ⌜ (r ≡ boundaryWords desk (now (elements .entry)) d e rank (drop at (take (at + n) (now (elements .entry))))) × (r ≡ true → Fresh (e + 1) (now (met .exit)) (now (paths .exit))) ⌝ }
+    requires { ⌜ (length (now elements) ≡ 18432) × (at + n ≤ 18432) × (n ≤ 32) × (e < 512) × (rank ≡ 1 → ⊥) × EdgesLow (now elements) e × Unmet (stampOf e) (now met) ⌝ }
+    ensures { λ r. ⌜ (r ≡ boundaryWords desk (now (elements .entry)) d e rank (drop at (take (at + n) (now (elements .entry))))) × (r ≡ true → Unmet (stampOf (e + 1)) (now (met .exit))) ⌝ }
 {
     if n <= rank {
         return false;
@@ -131,5 +122,5 @@ pub fn boundary_sound(
     if n <= few_edges(d) {
         return few_fits(elements, at, at + n, e, met);
     }
-    face_fits(elements, at, at + n, e, paths)
+    face_fits(elements, at, at + n, e, met)
 }

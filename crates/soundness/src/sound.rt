@@ -23,7 +23,8 @@ ghost use Rattle.rules.specs.Memory.{soundMemory};
 ghost use Rattle.rules.specs.Held.{memoryOf};
 ghost use Rattle.rules.specs.Replies.{isSoundReply};
 ghost use Rattle.space.specs.Chains.{Indexed};
-ghost use Rattle.soundness.specs.Words.{blank, countsFit, Mask, Gathered, headWords, cornerNamed, Fresh, facetWords, EdgesLow, polytopeWords, rowSound, rowsInUse, rowsDistinct, rowsSound};
+ghost use Rattle.space.specs.Closed.{Unmet};
+ghost use Rattle.soundness.specs.Words.{blank, countsFit, Mask, Gathered, headWords, cornerNamed, stampOf, facetWords, EdgesLow, polytopeWords, rowSound, rowsInUse, rowsDistinct, rowsSound};
 
 // How many words stand before a boundary: rank, mark, hyperplane, count.
 const HEAD: usize = 4;
@@ -161,13 +162,12 @@ fn higher_sound(
     e: usize,
     d: usize,
     rank: usize,
-    met: &mut [u16; 512],
-    paths: &mut [u32; 512],
+    met: &mut [u32; 512],
     past: &[u16; 64],
     seen: &mut [u16; 32],
 ) -> bool
-    requires { ⌜ (length (now elements) ≡ 18432) × (e < 512) × (rank ≡ 1 → ⊥) × EdgesLow (now elements) e × Fresh e (now met) (now paths) × Mask (now past) × (length (now seen) ≡ 32) ⌝ }
-    ensures { λ r. ⌜ (r ≡ polytopeWords desk (now (elements .entry)) d e rank (take 36 (drop (e * 36) (now (elements .entry))))) × (r ≡ true → Fresh (e + 1) (now (met .exit)) (now (paths .exit))) × (r ≡ true → Gathered (take 36 (drop (e * 36) (now (elements .entry)))) (now (seen .entry)) (now (seen .exit))) ⌝ }
+    requires { ⌜ (length (now elements) ≡ 18432) × (e < 512) × (rank ≡ 1 → ⊥) × EdgesLow (now elements) e × Unmet (stampOf e) (now met) × Mask (now past) × (length (now seen) ≡ 32) ⌝ }
+    ensures { λ r. ⌜ (r ≡ polytopeWords desk (now (elements .entry)) d e rank (take 36 (drop (e * 36) (now (elements .entry))))) × (r ≡ true → Unmet (stampOf (e + 1)) (now (met .exit))) × (r ≡ true → Gathered (take 36 (drop (e * 36) (now (elements .entry)))) (now (seen .entry)) (now (seen .exit))) ⌝ }
 {
     let at = e * WIDTH;
     let n = wide(elements[at + 3]);
@@ -175,7 +175,7 @@ fn higher_sound(
         return false;
     }
     gather_past(elements, at, n, past, seen);
-    boundary_sound(elements, at + HEAD, n, e, d, rank, met, paths)
+    boundary_sound(elements, at + HEAD, n, e, d, rank, met)
 }
 
 // The boundary of a polytope, by its rank.
@@ -184,18 +184,17 @@ fn polytope_sound(
     e: usize,
     d: usize,
     rank: usize,
-    met: &mut [u16; 512],
-    paths: &mut [u32; 512],
+    met: &mut [u32; 512],
     past: &[u16; 64],
     seen: &mut [u16; 32],
 ) -> bool
-    requires { ⌜ (length (now elements) ≡ 18432) × (e < 512) × EdgesLow (now elements) e × Fresh e (now met) (now paths) × Mask (now past) × (length (now seen) ≡ 32) ⌝ }
-    ensures { λ r. ⌜ (r ≡ polytopeWords desk (now (elements .entry)) d e rank (take 36 (drop (e * 36) (now (elements .entry))))) × (r ≡ true → Fresh (e + 1) (now (met .exit)) (now (paths .exit))) × (r ≡ true → Gathered (take 36 (drop (e * 36) (now (elements .entry)))) (now (seen .entry)) (now (seen .exit))) ⌝ }
+    requires { ⌜ (length (now elements) ≡ 18432) × (e < 512) × EdgesLow (now elements) e × Unmet (stampOf e) (now met) × Mask (now past) × (length (now seen) ≡ 32) ⌝ }
+    ensures { λ r. ⌜ (r ≡ polytopeWords desk (now (elements .entry)) d e rank (take 36 (drop (e * 36) (now (elements .entry))))) × (r ≡ true → Unmet (stampOf (e + 1)) (now (met .exit))) × (r ≡ true → Gathered (take 36 (drop (e * 36) (now (elements .entry)))) (now (seen .entry)) (now (seen .exit))) ⌝ }
 {
     if rank == 1 {
         return edge_sound(elements, e, past, seen);
     }
-    higher_sound(elements, e, d, rank, met, paths, past, seen)
+    higher_sound(elements, e, d, rank, met, past, seen)
 }
 
 // One row, where vertex k is the next to be named. Rows are tested by kind, so that the count of a vertex or an edge is a literal.
@@ -205,13 +204,12 @@ fn row_sound(
     d: usize,
     h: usize,
     k: usize,
-    met: &mut [u16; 512],
-    paths: &mut [u32; 512],
+    met: &mut [u32; 512],
     past: &[u16; 64],
     seen: &mut [u16; 32],
 ) -> bool
-    requires { ⌜ (length (now elements) ≡ 18432) × (e < 512) × EdgesLow (now elements) e × Fresh e (now met) (now paths) × Mask (now past) × (length (now seen) ≡ 32) ⌝ }
-    ensures { λ r. ⌜ (r ≡ rowSound desk (now (elements .entry)) d h k e (take 36 (drop (e * 36) (now (elements .entry))))) × (r ≡ true → Fresh (e + 1) (now (met .exit)) (now (paths .exit))) × (r ≡ true → Gathered (take 36 (drop (e * 36) (now (elements .entry)))) (now (seen .entry)) (now (seen .exit))) ⌝ }
+    requires { ⌜ (length (now elements) ≡ 18432) × (e < 512) × EdgesLow (now elements) e × Unmet (stampOf e) (now met) × Mask (now past) × (length (now seen) ≡ 32) ⌝ }
+    ensures { λ r. ⌜ (r ≡ rowSound desk (now (elements .entry)) d h k e (take 36 (drop (e * 36) (now (elements .entry))))) × (r ≡ true → Unmet (stampOf (e + 1)) (now (met .exit))) × (r ≡ true → Gathered (take 36 (drop (e * 36) (now (elements .entry)))) (now (seen .entry)) (now (seen .exit))) ⌝ }
 {
     let at = e * WIDTH;
     let rank = wide(elements[at]);
@@ -224,7 +222,7 @@ fn row_sound(
     if d < rank {
         return false;
     }
-    if !polytope_sound(elements, e, d, rank, met, paths, past, seen) {
+    if !polytope_sound(elements, e, d, rank, met, past, seen) {
         return false;
     }
     let plane = wide(elements[at + 2]);
@@ -238,12 +236,11 @@ fn rows_in_use(elements: &[u16], d: usize, n: usize, v: usize, h: usize, index: 
     ensures { λ r. ⌜ (r ≡ (rowsInUse desk d n v h (now (elements .entry)) && rowsDistinct desk n (now (elements .entry)))) × (r ≡ true → Indexed (now (elements .entry)) n (now (index .exit))) ⌝ }
 {
     let past = past_mask();
-    let mut met = [0u16; 512];
-    let mut paths = [0u32; 512];
+    let mut met = [0u32; 512];
     let mut seen = [0u16; 32];
     let mut k = 0usize;
     for i in 0..n {
-        if !row_sound(elements, i, d, h, k, &mut met, &mut paths, &past, &mut seen) {
+        if !row_sound(elements, i, d, h, k, &mut met, &past, &mut seen) {
             return false;
         }
         if !row_new(elements, i, index) {

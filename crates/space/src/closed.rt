@@ -25,16 +25,16 @@ pub fn few_edges(d: usize) -> usize
 }
 
 // The word of a corner that is met: below the stamp it was not met yet, at the stamp once.
-fn later(m: u16, stamp: u16) -> u16
-    requires { ⌜ stamp < 65535 ⌝ }
+fn later(m: u32, stamp: u32) -> u32
+    requires { ⌜ stamp < 1000000 ⌝ }
     ensures { λ r. ⌜ r ≡ metNext stamp m ⌝ }
 {
     if m < stamp { stamp } else { stamp + 1 }
 }
 
 // A corner is met: 1 for the second time.
-fn meet(met: &mut [u16; 512], v: usize, stamp: u16) -> usize
-    requires { ⌜ (v < 512) × (stamp < 65535) ⌝ }
+fn meet(met: &mut [u32; 512], v: usize, stamp: u32) -> usize
+    requires { ⌜ (v < 512) × (stamp < 1000000) ⌝ }
     ensures { λ r. ⌜ (r ≡ isSecond stamp (now (met .entry)) v) × (now (met .exit) ≡ meeting stamp (now (met .entry)) v) ⌝ }
 {
     let m = met[v];
@@ -43,8 +43,8 @@ fn meet(met: &mut [u16; 512], v: usize, stamp: u16) -> usize
 }
 
 // Both ends of an edge are met: how many of them for the second time.
-pub fn meet_ends(elements: &[u16], e: usize, met: &mut [u16; 512], stamp: u16) -> usize
-    requires { ⌜ (length (now elements) ≡ 18432) × (e < 512) × EndsLow (now elements) e × (stamp < 65535) ⌝ }
+pub fn meet_ends(elements: &[u16], e: usize, met: &mut [u32; 512], stamp: u32) -> usize
+    requires { ⌜ (length (now elements) ≡ 18432) × (e < 512) × EndsLow (now elements) e × (stamp < 1000000) ⌝ }
     ensures { λ r. ⌜ (r ≡ seconds stamp (now (elements .entry)) (now (met .entry)) e) × (now (met .exit) ≡ bothMet stamp (now (elements .entry)) (now (met .entry)) e) × (r ≤ 2) ⌝ }
 {
     let edge = ElementId(e);
@@ -60,7 +60,7 @@ fn each_twice(elements: &[u16], list: &[u16], n: usize) -> bool
     requires { ⌜ (length (now elements) ≡ 18432) × (n ≤ length (now list)) × (n ≤ 33) × Low (now list) n × LowEnds (now elements) (now list) n ⌝ }
     ensures { λ r. ⌜ r ≡ metTwice (now (elements .entry)) (take n (now (list .entry))) ⌝ }
 {
-    let mut met = [0u16; 512];
+    let mut met = [0u32; 512];
     let mut twice = 0usize;
     for k in 0..n {
         let e = wide(list[k]);

@@ -7,7 +7,7 @@ use borrow.Author.Needs.{needs}
 use borrow.Author.Tests.{le-ltb, lt-ltb}
 use Rattle.space.specs.Closed.{few}
 use Rattle.soundness.proofs.BoundaryLoops.{boundary-by, boundary-few, boundary-face, boundary-body}
-use Rattle.soundness.proofs.FaceLoops.{stamp-next, path-next, fresh-next}
+use Rattle.soundness.proofs.FaceLoops.{unmet-next}
 use Rattle.soundness.proofs.boundaries.boundary_sound.Statement.{statement}
 use Rattle.soundness.proofs.boundaries.boundary_sound.Tie as tie
 
@@ -42,7 +42,7 @@ returns-2 c =
     let a = s .args in
     let p = s .pre in (
       boundary-body (a .elements .now) (a .at) (a .n) (a .d) (a .e) (a .rank) (p .0) (p .1) (p .4) (c .before .if2 .taken) (lt-ltb _ _ (c .before .before .if1 .left)) (c .numbers-fit .ensures),
-      λ t. fresh-next (a .e) (a .met .now) (a .paths .now) (p .6),
+      λ t. unmet-next (a .e) (a .met .now) (p .6),
     )
 
 few-edges-requires : tie.Need-few-edges-requires
@@ -54,7 +54,7 @@ add-few-fits c = search needs
 few-fits-requires : tie.Need-few-fits-requires
 few-fits-requires c κs =
     let p = start (c .before .before .before) .pre in
-    (omega arith, omega (arith, p .2), omega (arith, p .0, p .1), p .0, p .3, p .5, p .6 .counted)
+    (omega arith, omega (arith, p .2), omega (arith, p .0, p .1), p .0, p .3, p .5, p .6)
 
 returns-3 : tie.Need-returns-3
 returns-3 c =
@@ -64,7 +64,7 @@ returns-3 c =
     let h = c .before .before .if3 .taken in
     let q = c .before .before .before .few-edges .ensures in (
       boundary-few (a .elements .now) (a .at) (a .n) (a .d) (a .e) (a .rank) (p .0) (p .1) (f .if2 .left) (lt-ltb _ _ (f .before .if1 .left)) (let z : a .n ≤ few (a .d) = omega (arith, h, q) in z) (c .few-fits .ensures .0),
-      λ t. record { counted = c .few-fits .ensures .1 t; joined = path-next (a .e) (a .paths .now) (p .6 .joined) },
+      c .few-fits .ensures .1,
     )
 
 add-face-fits : tie.Need-add-face-fits
@@ -73,7 +73,7 @@ add-face-fits c = search needs
 face-fits-requires : tie.Need-face-fits-requires
 face-fits-requires c κs =
     let p = start (c .before .before .before) .pre in
-    (omega arith, omega (arith, p .2), omega (arith, p .0, p .1), p .0, p .3, p .5, p .6 .joined)
+    (omega arith, omega (arith, p .2), omega (arith, p .0, p .1), p .0, p .3, p .5, p .6)
 
 returns-4 : tie.Need-returns-4
 returns-4 c =
@@ -83,7 +83,7 @@ returns-4 c =
     let h = c .before .before .if3 .left in
     let q = c .before .before .before .few-edges .ensures in (
       boundary-face (a .elements .now) (a .at) (a .n) (a .d) (a .e) (a .rank) (p .0) (p .1) (f .if2 .left) (lt-ltb _ _ (f .before .if1 .left)) (let z : few (a .d) < a .n = omega (arith, h, q) in z) (c .face-fits .ensures .0),
-      λ t. record { counted = stamp-next (a .e) (a .met .now) (p .6 .counted); joined = c .face-fits .ensures .1 t },
+      c .face-fits .ensures .1,
     )
 
 pub boundary-sound-spec : {M : Type 1} → statement M

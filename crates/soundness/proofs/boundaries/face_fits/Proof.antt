@@ -10,7 +10,7 @@ use Rattle.rules.specs.Limits.{desk}
 use Rattle.rules.proofs.Laws.{not-true, not-false}
 use Rattle.space.specs.Closed.{Stamped, Unmet, joining, joined}
 use Rattle.space.proofs.PathsJoined.{Paths, paths-start, paths-few, paths-stamped}
-use Rattle.soundness.specs.Words.{numbersFit, pathStamp}
+use Rattle.soundness.specs.Words.{numbersFit, stampOf}
 use Rattle.soundness.proofs.BoundaryFits.{left, fits-start, fits-go, fits-no, fits-end}
 use Rattle.soundness.proofs.BoundaryLoops.{number-ends, number-low}
 use Rattle.soundness.proofs.FaceLoops.{face-go, face-thrice, face-early, face-last, face-none, stamped-next}
@@ -19,14 +19,14 @@ use Rattle.soundness.proofs.boundaries.face_fits.Statement.{statement}
 use Rattle.soundness.proofs.boundaries.face_fits.Tie as tie
 
 abbrev Inv-loop : tie.InvT-loop
-Inv-loop elements from to e paths₀ stamp low₀ twice₀ i₀ paths low twice i = (from ≤ i) × (i ≤ to) × (stamp ≡ pathStamp e) × (numbersFit desk elements e 2 (drop from (take to elements)) ≡ left elements to e 2 low i)
-    × Paths elements (drop from (take to elements)) (pathStamp e) paths twice (i - from)
+Inv-loop elements from to e met₀ stamp low₀ twice₀ i₀ met low twice i = (from ≤ i) × (i ≤ to) × (stamp ≡ stampOf e) × (numbersFit desk elements e 2 (drop from (take to elements)) ≡ left elements to e 2 low i)
+    × Paths elements (drop from (take to elements)) (stampOf e) met twice (i - from)
 
 abbrev μ-loop : tie.MeasureT-loop
-μ-loop elements from to e paths₀ stamp low₀ twice₀ i₀ paths low twice i = to - i
+μ-loop elements from to e met₀ stamp low₀ twice₀ i₀ met low twice i = to - i
 
-path-stamp-requires : tie.Need-path-stamp-requires Inv-loop μ-loop
-path-stamp-requires c κs = c .before .pre .4
+stamp-of-requires : tie.Need-stamp-of-requires Inv-loop μ-loop
+stamp-of-requires c κs = c .before .pre .4
 
 loop-holds : tie.Need-loop-holds Inv-loop μ-loop
 loop-holds c =
@@ -34,10 +34,10 @@ loop-holds c =
     let p = c .before .before .pre in (
       search needs,
       p .0,
-      c .path-stamp .ensures .0,
+      c .stamp-of .ensures .0,
       fits-start (a .elements .now) (a .to) (a .e) 2 (a .from),
-      subst (λ (k : ℕ). Paths (a .elements .now) (drop (a .from) (take (a .to) (a .elements .now))) (pathStamp (a .e)) (a .paths .now) 0 k) (let z : 0 ≡ a .from - a .from = omega arith in z)
-          (paths-start (a .elements .now) (drop (a .from) (take (a .to) (a .elements .now))) (pathStamp (a .e)) (a .paths .now) (p .6)),
+      subst (λ (k : ℕ). Paths (a .elements .now) (drop (a .from) (take (a .to) (a .elements .now))) (stampOf (a .e)) (a .met .now) 0 k) (let z : 0 ≡ a .from - a .from = omega arith in z)
+          (paths-start (a .elements .now) (drop (a .from) (take (a .to) (a .elements .now))) (stampOf (a .e)) (a .met .now) (p .6)),
     )
 
 mul-wide : tie.Need-mul-wide Inv-loop μ-loop
@@ -69,8 +69,8 @@ join-ends-requires c κs =
       p .3,
       omega (arith, l, p .4),
       number-ends (a .elements .now) (a .e) (p .5) (at .low) _ fits,
-      subst (λ (s : ℕ). Stamped s (at .paths)) (sym (at .inv .2)) (paths-stamped (a .elements .now) (drop (a .from) (take (a .to) (a .elements .now))) (pathStamp (a .e)) (at .paths) (at .twice) (at .i - a .from) (at .inv .4)),
-      c .before .before .before .before .before .before .before .path-stamp .ensures .1,
+      subst (λ (s : ℕ). Stamped s (at .met)) (sym (at .inv .2)) (paths-stamped (a .elements .now) (drop (a .from) (take (a .to) (a .elements .now))) (stampOf (a .e)) (at .met) (at .twice) (at .i - a .from) (at .inv .4)),
+      c .before .before .before .before .before .before .before .stamp-of .ensures .1,
     )
 
 returns-2 : tie.Need-returns-2 Inv-loop μ-loop
@@ -82,8 +82,8 @@ returns-2 c =
     let x = c .before .before .before .before .before .wide .ensures .0 in
     let fits = sym (c .before .before .before .before .number-fits .ensures) ∙ not-false _ (c .before .before .before .if1 .left) in
     let j = c .before .join-ends in
-    let r = j .ensures .0 ∙ ap (λ (s : ℕ). joining s (a .elements .now) (at .paths) (c .before .before .before .before .before .wide .result)) (at .inv .2) in
-    (face-thrice (a .elements .now) (a .from) (a .to) (a .e) (p .2) (p .4) (p .5) (at .paths) (at .twice) (at .i) (pathStamp (a .e)) (at .inv .4) (at .inv .0) h _ _ x r (c .if2 .taken), λ t. absurd (false≢true t))
+    let r = j .ensures .0 ∙ ap (λ (s : ℕ). joining s (a .elements .now) (at .met) (c .before .before .before .before .before .wide .result)) (at .inv .2) in
+    (face-thrice (a .elements .now) (a .from) (a .to) (a .e) (p .2) (p .4) (p .5) (at .met) (at .twice) (at .i) (stampOf (a .e)) (at .inv .4) (at .inv .0) h _ _ x r (c .if2 .taken), λ t. absurd (false≢true t))
 
 add-if4 : tie.Need-add-if4 Inv-loop μ-loop
 add-if4 c = search needs
@@ -97,8 +97,8 @@ returns-3 c =
     let x = c .before .before .before .before .before .before .before .wide .ensures .0 in
     let fits = sym (c .before .before .before .before .before .before .number-fits .ensures) ∙ not-false _ (c .before .before .before .before .before .if1 .left) in
     let j = c .before .before .before .join-ends in
-    let r = j .ensures .0 ∙ ap (λ (s : ℕ). joining s (a .elements .now) (at .paths) (c .before .before .before .before .before .before .before .wide .result)) (at .inv .2) in
-    (face-early (a .elements .now) (a .from) (a .to) (a .e) (p .2) (p .4) (p .5) (at .paths) (at .twice) (at .i) (pathStamp (a .e)) (at .inv .4) (at .inv .0) h _ _ x r (c .before .if3 .taken) (c .if4 .taken), λ t. absurd (false≢true t))
+    let r = j .ensures .0 ∙ ap (λ (s : ℕ). joining s (a .elements .now) (at .met) (c .before .before .before .before .before .before .before .wide .result)) (at .inv .2) in
+    (face-early (a .elements .now) (a .from) (a .to) (a .e) (p .2) (p .4) (p .5) (at .met) (at .twice) (at .i) (stampOf (a .e)) (at .inv .4) (at .inv .0) h _ _ x r (c .before .if3 .taken) (c .if4 .taken), λ t. absurd (false≢true t))
 
 add-result : tie.Need-add-result Inv-loop μ-loop
 add-result c =
@@ -120,14 +120,14 @@ returns-4 c =
     let x = c .before .before .before .before .before .before .before .wide .ensures .0 in
     let fits = sym (c .before .before .before .before .before .before .number-fits .ensures) ∙ not-false _ (c .before .before .before .before .before .if1 .left) in
     let j = c .before .before .before .join-ends in
-    let r = j .ensures .0 ∙ ap (λ (s : ℕ). joining s (a .elements .now) (at .paths) (c .before .before .before .before .before .before .before .wide .result)) (at .inv .2) in
+    let r = j .ensures .0 ∙ ap (λ (s : ℕ). joining s (a .elements .now) (at .met) (c .before .before .before .before .before .before .before .wide .result)) (at .inv .2) in
     let last = c .if4 .left in
     let three = c .before .if3 .taken in
     let same = j .ensures .2 (let z : 3 ≤ j .result = omega (arith, three) in z) in (
-      face-last (a .elements .now) (a .from) (a .to) (a .e) (p .2) (p .4) (p .5) (at .paths) (at .twice) (at .i) (pathStamp (a .e)) (at .inv .4) (at .inv .0) h _ _ x r three last
+      face-last (a .elements .now) (a .from) (a .to) (a .e) (p .2) (p .4) (p .5) (at .met) (at .twice) (at .i) (stampOf (a .e)) (at .inv .4) (at .inv .0) h _ _ x r three last
           (fits-end (a .elements .now) (a .to) (a .e) 2 (p .2) _ _ (fits-go (a .elements .now) (a .to) (a .e) 2 (p .2) (at .low) (at .i) _ (at .inv .3) x h fits) last),
-      λ t. subst (λ (ws : List ℕ). Unmet (pathStamp (a .e + 1)) ws) (sym same)
-          (stamped-next (a .e) (at .paths) (paths-stamped (a .elements .now) (drop (a .from) (take (a .to) (a .elements .now))) (pathStamp (a .e)) (at .paths) (at .twice) (at .i - a .from) (at .inv .4))),
+      λ t. subst (λ (ws : List ℕ). Unmet (stampOf (a .e + 1)) ws) (sym same)
+          (stamped-next (a .e) (at .met) (paths-stamped (a .elements .now) (drop (a .from) (take (a .to) (a .elements .now))) (stampOf (a .e)) (at .met) (at .twice) (at .i - a .from) (at .inv .4))),
     )
 
 add-twice : tie.Need-add-twice Inv-loop μ-loop
@@ -157,7 +157,7 @@ loop-again c =
     let x = c .before .before .before .before .before .before .wide .ensures .0 in
     let fits = sym (c .before .before .before .before .before .number-fits .ensures) ∙ not-false _ (c .before .before .before .before .if1 .left) in
     let j = c .before .before .join-ends in
-    let r = j .ensures .0 ∙ ap (λ (s : ℕ). joining s (a .elements .now) (at .paths) (c .before .before .before .before .before .before .wide .result)) (at .inv .2) in
+    let r = j .ensures .0 ∙ ap (λ (s : ℕ). joining s (a .elements .now) (at .met) (c .before .before .before .before .before .before .wide .result)) (at .inv .2) in
     let few = j .ensures .3 in
     let not-four = c .before .if2 .left in
     let not-three = c .if3 .left in
@@ -166,9 +166,9 @@ loop-again c =
       search needs,
       at .inv .2,
       fits-go (a .elements .now) (a .to) (a .e) 2 (p .2) (at .low) (at .i) _ (at .inv .3) x h fits,
-      face-go (a .elements .now) (a .from) (a .to) (a .e) (p .2) (at .paths) _ (at .twice) (at .i) _ _ (pathStamp (a .e)) (at .inv .4) (at .inv .0) h x
+      face-go (a .elements .now) (a .from) (a .to) (a .e) (p .2) (at .met) _ (at .twice) (at .i) _ _ (stampOf (a .e)) (at .inv .4) (at .inv .0) h x
           (number-ends (a .elements .now) (a .e) (p .5) (at .low) _ fits) r small
-          (j .ensures .1 small ∙ ap (λ (s : ℕ). joined s (a .elements .now) (at .paths) (c .before .before .before .before .before .before .wide .result)) (at .inv .2)),
+          (j .ensures .1 small ∙ ap (λ (s : ℕ). joined s (a .elements .now) (at .met) (c .before .before .before .before .before .before .wide .result)) (at .inv .2)),
     )
 
 sub-result-2 : tie.Need-sub-result-2 Inv-loop μ-loop
@@ -180,8 +180,8 @@ returns-5 c =
     let p = c .before .before .before .before .pre in
     let at = c .before .loop in
     let e : at .i ≡ a .to = omega (arith, at .inv .1, c .loop-test .left) in (
-      face-none (a .elements .now) (a .from) (a .to) (a .e) (p .2) (p .4) (p .5) (at .paths) (at .twice) (at .i) (pathStamp (a .e)) (at .inv .4) (at .inv .0) e (fits-end (a .elements .now) (a .to) (a .e) 2 (p .2) (at .low) (at .i) (at .inv .3) (c .loop-test .left)),
-      λ t. stamped-next (a .e) (at .paths) (paths-stamped (a .elements .now) (drop (a .from) (take (a .to) (a .elements .now))) (pathStamp (a .e)) (at .paths) (at .twice) (at .i - a .from) (at .inv .4)),
+      face-none (a .elements .now) (a .from) (a .to) (a .e) (p .2) (p .4) (p .5) (at .met) (at .twice) (at .i) (stampOf (a .e)) (at .inv .4) (at .inv .0) e (fits-end (a .elements .now) (a .to) (a .e) 2 (p .2) (at .low) (at .i) (at .inv .3) (c .loop-test .left)),
+      λ t. stamped-next (a .e) (at .met) (paths-stamped (a .elements .now) (drop (a .from) (take (a .to) (a .elements .now))) (stampOf (a .e)) (at .met) (at .twice) (at .i - a .from) (at .inv .4)),
     )
 
 pub face-fits-spec : {M : Type 1} → statement M
@@ -190,7 +190,7 @@ face-fits-spec =
     (tie.spec
     Inv-loop
     μ-loop
-    path-stamp-requires
+    stamp-of-requires
     loop-holds
     mul-wide
     shared-slice-read-wide

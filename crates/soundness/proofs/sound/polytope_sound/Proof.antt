@@ -4,8 +4,8 @@ use mathlib.Core.Path.{sym, ap, _∙_}
 use native.Mathlib.Omega.{arith}
 use lib.ListN.{take, drop}
 use Rattle.rules.specs.Limits.{desk}
-use Rattle.soundness.specs.Words.{polytopeWords}
-use Rattle.soundness.proofs.FaceLoops.{fresh-next}
+use Rattle.soundness.specs.Words.{stampOf, polytopeWords}
+use Rattle.soundness.proofs.FaceLoops.{unmet-next}
 use Rattle.soundness.proofs.sound.polytope_sound.Statement.{statement}
 use Rattle.soundness.proofs.sound.polytope_sound.Tie as tie
 
@@ -18,15 +18,14 @@ returns : tie.Need-returns
 returns c =
     let a = c .before .before .before .before .args in (
       c .edge-sound .ensures .0 (a .d) ∙ ap (λ (r : ℕ). polytopeWords desk (a .elements .now) (a .d) (a .e) r (take 36 (drop (a .e * 36) (a .elements .now)))) (sym (c .before .before .if1 .taken)),
-      λ t. fresh-next (a .e) (a .met .now) (a .paths .now) (c .before .before .before .before .pre .3),
+      λ t. unmet-next (a .e) (a .met .now) (c .before .before .before .before .pre .3),
       c .edge-sound .ensures .1,
     )
 
 higher-sound-requires : tie.Need-higher-sound-requires
 higher-sound-requires c κs =
-    let f = c .before .before .before in
-    let p = f .before .before .pre in
-    (p .0, p .1, f .if1 .left, p .2, p .3, p .4, p .5)
+    let p = c .before .before .before .before .pre in
+    (p .0, p .1, c .before .before .if1 .left, p .2, p .3, p .4, p .5)
 
 returns-2 : tie.Need-returns-2
 returns-2 c = c .higher-sound .ensures
