@@ -1,7 +1,20 @@
-/* Every entry point of the desk, for C. Each slice is a pointer and how many entries it has; the table's four come first.
-   A table is room of 4 counts, 1024 points' floats, 320 hyperplanes' floats and 18432 words of elements, lent with each call.
-   What each function does is its contract in crates/desk/src/lib.rt: every table, number and float is allowed, and a refused
-   call leaves the table and the list room as they came. */
+/* Every entry point of the desk, for C: first what there is to know, then the nine functions of the archive, then readers of
+   their replies and a table as one struct, which are written here. What each function does is its contract in
+   crates/desk/src/lib.rt: every table, number and float is allowed, and a refused call leaves the table and the list room as
+   they came.
+
+   A cut does not make pieces: it adds entries to a table, and a piece that the plane misses is its old entry. Elements,
+   vertices and hyperplanes are three lists, each numbered from 0: a vertex number is no element number.
+
+   Lent: each slice is a pointer and how many entries it has, which is not how many bytes. Slices lie apart from one another.
+   Stack: a call takes less than 16 KB of it, and nothing of the heap. A table has 47,624 bytes, so make it static or allocate it.
+   Threads: nothing is held between calls. Tables that differ may be used at the same time, and one by many calls that only read.
+   Floats: the processor rounds to nearest and keeps subnormals, as it does when a program starts.
+
+   A divider is a normal and a distance, and the signed distance of a point is normal . point - distance. Inside is below -2^-20,
+   outside above 2^-20, between them is on the plane. The normal has components from -1 to 1 whose squares add up to 1, give or
+   take 2^-20: 0.7071 twice is not unit, 0.707107 twice is. Past the dimension its components are +0.0, and -0.0 is refused.
+   The distance is from -262,144 to 262,144, or infinite: then the answer is the root itself. Coordinates are from -65,536 to 65,536. */
 #ifndef SPOONVELVET_DESK_H
 #define SPOONVELVET_DESK_H
 
@@ -12,13 +25,64 @@
 extern "C" {
 #endif
 
+#define DESK_VERSION "0.1.0"
+
+/* How many of each there is room for, in a table and in the boundary of one element. */
+#define DESK_ELEMENT_ROOM 512
+#define DESK_VERTEX_ROOM 256
+#define DESK_HYPERPLANE_ROOM 64
+#define DESK_BOUNDARY_ROOM 32
+
+/* A vertex is a row of DESK_AXES coordinates, a hyperplane one of DESK_AXES components and the distance. Unused room is zero bits. */
+#define DESK_AXES 4
+#define DESK_PLANE_WIDTH 5
+
+/* An element is a row of words. A vertex element has rank 0, mark 0, DESK_NONE, count 1 and its vertex number. */
+#define DESK_ELEMENT_WIDTH 36
+#define DESK_ROW_RANK 0       /* 1 for an edge, 2 for a face */
+#define DESK_ROW_MARK 1       /* 1 where the element is primordial */
+#define DESK_ROW_HYPERPLANE 2 /* the number of a facet's hyperplane, else DESK_NONE */
+#define DESK_ROW_COUNT 3      /* of the boundary */
+#define DESK_ROW_BOUNDARY 4   /* so many element numbers, rising */
+
+/* What the counts of a table are. */
+#define DESK_COUNT_DIMENSION 0
+#define DESK_COUNT_ELEMENTS 1
+#define DESK_COUNT_VERTICES 2
+#define DESK_COUNT_HYPERPLANES 3
+
+/* The lengths of a table's four slices. */
 #define DESK_COUNTS 4
 #define DESK_POINTS 1024
 #define DESK_PLANES 320
 #define DESK_ELEMENTS 18432
 
-/* What stands for "none" in the reply of a cut. */
+/* No list is longer. */
+#define DESK_LONGEST_LIST 512
+
+/* What stands for "none" in the reply of a cut, and for "no hyperplane" in a row. */
 #define DESK_NONE 0xffff
+
+/* The numbers of refusals: DESK_REFUSED_DIMENSION is 1, and so on. */
+#define DESK_REFUSALS(each)                                                                                   \
+    each(1, DIMENSION, "the dimension is not 1 to 4")                                                         \
+    each(2, RADIUS, "the radius is not a number from 1 to 65,536")                                            \
+    each(3, NOT_SOUND, "the table is not sound, or its room has another size")                                \
+    each(4, NOT_IN_USE, "an element number is not in use")                                                    \
+    each(5, DIVIDER, "the normal is not unit, or the distance is not a number or finite beyond 262,144")      \
+    each(6, RANK, "an element of another rank or kind is asked for")                                          \
+    each(7, NOT_CLOSED, "an edge would not have two ends, or the edges of a face do not go round once")       \
+    each(8, VERTICES_FULL, "there is no room for another vertex")                                             \
+    each(9, ELEMENTS_FULL, "there is no room for another element")                                            \
+    each(10, HYPERPLANES_FULL, "there is no room for another hyperplane")                                     \
+    each(11, BOUNDARY_FULL, "a boundary would have more than 32 elements")                                    \
+    each(12, LIST_SHORT, "the room for the list is too short")
+
+#define DESK_NAMED(number, name, words) DESK_REFUSED_##name = number,
+enum desk_number { DESK_REFUSALS(DESK_NAMED) DESK_DONE = 0 };
+#undef DESK_NAMED
+
+/* ---- The functions of the archive */
 
 /* The four slices of a table: for a function that only reads it, and for one that may add entries. */
 #define DESK_READS                                                                                      \
@@ -31,15 +95,18 @@ extern "C" {
 /* 0 or 3. */
 uint32_t desk_is_sound(DESK_READS);
 
-/* 0 to 3: a cube of 1 to 4 dimensions and radius 1 to 65,536, in place of all that the memory had. */
+/* 0 to 3: a cube of 1 to 4 dimensions and radius 1 to 65,536, in place of all that the memory had. The cube is the last element:
+   2, 8, 26 or 80. */
 uint32_t desk_cube(DESK_WRITES, uint8_t ndim, double radius);
 
 /* Bits 0 to 7 the reply's number; bit 8 set for flush; 16 to 31 inside, 32 to 47 outside, 48 to 63 intersection, DESK_NONE
-   for none; refused or flush, the three are 0. inside and outside: 0 removes that side, any other byte keeps it. */
+   for none; refused or flush, the three are 0. inside and outside: 0 removes that side, any other byte keeps it. A removed side
+   is none, and the intersection is there either way. Two exceptions give a side also when it is removed: a root that is a vertex
+   element, and an infinite distance. */
 uint64_t desk_cut(DESK_WRITES, double n0, double n1, double n2, double n3, double distance, uint8_t inside,
                   uint8_t outside, uint16_t root);
 
-/* Bits 0 to 7 the number, above them the size of the list. */
+/* Bits 0 to 7 the number, above them the size of the list. The list fills the front of its room. */
 uint32_t desk_subelements_of(DESK_READS, uint16_t root, uint16_t *list, size_t list_len);
 uint32_t desk_subelements_with_rank(DESK_READS, uint16_t root, uint8_t rank, uint16_t *list, size_t list_len);
 uint32_t desk_vertex_set(DESK_READS, uint16_t root, uint16_t *list, size_t list_len);
@@ -51,6 +118,116 @@ uint32_t desk_edges_in_order(DESK_READS, uint16_t root, uint16_t *list, size_t l
 
 /* Bits 0 to 7 the number, bit 8 the answer. */
 uint32_t desk_has_primordial_facet(DESK_READS, uint16_t root);
+
+/* ---- Readers of a reply */
+
+/* DESK_DONE, or why it was refused. */
+static inline enum desk_number desk_number_of(uint64_t reply) { return (enum desk_number)(reply & 0xff); }
+
+static inline const char *desk_words(enum desk_number number) {
+    switch (number) {
+    case DESK_DONE: return "done";
+#define DESK_SAID(number, name, words) \
+    case DESK_REFUSED_##name: return words;
+        DESK_REFUSALS(DESK_SAID)
+#undef DESK_SAID
+    }
+    return "no refusal has this number";
+}
+
+/* Of a cut: whether the root lies in the plane, and else the three places, each an element or DESK_NONE. */
+static inline int desk_is_flush(uint64_t cut) { return (int)(cut >> 8 & 1); }
+static inline uint16_t desk_inside(uint64_t cut) { return (uint16_t)(cut >> 16); }
+static inline uint16_t desk_outside(uint64_t cut) { return (uint16_t)(cut >> 32); }
+static inline uint16_t desk_intersection(uint64_t cut) { return (uint16_t)(cut >> 48); }
+
+/* Of a list: how many numbers it has. */
+static inline uint32_t desk_size(uint32_t list) { return list >> 8; }
+
+/* Of the question about a primordial facet: the answer. */
+static inline int desk_is_yes(uint32_t facet) { return (int)(facet >> 8 & 1); }
+
+/* ---- A table as one struct */
+
+struct desk_table {
+    uint16_t counts[DESK_COUNTS];
+    double points[DESK_POINTS];
+    double planes[DESK_PLANES];
+    uint16_t elements[DESK_ELEMENTS];
+};
+
+struct desk_hyperplane {
+    double normal[DESK_AXES];
+    double distance;
+};
+
+/* What a cut keeps. */
+#define DESK_KEEP_NEITHER 0
+#define DESK_KEEP_INSIDE 1
+#define DESK_KEEP_OUTSIDE 2
+#define DESK_KEEP_BOTH 3
+
+#define DESK_LENT(table)                                                                                      \
+    (table)->counts, DESK_COUNTS, (table)->points, DESK_POINTS, (table)->planes, DESK_PLANES, (table)->elements, \
+        DESK_ELEMENTS
+
+static inline uint32_t desk_table_is_sound(const struct desk_table *table) { return desk_is_sound(DESK_LENT(table)); }
+
+static inline uint32_t desk_table_cube(struct desk_table *table, uint8_t ndim, double radius) {
+    return desk_cube(DESK_LENT(table), ndim, radius);
+}
+
+static inline uint64_t desk_table_cut(struct desk_table *table, struct desk_hyperplane divider, unsigned kept, uint16_t root) {
+    const double *n = divider.normal;
+    return desk_cut(DESK_LENT(table), n[0], n[1], n[2], n[3], divider.distance, kept & DESK_KEEP_INSIDE,
+                    kept & DESK_KEEP_OUTSIDE, root);
+}
+
+static inline uint32_t desk_table_subelements_of(const struct desk_table *table, uint16_t root, uint16_t *list, size_t list_len) {
+    return desk_subelements_of(DESK_LENT(table), root, list, list_len);
+}
+
+static inline uint32_t desk_table_subelements_with_rank(const struct desk_table *table, uint16_t root, uint8_t rank, uint16_t *list,
+                                                        size_t list_len) {
+    return desk_subelements_with_rank(DESK_LENT(table), root, rank, list, list_len);
+}
+
+static inline uint32_t desk_table_vertex_set(const struct desk_table *table, uint16_t root, uint16_t *list, size_t list_len) {
+    return desk_vertex_set(DESK_LENT(table), root, list, list_len);
+}
+
+static inline uint32_t desk_table_greatest_common_subelements(const struct desk_table *table, const uint16_t *roots, size_t roots_len,
+                                                              uint16_t *list, size_t list_len) {
+    return desk_greatest_common_subelements(DESK_LENT(table), roots, roots_len, list, list_len);
+}
+
+static inline uint32_t desk_table_edges_in_order(const struct desk_table *table, uint16_t root, uint16_t *list, size_t list_len) {
+    return desk_edges_in_order(DESK_LENT(table), root, list, list_len);
+}
+
+static inline uint32_t desk_table_has_primordial_facet(const struct desk_table *table, uint16_t root) {
+    return desk_has_primordial_facet(DESK_LENT(table), root);
+}
+
+/* The last element in use; of a fresh cube the cube itself, the root of its first cut. DESK_NONE in a table without elements. */
+static inline uint16_t desk_table_last_element(const struct desk_table *table) {
+    return (uint16_t)(table->counts[DESK_COUNT_ELEMENTS] - 1);
+}
+
+/* The row of an element, of which DESK_ROW_RANK and the others name the words. NULL where the number is not in use. */
+static inline const uint16_t *desk_table_row_of(const struct desk_table *table, uint16_t element) {
+    return element < table->counts[DESK_COUNT_ELEMENTS] ? table->elements + DESK_ELEMENT_WIDTH * element : NULL;
+}
+
+/* The coordinates of a vertex, which is no element number. NULL where the number is not in use. */
+static inline const double *desk_table_coordinates_of(const struct desk_table *table, uint16_t vertex) {
+    return vertex < table->counts[DESK_COUNT_VERTICES] ? table->points + DESK_AXES * vertex : NULL;
+}
+
+/* The components and the distance of a hyperplane. NULL where the number is not in use. */
+static inline const double *desk_table_hyperplane_at(const struct desk_table *table, uint16_t hyperplane) {
+    return hyperplane < table->counts[DESK_COUNT_HYPERPLANES] ? table->planes + DESK_PLANE_WIDTH * hyperplane : NULL;
+}
 
 #ifdef __cplusplus
 }

@@ -2,16 +2,23 @@
 #include "desk.h"
 #include <stdio.h>
 
-#define TABLE counts, DESK_COUNTS, points, DESK_POINTS, planes, DESK_PLANES, elements, DESK_ELEMENTS
+static struct desk_table table;
 
-static uint16_t counts[DESK_COUNTS], elements[DESK_ELEMENTS];
-static double points[DESK_POINTS], planes[DESK_PLANES];
+static int refused(enum desk_number number) {
+    fprintf(stderr, "refused %u: %s\n", (unsigned)number, desk_words(number));
+    return 1;
+}
 
 int main(void) {
-    desk_cube(TABLE, 2, 1.0);
+    uint32_t cube = desk_table_cube(&table, 2, 1.0);
+    if (desk_number_of(cube) != DESK_DONE) return refused(desk_number_of(cube));
+
+    uint16_t square = desk_table_last_element(&table);
+    struct desk_hyperplane divider = {{1.0, 0.0, 0.0, 0.0}, 0.0};
     for (int i = 0; i < 2; i++) {
-        uint64_t r = desk_cut(TABLE, 1.0, 0.0, 0.0, 0.0, 0.0, 1, 1, 8);
-        printf("%u %u %u\n", (unsigned)(r >> 16 & 0xffff), (unsigned)(r >> 32 & 0xffff), (unsigned)(r >> 48));
+        uint64_t cut = desk_table_cut(&table, divider, DESK_KEEP_BOTH, square);
+        if (desk_number_of(cut) != DESK_DONE) return refused(desk_number_of(cut));
+        printf("%u %u %u\n", desk_inside(cut), desk_outside(cut), desk_intersection(cut));
     }
     return 0;
 }

@@ -72,6 +72,19 @@ impl Call {
         }
     }
 
+    /// The function's name in the archive and in the module.
+    pub fn exported(&self) -> String {
+        match self {
+            Call::Cube { .. } => "desk_cube".into(),
+            _ => format!("desk_{}", self.name()),
+        }
+    }
+
+    /// Whether it is lent room for a list, and not the four slices alone.
+    pub fn has_list(&self) -> bool {
+        !matches!(self, Call::IsSound | Call::Cube { .. } | Call::Cut { .. } | Call::PrimordialFacet { .. })
+    }
+
     /// Which refusal or kind of answer a reply of this call is.
     pub fn outcome(&self, word: u64) -> String {
         match (word as u8, self) {

@@ -1,6 +1,7 @@
 //! Evidence beside the proofs: the engine, as hosts link it, beside a model of document 01 and beside the published Rust.
 
 pub mod arguments;
+pub mod bytes;
 pub mod call;
 pub mod carvings;
 pub mod dividers;
@@ -9,6 +10,7 @@ pub mod model;
 pub mod no_rings;
 pub mod random;
 pub mod renumbering;
+pub mod rows;
 pub mod seeded;
 pub mod session;
 pub mod strange;

@@ -1,7 +1,7 @@
 //! "The session program" over the bindings, and questions in words, for what the published Rust answers to the same bytes.
 
 use spoonvelvet::PolytopeFate::{Keep, Remove};
-use spoonvelvet::{ElementCutOutput, ElementId, Hyperplane, Refused, Table};
+use spoonvelvet::{Counts, ElementCutOutput, ElementId, Hyperplane, Refused, Table};
 use std::fmt::Display;
 
 /// The lines for these bytes, and the table that stands at the end.
@@ -35,7 +35,7 @@ fn record(bytes: &[u8], table: &mut Option<Table>) -> Option<(String, usize)> {
 fn cube(bytes: &[u8], table: &mut Option<Table>) -> Option<(String, usize)> {
     let line = match Table::with_primordial_cube_radius(bytes[2], float(&bytes[3..])) {
         Ok(cube) => format!("cube {}", counts(table.insert(cube))),
-        Err(refused) => refused.to_string(),
+        Err(refused) => refused_line(refused),
     };
     Some((line, bytes.len()))
 }
@@ -53,7 +53,7 @@ fn cut(bytes: &[u8], table: &mut Table) -> Option<(String, usize)> {
     let root = ElementId(u16::from_le_bytes([bytes[3], bytes[4]]));
     let line = match table.cut(divider, inside, outside, root) {
         Ok(answer) => format!("{} {}", shown(answer), counts(table)),
-        Err(refused) => refused.to_string(),
+        Err(refused) => refused_line(refused),
     };
     Some((line, length))
 }
@@ -65,8 +65,12 @@ fn float(bytes: &[u8]) -> f64 {
 }
 
 fn counts(table: &Table) -> String {
-    let [elements, vertices, hyperplanes] = table.counts();
+    let Counts { elements, vertices, hyperplanes } = table.counts();
     format!("{elements} {vertices} {hyperplanes}")
+}
+
+fn refused_line(Refused(number): Refused) -> String {
+    format!("refused {number}")
 }
 
 fn shown(answer: ElementCutOutput) -> String {
@@ -101,7 +105,7 @@ pub fn ask(table: &Table, question: &str) -> Option<String> {
         ["prim", root] => table.has_primordial_facet(element(root)?).map(|has| if has { "yes" } else { "no" }.into()),
         _ => return None,
     };
-    Some(answer.unwrap_or_else(|refused: Refused| refused.to_string()))
+    Some(answer.unwrap_or_else(refused_line))
 }
 
 fn listed<T: Display>(list: impl Iterator<Item = T>) -> String {

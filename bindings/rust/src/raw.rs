@@ -3,16 +3,47 @@
 
 use crate::{ElementId, Hyperplane};
 
-pub const COUNTS: usize = 4;
-pub const POINTS: usize = 1024;
-pub const PLANES: usize = 320;
-pub const ELEMENTS: usize = 18432;
+/// A row of coordinates or of a normal has four, whatever the dimension.
+pub const AXES: usize = 4;
 
-/// What stands for "none" in the reply of a cut.
+/// Room for so many vertices.
+pub const VERTEX_ROOM: usize = 256;
+/// Room for so many elements.
+pub const ELEMENT_ROOM: usize = 512;
+/// Room for so many hyperplanes.
+pub const HYPERPLANE_ROOM: usize = 64;
+/// Room for so many boundary elements of one element.
+pub const BOUNDARY_ROOM: usize = 32;
+
+/// The row of a hyperplane: the normal's components, then the distance.
+pub const PLANE_WIDTH: usize = AXES + 1;
+/// The row of an element: four words and the boundary.
+pub const ELEMENT_WIDTH: usize = ROW_BOUNDARY + BOUNDARY_ROOM;
+/// Where in its row an element's rank lies.
+pub const ROW_RANK: usize = 0;
+/// Where its primordial mark lies, 1 or 0.
+pub const ROW_MARK: usize = 1;
+/// Where its hyperplane's number lies, or [`NONE`].
+pub const ROW_HYPERPLANE: usize = 2;
+/// Where the count of its boundary lies; 1 for a vertex element.
+pub const ROW_COUNT: usize = 3;
+/// Where its boundary numbers start; a vertex element has its vertex number there.
+pub const ROW_BOUNDARY: usize = 4;
+
+/// The length of the counts: dimension, elements, vertices, hyperplanes.
+pub const COUNTS: usize = 4;
+/// The length of the points.
+pub const POINTS: usize = VERTEX_ROOM * AXES;
+/// The length of the hyperplanes.
+pub const PLANES: usize = HYPERPLANE_ROOM * PLANE_WIDTH;
+/// The length of the elements.
+pub const ELEMENTS: usize = ELEMENT_ROOM * ELEMENT_WIDTH;
+
+/// What stands for "none" in the reply of a cut, and for "no hyperplane" in a row.
 pub const NONE: u16 = 0xffff;
 
 /// A list has at most a number for each element.
-pub const LONGEST_LIST: usize = 512;
+pub const LONGEST_LIST: usize = ELEMENT_ROOM;
 
 extern "C" {
     fn desk_is_sound(c: *const u16, cn: usize, p: *const f64, pn: usize, h: *const f64, hn: usize, e: *const u16, en: usize) -> u32;
@@ -26,15 +57,17 @@ extern "C" {
     fn desk_has_primordial_facet(c: *const u16, cn: usize, p: *const f64, pn: usize, h: *const f64, hn: usize, e: *const u16, en: usize, root: u16) -> u32;
 }
 
+/// 0, or 3 where the four slices are no sound table.
 pub fn is_sound(c: &[u16], p: &[f64], h: &[f64], e: &[u16]) -> u32 {
     unsafe { desk_is_sound(c.as_ptr(), c.len(), p.as_ptr(), p.len(), h.as_ptr(), h.len(), e.as_ptr(), e.len()) }
 }
 
+/// A cube in place of all that the memory had: 0, or refused with 1, 2 or 3.
 pub fn cube(c: &mut [u16], p: &mut [f64], h: &mut [f64], e: &mut [u16], ndim: u8, radius: f64) -> u32 {
     unsafe { desk_cube(c.as_mut_ptr(), c.len(), p.as_mut_ptr(), p.len(), h.as_mut_ptr(), h.len(), e.as_mut_ptr(), e.len(), ndim, radius) }
 }
 
-/// `inside` and `outside`: 0 removes that side, any other byte keeps it.
+/// The cut of an element, its reply in one word. `inside` and `outside`: 0 removes that side, any other byte keeps it.
 #[allow(clippy::too_many_arguments)]
 pub fn cut(c: &mut [u16], p: &mut [f64], h: &mut [f64], e: &mut [u16], divider: Hyperplane, inside: u8, outside: u8, root: ElementId) -> u64 {
     let [n0, n1, n2, n3] = divider.normal;
@@ -46,18 +79,22 @@ pub fn cut(c: &mut [u16], p: &mut [f64], h: &mut [f64], e: &mut [u16], divider: 
     }
 }
 
+/// The root and all below it. Bits 0 to 7 are the reply's number, above them is the size of the list, here and below.
 pub fn subelements_of(c: &[u16], p: &[f64], h: &[f64], e: &[u16], root: ElementId, list: &mut [u16]) -> u32 {
     unsafe { desk_subelements_of(c.as_ptr(), c.len(), p.as_ptr(), p.len(), h.as_ptr(), h.len(), e.as_ptr(), e.len(), root.0, list.as_mut_ptr(), list.len()) }
 }
 
+/// Those of a rank.
 pub fn subelements_with_rank(c: &[u16], p: &[f64], h: &[f64], e: &[u16], root: ElementId, rank: u8, list: &mut [u16]) -> u32 {
     unsafe { desk_subelements_with_rank(c.as_ptr(), c.len(), p.as_ptr(), p.len(), h.as_ptr(), h.len(), e.as_ptr(), e.len(), root.0, rank, list.as_mut_ptr(), list.len()) }
 }
 
+/// The vertices of an element.
 pub fn vertex_set(c: &[u16], p: &[f64], h: &[f64], e: &[u16], root: ElementId, list: &mut [u16]) -> u32 {
     unsafe { desk_vertex_set(c.as_ptr(), c.len(), p.as_ptr(), p.len(), h.as_ptr(), h.len(), e.as_ptr(), e.len(), root.0, list.as_mut_ptr(), list.len()) }
 }
 
+/// Those of the highest rank above 0 that all roots have.
 pub fn greatest_common_subelements(c: &[u16], p: &[f64], h: &[f64], e: &[u16], roots: &[u16], list: &mut [u16]) -> u32 {
     unsafe {
         desk_greatest_common_subelements(
@@ -66,10 +103,12 @@ pub fn greatest_common_subelements(c: &[u16], p: &[f64], h: &[f64], e: &[u16], r
     }
 }
 
+/// The edges of a face in order: two vertex numbers an edge, and the size in numbers.
 pub fn edges_in_order(c: &[u16], p: &[f64], h: &[f64], e: &[u16], root: ElementId, list: &mut [u16]) -> u32 {
     unsafe { desk_edges_in_order(c.as_ptr(), c.len(), p.as_ptr(), p.len(), h.as_ptr(), h.len(), e.as_ptr(), e.len(), root.0, list.as_mut_ptr(), list.len()) }
 }
 
+/// Bits 0 to 7 are the reply's number, bit 8 is the answer.
 pub fn has_primordial_facet(c: &[u16], p: &[f64], h: &[f64], e: &[u16], root: ElementId) -> u32 {
     unsafe { desk_has_primordial_facet(c.as_ptr(), c.len(), p.as_ptr(), p.len(), h.as_ptr(), h.len(), e.as_ptr(), e.len(), root.0) }
 }

@@ -2,7 +2,7 @@
 
 use spoonvelvet::ElementCutOutput::{Flush, NonFlush};
 use spoonvelvet::PolytopeFate::{Keep, Remove};
-use spoonvelvet::{ElementCutOutput, ElementId, Hyperplane, PolytopeFate, Refused, Table, VertexId};
+use spoonvelvet::{Counts, ElementCutOutput, ElementId, Hyperplane, PolytopeFate, Refused, Table, VertexId};
 
 fn square() -> Table {
     Table::with_primordial_cube_radius(2, 1.0).unwrap()
@@ -18,7 +18,9 @@ fn parts(inside: Option<u16>, outside: Option<u16>, intersection: Option<u16>) -
 }
 
 fn cut(table: &mut Table, divider: Hyperplane, inside: PolytopeFate, outside: PolytopeFate, root: u16) -> (ElementCutOutput, [u16; 3]) {
-    (table.cut(divider, inside, outside, ElementId(root)).unwrap(), table.counts())
+    let answer = table.cut(divider, inside, outside, ElementId(root)).unwrap();
+    let Counts { elements, vertices, hyperplanes } = table.counts();
+    (answer, [elements, vertices, hyperplanes])
 }
 
 #[test]

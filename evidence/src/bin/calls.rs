@@ -1,7 +1,9 @@
-//! `calls N SEED`: N calls of every entry point, on random, damaged and strange memory, by the engine and by the model. The
-//! reply and every word of the memory and of the list room afterwards are compared; the first difference is shown.
+//! `calls N SEED [--bytes]`: N calls of every entry point, on random, damaged and strange memory, by the engine and by the model.
+//! The reply and every word of the memory and of the list room afterwards are compared; the first difference is shown. With
+//! --bytes each call is written to standard output with what the engine made of it, for another engine; words go to the other.
 
 use evidence::arguments;
+use evidence::bytes::{self, Calls};
 use evidence::call::Call;
 use evidence::memories;
 use evidence::model::memory::{Lent, Memory};
@@ -10,6 +12,7 @@ use evidence::no_rings::{shape, SHAPES};
 use evidence::random::Random;
 use evidence::seeded;
 use std::collections::BTreeMap;
+use std::io::{self, BufWriter, Stdout};
 use std::process::ExitCode;
 
 /// Each outcome that document 01 names for an entry point, which a run has to meet.
@@ -54,10 +57,18 @@ const TAKEN_BEFORE: &str = "cut, taken before order 4";
 
 type Counts = BTreeMap<(&'static str, String), u64>;
 
-#[derive(Default)]
+/// How often each outcome was met, and each face that is refused; and where the calls are written, if they are.
 struct Met {
     outcomes: Counts,
     faces: Counts,
+    written: Option<Calls<BufWriter<Stdout>>>,
+}
+
+impl Default for Met {
+    fn default() -> Self {
+        let written = seeded::is_written().then(|| Calls::new(BufWriter::with_capacity(1 << 20, io::stdout())));
+        Self { outcomes: Counts::new(), faces: Counts::new(), written }
+    }
 }
 
 /// The same memory, lent to the model and to the engine.
@@ -81,7 +92,7 @@ impl Pair {
 }
 
 fn main() -> ExitCode {
-    seeded::run("calls", compare, report)
+    seeded::run("calls N SEED [--bytes]", compare, report)
 }
 
 /// Each step is one call of every entry point on one memory; a memory stands for some steps.
@@ -99,7 +110,7 @@ fn compare(n: u64, seed: u64, met: &mut Met) -> Result<(), String> {
         let stand = damaged.as_mut().unwrap_or(&mut pair);
         compare_step(&mut r, stand, met).map_err(|difference| format!("step {step}: {difference}"))?;
     }
-    Ok(())
+    met.written.as_mut().map_or(Ok(()), Calls::end).map_err(not_written)
 }
 
 fn damaged_copy(r: &mut Random, pair: &Pair) -> Option<Pair> {
@@ -140,7 +151,10 @@ fn compare_call(call: &Call, pair: &mut Pair, room: &[u16], met: &mut Met) -> Re
                 *met.faces.entry((TAKEN_BEFORE, shape(&edges))).or_default() += 1;
             }
         }
-        return Ok(());
+        let Some(written) = &mut met.written else { return Ok(()) };
+        let [before, after] =
+            [(&before, room), (&pair.engine, &engine_room)].map(|(memory, room)| bytes::Lent { memory, room });
+        return written.call(call, before, by_engine, after).map_err(not_written);
     }
     let rooms = format!("list room {room:x?}, by the model {model_room:x?}, by the engine {engine_room:x?}");
     let memories = [before.shown(), pair.model.memory().shown(), pair.engine.shown()];
@@ -151,23 +165,27 @@ fn compare_call(call: &Call, pair: &mut Pair, room: &[u16], met: &mut Met) -> Re
     ))
 }
 
+fn not_written(error: io::Error) -> String {
+    format!("not written: {error}")
+}
+
 /// How often each outcome was met. One that was never met makes the run fail.
 fn report(n: u64, met: &Met) -> bool {
     let mut is_whole = are_met(&OUTCOMES, "", &met.outcomes) & are_met(&FACES, ", refused for a face of", &met.faces);
     let named =
         |(name, outcome): &(&str, String)| OUTCOMES.iter().any(|row| row.0 == *name && row.1.contains(&&**outcome));
     for unnamed in met.outcomes.keys().filter(|key| !named(key)) {
-        println!("{unnamed:?}  NOT NAMED FOR IT");
+        seeded::say(&format!("{unnamed:?}  NOT NAMED FOR IT"));
         is_whole = false;
     }
-    println!("{n} calls of each of {} entry points, no difference", OUTCOMES.len());
+    seeded::say(&format!("{n} calls of each of {} entry points, no difference", OUTCOMES.len()));
     is_whole
 }
 
 fn are_met(named: &[(&'static str, &[&str])], what: &str, met: &Counts) -> bool {
     let mut all = true;
     for (name, outcomes) in named {
-        println!("{name}{what}");
+        seeded::say(&format!("{name}{what}"));
         for outcome in *outcomes {
             all &= seeded::is_met(met.get(&(*name, outcome.to_string())), outcome);
         }

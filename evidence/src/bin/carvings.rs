@@ -39,7 +39,7 @@ struct Example {
 }
 
 fn main() -> ExitCode {
-    seeded::run("carvings", compare, report)
+    seeded::run("carvings N SEED", compare, report)
 }
 
 /// Each step is a slice of one memory; a memory stands for some steps.

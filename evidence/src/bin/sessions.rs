@@ -1,8 +1,8 @@
-//! `sessions ORACLE FOLDER [--program PATH] [--ask-one-in K]`: each session file of the folder, by the published Rust (the
+//! `sessions ORACLE FOLDER [--program PATH] [--ask-one-in K] [--rows]`: each session file of the folder, by the published Rust (the
 //! program ORACLE) and by the engine: every line, and every question on every element of the table that is left, of one
-//! session in K. With --program the lines of that session program are compared too.
+//! session in K. With --program the lines of that session program are compared too, with --rows every row of that table.
 
-use evidence::session;
+use evidence::{rows, session};
 use spoonvelvet::Table;
 use std::collections::BTreeMap;
 use std::fmt::Debug;
@@ -19,6 +19,7 @@ struct Options {
     folder: PathBuf,
     program: Option<PathBuf>,
     ask_one_in: usize,
+    rows: bool,
 }
 
 #[derive(Default)]
@@ -27,6 +28,7 @@ struct Tally {
     lines: usize,
     questions: usize,
     asked: usize,
+    rows: usize,
     clearness: BTreeMap<String, usize>,
     /// The Rust tests 7 before 11, against document 01's order.
     eleven_for_seven: usize,
@@ -43,7 +45,7 @@ fn main() -> ExitCode {
     match options().and_then(|options| compare_all(&options)) {
         Ok(tally) => report(&tally),
         Err(trouble) => {
-            eprintln!("sessions ORACLE FOLDER [--program PATH] [--ask-one-in K]: {trouble}");
+            eprintln!("sessions ORACLE FOLDER [--program PATH] [--ask-one-in K] [--rows]: {trouble}");
             ExitCode::from(2)
         }
     }
@@ -52,10 +54,12 @@ fn main() -> ExitCode {
 fn options() -> Result<Options, String> {
     let mut words = std::env::args().skip(1);
     let mut next = || words.next().ok_or("a word is missing");
-    let mut options = Options { oracle: next()?.into(), folder: next()?.into(), program: None, ask_one_in: 1 };
+    let mut options =
+        Options { oracle: next()?.into(), folder: next()?.into(), program: None, ask_one_in: 1, rows: false };
     while let Ok(word) = next() {
         match &*word {
             "--program" => options.program = Some(next()?.into()),
+            "--rows" => options.rows = true,
             "--ask-one-in" => {
                 options.ask_one_in = next()?.parse().ok().filter(|&k| k > 0).ok_or("K is a number from 1")?
             }
@@ -96,6 +100,10 @@ fn compare_session(options: &Options, file: &Path, tally: &mut Tally) -> Result<
     if let Some(table) = table {
         compare_answers(file, &answers, &table, tally);
     }
+    if options.rows {
+        let by_rust = output(&options.oracle, &["--rules", "--quiet", "--rows"], file)?;
+        compare_rows(file, &by_rust, &rows::after(&bytes), tally);
+    }
     Ok(())
 }
 
@@ -128,6 +136,16 @@ fn compare_answers(file: &Path, answers: &[String], table: &Table, tally: &mut T
     }
 }
 
+fn compare_rows(file: &Path, by_rust: &[String], ours: &[String], tally: &mut Tally) {
+    tally.rows += by_rust.len();
+    if by_rust.len() != ours.len() {
+        tally.differ(file, "number of rows", &by_rust.len(), ENGINE, &ours.len());
+    }
+    for (rust, ours) in by_rust.iter().zip(ours).filter(|(rust, ours)| rust != ours) {
+        tally.differ(file, "row", rust, ENGINE, ours);
+    }
+}
+
 /// The lines that a program prints for a session.
 fn output(program: &Path, words: &[&str], file: &Path) -> Result<Vec<String>, String> {
     let trouble = |e: std::io::Error| format!("{}: {e}", program.display());
@@ -143,6 +161,7 @@ fn report(tally: &Tally) -> ExitCode {
     }
     println!("{} lines left out: refused 11 here and 7 by the Rust, which tests 7 first", tally.eleven_for_seven);
     println!("{} questions compared, on the tables of {} sessions", tally.questions, tally.asked);
+    println!("{} rows compared", tally.rows);
     println!("{} differences", tally.differences.len());
     tally.differences.iter().take(SHOWN).for_each(|difference| println!("{difference}"));
     if tally.differences.is_empty() {

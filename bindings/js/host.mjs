@@ -1,0 +1,20 @@
+// The example session of document 01, from JavaScript: a square of radius 1, cut twice at x = 0 with both sides kept.
+
+import { readFileSync } from "node:fs";
+
+const module = new WebAssembly.Module(readFileSync("target/wasm/desk.wasm"));
+const { exports: desk } = new WebAssembly.Instance(module);
+desk.memory.grow(1); // 65,536 bytes, and a table takes 47,624
+
+// counts, points, planes, elements: how many entries, and how many bytes each has
+let free = desk.__heap_base.value;
+const table = [[4, 2], [1024, 8], [320, 8], [18432, 2]].flatMap(([length, bytes]) => {
+    free += length * bytes;
+    return [free - length * bytes, BigInt(length)];
+});
+
+desk.desk_cube(...table, 2, 1);
+for (let i = 0; i < 2; i++) {
+    const reply = BigInt.asUintN(64, desk.desk_cut(...table, 1, 0, 0, 0, 0, 1, 1, 8));
+    console.log(...[16n, 32n, 48n].map(shift => Number(reply >> shift & 0xffffn)));
+}

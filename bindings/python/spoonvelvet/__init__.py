@@ -1,0 +1,43 @@
+"""The desk's engine, as it is proved, behind Python.
+
+A Table is the room of one table. A cut does not make pieces: it adds entries to the table, and a piece that the plane misses is
+its old entry. Element, vertex and hyperplane numbers count three lists, so they are three types. Any number and float may be
+given; a refused call raises Refused and leaves the table as it came.
+
+>>> from spoonvelvet import ElementId, Hyperplane, Table
+>>> table = Table.with_primordial_cube_radius(2, 1.0)
+>>> table.slice(Hyperplane((1.0, 0.0), 0.0), ElementId(8))
+NonFlush(inside=ElementId(16), outside=ElementId(17), intersection=ElementId(15))
+>>> table.counts()
+Counts(elements=18, vertices=6, hyperplanes=5)
+"""
+
+from .table import Table
+from .values import (
+    REFUSALS,
+    Counts,
+    ElementCutOutput,
+    ElementId,
+    Flush,
+    Hyperplane,
+    HyperplaneId,
+    NonFlush,
+    PolytopeFate,
+    Refused,
+    VertexId,
+)
+
+__all__ = [
+    "REFUSALS",
+    "Counts",
+    "ElementCutOutput",
+    "ElementId",
+    "Flush",
+    "Hyperplane",
+    "HyperplaneId",
+    "NonFlush",
+    "PolytopeFate",
+    "Refused",
+    "Table",
+    "VertexId",
+]

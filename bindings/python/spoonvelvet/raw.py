@@ -1,0 +1,60 @@
+"""The exported functions, one for one. bindings/c/desk.h says what the bits of their replies are.
+
+The library is libdesk.so in the folder SPOONVELVET_LIB, or else beside this file, or else where bindings/native leaves it.
+"""
+
+import os
+from ctypes import POINTER, PyDLL, c_double, c_size_t, c_uint8, c_uint16, c_uint32, c_uint64
+from pathlib import Path
+from typing import Any
+
+from .values import AXES
+
+COUNTS = 4
+VERTEX_ROOM, ELEMENT_ROOM, HYPERPLANE_ROOM = 256, 512, 64
+POINTS = VERTEX_ROOM * AXES
+PLANE_WIDTH = AXES + 1
+PLANES = HYPERPLANE_ROOM * PLANE_WIDTH
+ELEMENT_WIDTH = 36
+ELEMENTS = ELEMENT_ROOM * ELEMENT_WIDTH
+
+NONE = 0xFFFF
+"""What stands for "none" in the reply of a cut, and for "no hyperplane" in a row."""
+
+LONGEST_LIST = ELEMENT_ROOM
+"""A list has at most a number for each element."""
+
+_WORDS = [POINTER(c_uint16), c_size_t]
+_FLOATS = [POINTER(c_double), c_size_t]
+_TABLE = _WORDS + _FLOATS + _FLOATS + _WORDS
+
+
+def _load() -> PyDLL:
+    """A PyDLL holds the interpreter's lock, so that no other thread sees a table in the middle of a call."""
+    here = Path(__file__).resolve()
+    chosen = os.environ.get("SPOONVELVET_LIB")
+    folders = [Path(chosen)] if chosen else [here.parent, here.parents[3] / "target/native"]
+    for folder in folders:
+        if (folder / "libdesk.so").exists():
+            return PyDLL(str(folder / "libdesk.so"))
+    raise ImportError("there is no libdesk.so: bindings/native makes it, and SPOONVELVET_LIB may name its folder")
+
+
+def _function(name: str, reply: Any, *arguments: Any) -> Any:
+    function = getattr(_LIBRARY, name)
+    function.restype = reply
+    function.argtypes = [*_TABLE, *arguments]
+    return function
+
+
+_LIBRARY = _load()
+
+is_sound = _function("desk_is_sound", c_uint32)
+cube = _function("desk_cube", c_uint32, c_uint8, c_double)
+cut = _function("desk_cut", c_uint64, *[c_double] * 5, c_uint8, c_uint8, c_uint16)
+subelements_of = _function("desk_subelements_of", c_uint32, c_uint16, *_WORDS)
+subelements_with_rank = _function("desk_subelements_with_rank", c_uint32, c_uint16, c_uint8, *_WORDS)
+vertex_set = _function("desk_vertex_set", c_uint32, c_uint16, *_WORDS)
+greatest_common_subelements = _function("desk_greatest_common_subelements", c_uint32, *_WORDS, *_WORDS)
+edges_in_order = _function("desk_edges_in_order", c_uint32, c_uint16, *_WORDS)
+has_primordial_facet = _function("desk_has_primordial_facet", c_uint32, c_uint16)

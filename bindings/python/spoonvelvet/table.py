@@ -1,0 +1,272 @@
+"""The room of one table, the calls that add entries to it, the questions about it, and its rows as they lie there."""
+
+import operator
+from ctypes import c_double, c_uint16
+from typing import Any, Callable, Iterable, List, Optional, SupportsFloat, SupportsIndex, Tuple, TypeVar
+
+from . import raw
+from .values import (
+    AXES,
+    Counts,
+    ElementCutOutput,
+    ElementId,
+    Flush,
+    Hyperplane,
+    HyperplaneId,
+    NonFlush,
+    PolytopeFate,
+    Refused,
+    VertexId,
+    as_float,
+)
+
+_T = TypeVar("_T")
+
+
+def _fit(number: SupportsIndex, greatest: int) -> int:
+    """A number past its width becomes the greatest there, which is never in use: so it is not wrapped, and is refused in order."""
+    n = operator.index(number)
+    return n if 0 <= n <= greatest else greatest
+
+
+def _expect(kind: type, given: object) -> None:
+    if not isinstance(given, kind):
+        raise TypeError(f"{given!r} is no {kind.__name__}")
+
+
+def _word(root: ElementId) -> int:
+    _expect(ElementId, root)
+    return _fit(root.number, 0xFFFF)
+
+
+def _done(word: int) -> int:
+    """What is above the reply's number, where that is 0."""
+    if word & 0xFF:
+        raise Refused(word & 0xFF)
+    return word >> 8
+
+
+class Table:
+    """Dimension and counts, points, hyperplanes, elements. Only the engine writes them, so a table stays sound.
+
+    Two tables are equal when every word and float of theirs has the same bits.
+    """
+
+    _counts: Any
+    _points: Any
+    _planes: Any
+    _elements: Any
+
+    def __init__(self) -> None:
+        raise TypeError("a table comes from Table.with_primordial_cube_radius")
+
+    @classmethod
+    def with_primordial_cube_radius(cls, ndim: int, radius: SupportsFloat) -> "Table":
+        """The primordial cube, of 1 to 4 dimensions and radius 1 to 65,536. It is the last element. Refuses with 1 or 2.
+
+        >>> Table.with_primordial_cube_radius(3, 1.0).last_element()
+        ElementId(26)
+        >>> Table.with_primordial_cube_radius(258, 1.0)
+        Traceback (most recent call last):
+        spoonvelvet.values.Refused: refused 1: the dimension is not 1 to 4
+        """
+        table = cls.__new__(cls)
+        table._counts = (c_uint16 * raw.COUNTS)()
+        table._points = (c_double * raw.POINTS)()
+        table._planes = (c_double * raw.PLANES)()
+        table._elements = (c_uint16 * raw.ELEMENTS)()
+        _done(raw.cube(*table._lent(), _fit(ndim, 0xFF), as_float(radius)))
+        return table
+
+    def copy(self) -> "Table":
+        """Another table with the same entries; a cut of the one leaves the other as it is."""
+        table = self.__class__.__new__(self.__class__)
+        copies = [type(lent).from_buffer_copy(lent) for lent in self._slices()]
+        table._counts, table._points, table._planes, table._elements = copies
+        return table
+
+    __copy__ = copy
+
+    def __deepcopy__(self, memo: Any) -> "Table":
+        return self.copy()
+
+    def __eq__(self, other: object) -> bool:
+        if not isinstance(other, Table):
+            return NotImplemented
+        return all(bytes(a) == bytes(b) for a, b in zip(self._slices(), other._slices()))
+
+    def __repr__(self) -> str:
+        return f"<Table of {self.dimensions()} dimensions, {self.counts()}>"
+
+    # The calls that add entries
+
+    def cut(self, divider: Hyperplane, inside: PolytopeFate, outside: PolytopeFate, root: ElementId) -> ElementCutOutput:
+        """The cut of root by divider; the entries that it needs and that are not there are added.
+
+        Refuses with 3, 4, 5, 7, 8, 9, 10 or 11. With both sides removed the intersection is there all the same:
+
+        >>> square = Table.with_primordial_cube_radius(2, 1.0)
+        >>> square.cut(Hyperplane((1, 0), 0), PolytopeFate.REMOVE, PolytopeFate.REMOVE, ElementId(8))
+        NonFlush(inside=None, outside=None, intersection=ElementId(11))
+        """
+        _expect(Hyperplane, divider)
+        _expect(PolytopeFate, inside)
+        _expect(PolytopeFate, outside)
+        reply = raw.cut(*self._lent(), *divider.normal, divider.distance, inside.value, outside.value, _word(root))
+        if _done(reply) & 1:
+            return Flush()
+
+        def place(shift: int) -> Optional[ElementId]:
+            number = reply >> shift & 0xFFFF
+            return None if number == raw.NONE else ElementId(number)
+
+        return NonFlush(inside=place(16), outside=place(32), intersection=place(48))
+
+    def carve(self, divider: Hyperplane, root: ElementId) -> ElementCutOutput:
+        """A cut that keeps what lies inside."""
+        return self.cut(divider, PolytopeFate.KEEP, PolytopeFate.REMOVE, root)
+
+    def slice(self, divider: Hyperplane, root: ElementId) -> ElementCutOutput:
+        """A cut that keeps what lies on either side. A piece that the plane misses is its old entry:
+
+        >>> square = Table.with_primordial_cube_radius(2, 1.0)
+        >>> square.slice(Hyperplane((0.6, 0.8), 1.4), ElementId(8))
+        NonFlush(inside=ElementId(8), outside=None, intersection=None)
+        """
+        return self.cut(divider, PolytopeFate.KEEP, PolytopeFate.KEEP, root)
+
+    # The questions
+
+    def is_sound(self) -> bool:
+        """Whether the table is sound. Calls keep it so."""
+        return bool(raw.is_sound(*self._lent()) == 0)
+
+    def subelements_of(self, root: ElementId) -> List[ElementId]:
+        """The root and all below it, vertex elements too, rising. Refuses with 3 or 4."""
+        return self._list(ElementId, raw.subelements_of, _word(root))
+
+    def subelements_with_rank(self, root: ElementId, rank: int) -> List[ElementId]:
+        """Those of a rank, if any. Refuses with 3 or 4.
+
+        >>> square = Table.with_primordial_cube_radius(2, 1.0)
+        >>> square.subelements_with_rank(ElementId(8), 1)
+        [ElementId(2), ElementId(5), ElementId(6), ElementId(7)]
+        >>> square.subelements_with_rank(ElementId(8), 300)
+        []
+        """
+        return self._list(ElementId, raw.subelements_with_rank, _word(root), _fit(rank, 0xFF))
+
+    def vertex_set(self, root: ElementId) -> List[VertexId]:
+        """The vertices of an element, rising. Refuses with 3 or 4."""
+        return self._list(VertexId, raw.vertex_set, _word(root))
+
+    def greatest_common_subelements(self, roots: Iterable[ElementId]) -> List[ElementId]:
+        """Those of the highest rank above 0 that all roots have. Refuses with 3, 4 or 6: roots have one rank, and there is one."""
+        numbers = [_word(root) for root in roots]
+        return self._list(ElementId, raw.greatest_common_subelements, (c_uint16 * len(numbers))(*numbers), len(numbers))
+
+    def edges_in_order(self, root: ElementId) -> List[Tuple[VertexId, VertexId]]:
+        """The edges of a face in order, as pairs of vertices, round to the start. Refuses with 3, 4, 6 or 7.
+
+        >>> square = Table.with_primordial_cube_radius(2, 1.0)
+        >>> [(a.number, b.number) for a, b in square.edges_in_order(ElementId(8))]
+        [(0, 1), (1, 3), (3, 2), (2, 0)]
+        """
+        ends = self._list(VertexId, raw.edges_in_order, _word(root))
+        return list(zip(ends[::2], ends[1::2]))
+
+    def has_primordial_facet(self, root: ElementId) -> bool:
+        """Whether an element of full rank has a primordial facet. Refuses with 3, 4 or 6."""
+        return bool(_done(raw.has_primordial_facet(*self._lent(), _word(root))))
+
+    # The rows, as they lie in the table
+
+    def dimensions(self) -> int:
+        """How many dimensions the space has."""
+        return self._counts[0]
+
+    def counts(self) -> Counts:
+        """How many elements, vertices and hyperplanes are in use."""
+        return Counts(*self._counts[1:])
+
+    def room_left(self) -> Counts:
+        """How many more of each there is room for."""
+        rooms = (raw.ELEMENT_ROOM, raw.VERTEX_ROOM, raw.HYPERPLANE_ROOM)
+        return Counts(*(room - count for room, count in zip(rooms, self.counts())))
+
+    def last_element(self) -> ElementId:
+        """The last element in use. Of a fresh cube that is the cube itself, the root of its first cut."""
+        return ElementId(self.counts().elements - 1)
+
+    def rank_of(self, element: ElementId) -> int:
+        """0 for a vertex element, 1 for an edge, 2 for a face. Refuses with 4, as all that read an element's row do."""
+        return self._row(element)[0]
+
+    def boundary_of(self, element: ElementId) -> Tuple[ElementId, ...]:
+        """The elements of its boundary, rising. A vertex element has none.
+
+        >>> Table.with_primordial_cube_radius(2, 1.0).boundary_of(ElementId(7))
+        (ElementId(1), ElementId(4))
+        """
+        rank, _, _, count, *numbers = self._row(element)
+        return tuple(ElementId(n) for n in numbers[:count]) if rank > 0 else ()
+
+    def vertex_of(self, element: ElementId) -> Optional[VertexId]:
+        """The vertex that a vertex element names; None for any other element.
+
+        >>> Table.with_primordial_cube_radius(2, 1.0).vertex_of(ElementId(4))
+        VertexId(3)
+        """
+        row = self._row(element)
+        return VertexId(row[4]) if row[0] == 0 else None
+
+    def hyperplane_of(self, element: ElementId) -> Optional[HyperplaneId]:
+        """The hyperplane that a facet names; None for any other element."""
+        number = self._row(element)[2]
+        return None if number == raw.NONE else HyperplaneId(number)
+
+    def is_primordial(self, element: ElementId) -> bool:
+        """Whether it has the primordial mark: the cube's own facets do, and the entries that a cut adds for a side of one."""
+        return self._row(element)[1] == 1
+
+    def coordinates_of(self, vertex: VertexId) -> Tuple[float, ...]:
+        """One for each dimension. An IndexError for a vertex number that is not in use.
+
+        >>> Table.with_primordial_cube_radius(2, 1.0).coordinates_of(VertexId(3))
+        (1.0, 1.0)
+        """
+        _expect(VertexId, vertex)
+        start = _in_use(vertex.number, self.counts().vertices) * AXES
+        return tuple(self._points[start : start + self.dimensions()])
+
+    def hyperplane_at(self, hyperplane: HyperplaneId) -> Hyperplane:
+        """The hyperplane of that number. An IndexError for one that is not in use."""
+        _expect(HyperplaneId, hyperplane)
+        start = _in_use(hyperplane.number, self.counts().hyperplanes) * raw.PLANE_WIDTH
+        *normal, distance = self._planes[start : start + raw.PLANE_WIDTH]
+        return Hyperplane(normal, distance)
+
+    def _row(self, element: ElementId) -> List[int]:
+        _expect(ElementId, element)
+        if not 0 <= element.number < self.counts().elements:
+            raise Refused(4)
+        start = element.number * raw.ELEMENT_WIDTH
+        return self._elements[start : start + raw.ELEMENT_WIDTH]
+
+    def _list(self, kind: Callable[[int], _T], question: Any, *words: Any) -> List[_T]:
+        """No list is longer than the table has elements, so there is always room."""
+        room = (c_uint16 * raw.LONGEST_LIST)()
+        size = _done(question(*self._lent(), *words, room, len(room)))
+        return [kind(n) for n in room[:size]]
+
+    def _slices(self) -> Tuple[Any, Any, Any, Any]:
+        return self._counts, self._points, self._planes, self._elements
+
+    def _lent(self) -> List[Any]:
+        return [word for lent in self._slices() for word in (lent, len(lent))]
+
+
+def _in_use(number: int, count: int) -> int:
+    if not 0 <= number < count:
+        raise IndexError(f"{number} is not in use: there are {count}")
+    return number

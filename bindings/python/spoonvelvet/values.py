@@ -1,0 +1,141 @@
+"""What is handed to a table and what it gives: the three kinds of numbers, hyperplanes, answers, refusals."""
+
+import enum
+import operator
+import sys
+from ctypes import c_double
+from dataclasses import dataclass
+from typing import Mapping, NamedTuple, Optional, Sequence, SupportsFloat, Tuple
+
+AXES = 4
+
+REFUSALS: Mapping[int, str] = {
+    1: "the dimension is not 1 to 4",
+    2: "the radius is not a number from 1 to 65,536",
+    3: "the table is not sound, or its room has another size",
+    4: "an element number is not in use",
+    5: "the normal is not unit, or the distance is not a number or finite beyond 262,144",
+    6: "an element of another rank or kind is asked for",
+    7: "an edge would not have two ends, or the edges of a face do not go round once",
+    8: "there is no room for another vertex",
+    9: "there is no room for another element",
+    10: "there is no room for another hyperplane",
+    11: "a boundary would have more than 32 elements",
+    12: "the room for the list is too short",
+}
+"""What each refusal says, by its number."""
+
+
+class Refused(Exception):
+    """A call was refused, and left the table as it came. Its number is 1 to 12, as document 01 has them.
+
+    >>> print(Refused(4))
+    refused 4: an element number is not in use
+    """
+
+    def __init__(self, number: int) -> None:
+        super().__init__(number)
+        self.number = number
+
+    @property
+    def words(self) -> str:
+        """What the refusal says."""
+        return REFUSALS[self.number]
+
+    def __str__(self) -> str:
+        return f"refused {self.number}: {self.words}"
+
+
+@dataclass(frozen=True, order=True, repr=False)
+class _Number:
+    number: int
+
+    def __post_init__(self) -> None:
+        object.__setattr__(self, "number", int(operator.index(self.number)))
+
+    def __repr__(self) -> str:
+        return f"{type(self).__name__}({self.number})"
+
+
+class ElementId(_Number):
+    """An element's number in its list.
+
+    >>> ElementId(0) == VertexId(0)
+    False
+    """
+
+
+class VertexId(_Number):
+    """A vertex's number: another list, so never an element's number."""
+
+
+class HyperplaneId(_Number):
+    """A hyperplane's number: the third list."""
+
+
+def as_float(x: SupportsFloat) -> float:
+    """An integer too great for a float is as far out of every range as the greatest float, which is finite as it is."""
+    try:
+        return c_double(x).value  # type: ignore[arg-type]
+    except OverflowError:
+        return sys.float_info.max if x > 0 else -sys.float_info.max  # type: ignore[operator]
+
+
+@dataclass(frozen=True, init=False)
+class Hyperplane:
+    """A unit normal and a distance. Components that are not given are +0.0, for past the dimension nothing else is taken.
+
+    >>> Hyperplane((0.6, 0.8), 1.4)
+    Hyperplane(normal=(0.6, 0.8, 0.0, 0.0), distance=1.4)
+    """
+
+    normal: Tuple[float, float, float, float]
+    distance: float
+
+    def __init__(self, normal: Sequence[SupportsFloat], distance: SupportsFloat) -> None:
+        given = tuple(as_float(x) for x in normal)
+        if len(given) > AXES:
+            raise Refused(5)
+        object.__setattr__(self, "normal", given + (0.0,) * (AXES - len(given)))
+        object.__setattr__(self, "distance", as_float(distance))
+
+    def flipped(self) -> "Hyperplane":
+        """The same plane with its sides exchanged. Zeros stay +0.0, as they have to past the dimension.
+
+        >>> Hyperplane((1,), 0.5).flipped()
+        Hyperplane(normal=(-1.0, 0.0, 0.0, 0.0), distance=-0.5)
+        """
+        return Hyperplane([0.0 - x for x in self.normal], 0.0 - self.distance)
+
+
+class PolytopeFate(enum.Enum):
+    """What becomes of what lies on one side of the divider."""
+
+    REMOVE = 0
+    KEEP = 1
+
+
+class ElementCutOutput:
+    """What a cut of an element gives: Flush or NonFlush."""
+
+
+@dataclass(frozen=True)
+class Flush(ElementCutOutput):
+    """The element lies in the plane. This answer carries nothing."""
+
+
+@dataclass(frozen=True)
+class NonFlush(ElementCutOutput):
+    """Three places, each an element or none. A side that is removed is none; the intersection is there either way."""
+
+    inside: Optional[ElementId]
+    outside: Optional[ElementId]
+    intersection: Optional[ElementId]
+
+
+class Counts(NamedTuple):
+    """One number for each of the three lists."""
+
+    elements: int
+    vertices: int
+    hyperplanes: int

@@ -1,0 +1,118 @@
+//! What is handed to a table and what it gives: the three kinds of numbers, hyperplanes, answers, counts.
+
+use crate::Refused;
+
+/// An element's number in its list.
+#[derive(Clone, Copy, Debug, PartialEq, Eq, PartialOrd, Ord, Hash)]
+pub struct ElementId(
+    /// From 0 up.
+    pub u16,
+);
+
+/// A vertex's number: another list, so never an element's number.
+#[derive(Clone, Copy, Debug, PartialEq, Eq, PartialOrd, Ord, Hash)]
+pub struct VertexId(
+    /// From 0 up.
+    pub u16,
+);
+
+/// A hyperplane's number: the third list.
+#[derive(Clone, Copy, Debug, PartialEq, Eq, PartialOrd, Ord, Hash)]
+pub struct HyperplaneId(
+    /// From 0 up.
+    pub u16,
+);
+
+/// A unit normal and a distance. What lies against the normal is inside, what lies along it outside.
+///
+/// Unit is: the squares add up to 1, give or take 2^-20. So 0.7071 twice is not unit, and 0.707107 twice is.
+#[derive(Clone, Copy, Debug, PartialEq)]
+pub struct Hyperplane {
+    /// One component for each dimension, and past the dimension +0.0: nothing else is taken there, not even -0.0.
+    pub normal: [f64; 4],
+    /// From -262,144 to 262,144, or infinite: then nothing is crossed, and the answer is the root.
+    pub distance: f64,
+}
+
+impl Hyperplane {
+    /// Components that are not given are +0.0. More than four are refused with 5; all else is for the call to refuse.
+    ///
+    /// ```
+    /// use spoonvelvet::{Hyperplane, Refused};
+    ///
+    /// let plane = Hyperplane::new(&[0.6, 0.8], 1.4)?;
+    /// assert_eq!(plane, Hyperplane { normal: [0.6, 0.8, 0.0, 0.0], distance: 1.4 });
+    /// assert_eq!(Hyperplane::new(&[0.0; 5], 0.0), Err(Refused::DIVIDER));
+    /// # Ok::<(), Refused>(())
+    /// ```
+    pub fn new(normal: &[f64], distance: f64) -> Result<Self, Refused> {
+        let mut padded = [0.0; 4];
+        padded.get_mut(..normal.len()).ok_or(Refused::DIVIDER)?.copy_from_slice(normal);
+        Ok(Self { normal: padded, distance })
+    }
+
+    /// The same plane with its sides exchanged. Zeros stay +0.0, as they have to past the dimension.
+    ///
+    /// ```
+    /// # use spoonvelvet::{Hyperplane, Refused};
+    /// let plane = Hyperplane::new(&[1.0], 0.5)?;
+    /// assert_eq!(plane.flipped(), Hyperplane::new(&[-1.0], -0.5)?);
+    /// assert!(plane.flipped().normal[1].is_sign_positive());
+    /// # Ok::<(), Refused>(())
+    /// ```
+    pub fn flipped(self) -> Self {
+        Self { normal: self.normal.map(|x| 0.0 - x), distance: 0.0 - self.distance }
+    }
+}
+
+/// What becomes of what lies on one side of the divider.
+#[derive(Clone, Copy, Debug, PartialEq, Eq)]
+pub enum PolytopeFate {
+    /// No entry is added for it. The face of the cut is worked out all the same.
+    Remove,
+    /// It is in the answer.
+    Keep,
+}
+
+/// What a cut of an element gives. A side that is removed is none; the intersection is there either way.
+///
+/// There are two exceptions, in which a side is given whether it is kept or removed: a root that is a vertex element is given
+/// on its side, and at an infinite distance the root is given as inside (+) or as outside (-).
+#[derive(Clone, Copy, Debug, PartialEq, Eq)]
+pub enum ElementCutOutput {
+    /// The element lies in the plane. This answer carries nothing.
+    Flush,
+    /// Three places, each an element or none.
+    NonFlush {
+        /// What lies inside: an entry that was added, or the root itself where the plane misses it.
+        inside: Option<ElementId>,
+        /// The same of what lies outside.
+        outside: Option<ElementId>,
+        /// The face of the cut, where the two sides meet. None where the plane misses the element.
+        intersection: Option<ElementId>,
+    },
+}
+
+/// One number for each of the three lists.
+#[derive(Clone, Copy, Debug, PartialEq, Eq)]
+pub struct Counts {
+    /// Of elements.
+    pub elements: u16,
+    /// Of vertices.
+    pub vertices: u16,
+    /// Of hyperplanes.
+    pub hyperplanes: u16,
+}
+
+/// The four slices of a table, as they are lent to the engine. `bindings/c/desk.h` says how rows lie in them.
+#[derive(Clone, Copy, Debug)]
+pub struct Slices<'a> {
+    /// Dimension, and how many elements, vertices and hyperplanes are in use.
+    pub counts: &'a [u16],
+    /// Rows of four coordinates.
+    pub points: &'a [f64],
+    /// Rows of four components and the distance.
+    pub planes: &'a [f64],
+    /// Rows of 36 words.
+    pub elements: &'a [u16],
+}

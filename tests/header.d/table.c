@@ -1,0 +1,79 @@
+/* What desk.h says of rows, replies and refusals, by a table of the engine's. Ends with the line that does not hold. */
+#include "desk.h"
+#include <math.h>
+#include <stdio.h>
+#include <string.h>
+
+#define HOLDS(what) \
+    if (!(what)) return printf("%s:%d: %s\n", __FILE__, __LINE__, #what), 1
+
+static struct desk_table table, before;
+
+static uint64_t at_x(double distance, unsigned kept, uint16_t root) {
+    struct desk_hyperplane divider = {{1.0, 0.0, 0.0, 0.0}, distance};
+    return desk_table_cut(&table, divider, kept, root);
+}
+
+static enum desk_number oblique(double x, double past) {
+    struct desk_hyperplane divider = {{x, x, past, 0.0}, 0.0};
+    return desk_number_of(desk_table_cut(&table, divider, DESK_KEEP_BOTH, 8));
+}
+
+static int rows(void) {
+    HOLDS(desk_number_of(desk_table_cube(&table, 2, 1.0)) == DESK_DONE);
+    HOLDS(desk_table_is_sound(&table) == DESK_DONE);
+    HOLDS(desk_table_last_element(&table) == 8);
+    HOLDS(table.counts[DESK_COUNT_DIMENSION] == 2 && table.counts[DESK_COUNT_ELEMENTS] == 9);
+    HOLDS(table.counts[DESK_COUNT_VERTICES] == 4 && table.counts[DESK_COUNT_HYPERPLANES] == 4);
+    const uint16_t *corner = desk_table_row_of(&table, 4), *edge = desk_table_row_of(&table, 7);
+    HOLDS(corner[DESK_ROW_RANK] == 0 && corner[DESK_ROW_HYPERPLANE] == DESK_NONE && corner[DESK_ROW_BOUNDARY] == 3);
+    HOLDS(edge[DESK_ROW_RANK] == 1 && edge[DESK_ROW_MARK] == 1 && edge[DESK_ROW_HYPERPLANE] == 3 && edge[DESK_ROW_COUNT] == 2);
+    HOLDS(edge[DESK_ROW_BOUNDARY] == 1 && edge[DESK_ROW_BOUNDARY + 1] == 4);
+    HOLDS(desk_table_coordinates_of(&table, 2)[0] == -1.0 && desk_table_coordinates_of(&table, 2)[1] == 1.0);
+    HOLDS(desk_table_hyperplane_at(&table, 3)[0] == 1.0 && desk_table_hyperplane_at(&table, 3)[DESK_PLANE_WIDTH - 1] == 1.0);
+    HOLDS(!desk_table_row_of(&table, 9) && !desk_table_coordinates_of(&table, 4) && !desk_table_hyperplane_at(&table, 4));
+    HOLDS(DESK_POINTS == DESK_VERTEX_ROOM * DESK_AXES && DESK_PLANES == DESK_HYPERPLANE_ROOM * DESK_PLANE_WIDTH);
+    HOLDS(DESK_ELEMENTS == DESK_ELEMENT_ROOM * DESK_ELEMENT_WIDTH && DESK_ELEMENT_WIDTH == DESK_ROW_BOUNDARY + DESK_BOUNDARY_ROOM);
+    HOLDS(sizeof table == 47624);
+    return 0;
+}
+
+static int replies(void) {
+    uint16_t list[DESK_LONGEST_LIST], roots[] = {2, 6};
+    HOLDS(desk_size(desk_table_subelements_of(&table, 8, list, DESK_LONGEST_LIST)) == 9 && list[8] == 8);
+    HOLDS(desk_size(desk_table_subelements_with_rank(&table, 8, 1, list, DESK_LONGEST_LIST)) == 4 && list[0] == 2);
+    HOLDS(desk_size(desk_table_vertex_set(&table, 7, list, 2)) == 2 && list[0] == 1 && list[1] == 3);
+    HOLDS(desk_number_of(desk_table_vertex_set(&table, 7, list, 1)) == DESK_REFUSED_LIST_SHORT);
+    HOLDS(desk_table_greatest_common_subelements(&table, roots, 2, list, DESK_LONGEST_LIST) == 0);
+    HOLDS(desk_size(desk_table_edges_in_order(&table, 8, list, 8)) == 8 && list[2] == 1 && list[3] == 3);
+    HOLDS(desk_is_yes(desk_table_has_primordial_facet(&table, 8)));
+    HOLDS(desk_number_of(desk_table_has_primordial_facet(&table, 7)) == DESK_REFUSED_RANK);
+    HOLDS(desk_is_flush(at_x(1.0, DESK_KEEP_BOTH, 7)));
+    uint64_t cut = at_x(0.0, DESK_KEEP_OUTSIDE, 8);
+    HOLDS(desk_inside(cut) == DESK_NONE && desk_outside(cut) != DESK_NONE && desk_intersection(cut) != DESK_NONE && !desk_is_flush(cut));
+    cut = at_x(0.0, DESK_KEEP_NEITHER, 8);
+    HOLDS(desk_inside(cut) == DESK_NONE && desk_outside(cut) == DESK_NONE && desk_intersection(cut) != DESK_NONE);
+    cut = at_x(0.0, DESK_KEEP_INSIDE, 8);
+    HOLDS(desk_table_vertex_set(&table, desk_inside(cut), list, 4) >> 8 == 4 && list[0] == 0); /* (-1, -1) is inside x = 0 */
+    HOLDS(desk_inside(at_x(0.0, DESK_KEEP_OUTSIDE, 0)) == 0);
+    HOLDS(desk_outside(at_x(-INFINITY, DESK_KEEP_NEITHER, 8)) == 8);
+    HOLDS(at_x(1.0 - 0x1p-20, DESK_KEEP_BOTH, 7) == 1 << 8 && !desk_is_flush(at_x(1.0 - 0x1.01p-20, DESK_KEEP_BOTH, 7)));
+    return 0;
+}
+
+static int refusals(void) {
+    before = table;
+    HOLDS(desk_number_of(at_x(0.0, DESK_KEEP_BOTH, 9999)) == DESK_REFUSED_NOT_IN_USE);
+    HOLDS(desk_number_of(at_x(262145.0, DESK_KEEP_BOTH, 8)) == DESK_REFUSED_DIVIDER && desk_number_of(at_x(262144.0, 3, 8)) == DESK_DONE);
+    table = before;
+    HOLDS(oblique(0.7071, 0.0) == DESK_REFUSED_DIVIDER && oblique(0.707107, -0.0) == DESK_REFUSED_DIVIDER);
+    HOLDS(desk_number_of(desk_table_cube(&table, 5, 1.0)) == DESK_REFUSED_DIMENSION);
+    HOLDS(desk_number_of(desk_table_cube(&table, 2, 0.5)) == DESK_REFUSED_RADIUS);
+    HOLDS(memcmp(&table, &before, sizeof table) == 0);
+    HOLDS(oblique(0.707107, 0.0) == DESK_DONE);
+    HOLDS(strcmp(desk_words(DESK_REFUSED_NOT_IN_USE), "an element number is not in use") == 0);
+    HOLDS(strcmp(desk_words(DESK_DONE), "done") == 0);
+    return 0;
+}
+
+int main(void) { return rows() || replies() || refusals(); }

@@ -1,0 +1,304 @@
+"""The marked examples of document 01, refusals, the three kinds of numbers and the rows of a table, through the Python module."""
+
+import copy
+import doctest
+import itertools
+import math
+import unittest
+from fractions import Fraction
+
+import spoonvelvet
+from spoonvelvet import (
+    REFUSALS,
+    Counts,
+    ElementCutOutput,
+    ElementId,
+    Flush,
+    Hyperplane,
+    HyperplaneId,
+    NonFlush,
+    PolytopeFate,
+    Refused,
+    Table,
+    VertexId,
+    raw,
+    table,
+    values,
+)
+
+KEEP, REMOVE = PolytopeFate.KEEP, PolytopeFate.REMOVE
+SQUARE = ElementId(8)
+
+
+def square():
+    return Table.with_primordial_cube_radius(2, 1.0)
+
+
+def at_x(distance):
+    return Hyperplane((1.0,), distance)
+
+
+def parts(*numbers):
+    return NonFlush(*(None if n is None else ElementId(n) for n in numbers))
+
+
+def ids(*numbers):
+    return [ElementId(n) for n in numbers]
+
+
+class Case(unittest.TestCase):
+    def refused(self, number, call, *given):
+        with self.assertRaises(Refused) as caught:
+            call(*given)
+        self.assertEqual(caught.exception.number, number)
+
+    def cut(self, wanted, counts, table, divider, inside, outside, root):
+        self.assertEqual(table.cut(divider, inside, outside, ElementId(root)), wanted)
+        self.assertEqual(table.counts(), counts)
+
+
+class Marked(Case):
+    def test_m1(self):
+        self.cut(parts(16, 17, 15), (18, 6, 5), square(), at_x(0.0), KEEP, KEEP, 8)
+
+    def test_m2_the_face_is_there_though_both_sides_are_removed(self):
+        self.cut(parts(None, None, 11), (12, 6, 5), square(), at_x(0.0), REMOVE, REMOVE, 8)
+
+    def test_m3(self):
+        self.cut(parts(8, None, 7), (9, 4, 5), square(), at_x(1.0), KEEP, REMOVE, 8)
+
+    def test_m4(self):
+        self.cut(parts(8, None, None), (9, 4, 4), square(), at_x(math.inf), REMOVE, REMOVE, 8)
+        self.cut(parts(None, 8, None), (9, 4, 4), square(), at_x(-math.inf), REMOVE, REMOVE, 8)
+
+    def test_m5(self):
+        self.cut(parts(0, None, None), (9, 4, 5), square(), at_x(0.0), REMOVE, KEEP, 0)
+
+    def test_m6(self):
+        self.cut(Flush(), (9, 4, 5), square(), at_x(1.0), KEEP, KEEP, 7)
+
+    def test_m7(self):
+        self.cut(parts(8, None, None), (9, 4, 5), square(), Hyperplane((0.6, 0.8), 1.4), KEEP, KEEP, 8)
+
+    def test_m8(self):
+        self.cut(parts(4, 5, 3), (6, 3, 1), Table.with_primordial_cube_radius(1, 1.0), at_x(0.0), KEEP, KEEP, 2)
+
+    def test_m9(self):
+        self.assertEqual(square().greatest_common_subelements(ids(2, 6)), [])
+        self.assertEqual(square().greatest_common_subelements(ids(8)), ids(8))
+        self.assertEqual(square().greatest_common_subelements(ids(0)), [])
+        self.refused(6, square().greatest_common_subelements, [])
+
+    def test_m10(self):
+        walk = [(VertexId(a), VertexId(b)) for a, b in [(0, 1), (1, 3), (3, 2), (2, 0)]]
+        self.assertEqual(square().edges_in_order(SQUARE), walk)
+
+
+class Calls(Case):
+    def test_the_same_cut_again_adds_nothing(self):
+        t = square()
+        first = t.slice(at_x(0.0), SQUARE)
+        before = t.copy()
+        self.assertEqual(t.slice(at_x(0.0), SQUARE), first)
+        self.assertEqual(t, before)
+        self.assertTrue(t.is_sound())
+
+    def test_carve_keeps_inside_and_slice_both(self):
+        self.assertEqual(square().carve(at_x(0.0), SQUARE), parts(14, None, 13))
+        self.assertEqual(square().slice(at_x(0.0), SQUARE), parts(16, 17, 15))
+
+    def test_questions(self):
+        t = square()
+        self.assertEqual(t.subelements_of(ElementId(7)), ids(1, 4, 7))
+        self.assertEqual(t.subelements_with_rank(SQUARE, 1), ids(2, 5, 6, 7))
+        self.assertEqual(t.vertex_set(ElementId(7)), [VertexId(1), VertexId(3)])
+        self.assertIs(t.has_primordial_facet(SQUARE), True)
+        self.assertIs(Table.with_primordial_cube_radius(1, 1.0).has_primordial_facet(ElementId(2)), False)
+
+    def test_an_answer_is_one_of_two_kinds(self):
+        for answer in (Flush(), parts(1, 2, 3)):
+            self.assertIsInstance(answer, ElementCutOutput)
+        self.assertNotEqual(Flush(), parts(None, None, None))
+
+    def test_a_copy_is_another_table(self):
+        t = square()
+        for other in (t.copy(), copy.copy(t), copy.deepcopy(t)):
+            other.slice(at_x(0.0), SQUARE)
+            self.assertNotEqual(other, t)
+        self.assertEqual(t, square())
+
+    def test_four_dimensions(self):
+        t = Table.with_primordial_cube_radius(4, 2)
+        self.assertEqual(t.last_element(), ElementId(80))
+        answer = t.slice(Hyperplane((0.5, 0.5, 0.5, 0.5), 0), ElementId(80))
+        self.assertEqual(len(t.vertex_set(answer.intersection)), 6)
+        self.assertTrue(t.is_sound())
+
+    def test_there_is_no_table_but_from_a_cube(self):
+        self.assertRaises(TypeError, Table)
+
+    def test_a_table_changes_and_so_has_no_hash(self):
+        self.assertRaises(TypeError, hash, square())
+
+
+class Refusals(Case):
+    def test_a_refused_call_leaves_the_table(self):
+        t = square()
+        self.refused(4, t.slice, at_x(0.0), ElementId(9))
+        self.refused(5, t.slice, at_x(math.nan), SQUARE)
+        self.refused(5, t.slice, Hyperplane((1.0, 1.0), 0.0), SQUARE)
+        self.refused(4, t.vertex_set, ElementId(600))
+        self.refused(6, t.edges_in_order, ElementId(7))
+        self.refused(6, t.has_primordial_facet, ElementId(7))
+        self.assertEqual(t, square())
+
+    def test_a_full_list_leaves_the_table(self):
+        t = square()
+        planes = (at_x(0.5 - n / 256) for n in itertools.count())
+        for divider in itertools.islice(planes, t.room_left().hyperplanes):
+            t.carve(divider, SQUARE)
+        before = t.copy()
+        self.assertEqual(t.room_left().hyperplanes, 0)
+        self.refused(10, t.carve, next(planes), SQUARE)
+        self.assertEqual(t, before)
+
+    def test_a_cube(self):
+        for ndim in (0, 5, 256, 257, 258, -1, -254, 2**64 + 2):
+            self.refused(1, Table.with_primordial_cube_radius, ndim, 1.0)
+        for radius in (0.5, -1.0, 65_537.0, math.nan, math.inf, 10**400, -(10**400)):
+            self.refused(2, Table.with_primordial_cube_radius, 2, radius)
+        self.refused(1, Table.with_primordial_cube_radius, 258, math.nan)
+
+    def test_numbers_that_do_not_fit_are_not_wrapped(self):
+        t = square()
+        for n in (264, 65_536, 65_544, -1, -65_528, 2**32 + 8, 2**64 + 8):
+            for call in (t.subelements_of, t.vertex_set, t.edges_in_order, t.has_primordial_facet):
+                self.refused(4, call, ElementId(n))
+            self.refused(4, t.subelements_with_rank, ElementId(n), 1)
+            self.refused(4, t.slice, at_x(0.0), ElementId(n))
+            self.refused(4, t.greatest_common_subelements, ids(8, n))
+            self.refused(4, t.rank_of, ElementId(n))
+        for rank in (3, 255, 256, 257, 300, -1, -255, 2**32 + 1):
+            self.assertEqual(t.subelements_with_rank(SQUARE, rank), [])
+        self.assertEqual(t, square())
+
+    def test_4_comes_before_5_and_3_before_4(self):
+        self.refused(4, square().slice, at_x(math.nan), ElementId(65_544))
+        t = square()
+        t._counts[0] = 5
+        self.refused(3, t.slice, at_x(math.nan), ElementId(65_544))
+
+    def test_floats_that_do_not_fit(self):
+        for distance in (10**400, -(10**400), 262_145.0, -262_145):
+            self.refused(5, square().slice, at_x(distance), SQUARE)
+        self.refused(5, square().slice, Hyperplane((10**400, 0), 0), SQUARE)
+        self.assertLess(at_x(-(10**400)).distance, -262_144)
+        self.assertEqual(square().slice(at_x(Fraction(1, 2)), SQUARE), parts(16, 17, 15))
+
+    def test_past_the_dimension_only_plus_zero_is_taken(self):
+        self.assertEqual([math.copysign(1.0, x) for x in at_x(0.0).normal], [1.0] * 4)
+        self.refused(5, square().slice, Hyperplane((1.0, 0.0, -0.0), 0.0), SQUARE)
+        self.refused(5, square().slice, Hyperplane((1.0, 0.0, 0.0, -0.0), 0.0), SQUARE)
+        self.assertEqual(square().slice(Hyperplane((1.0, -0.0, 0.0, 0.0), 0.0), SQUARE), parts(16, 17, 15))
+        self.refused(5, Hyperplane, (1.0, 0.0, 0.0, 0.0, 0.0), 0.0)
+        self.refused(5, square().slice, Hyperplane((), 0.0), SQUARE)
+
+    def test_a_damaged_table(self):
+        for damage in (
+            lambda t: t._counts.__setitem__(1, 600),
+            lambda t: t._counts.__setitem__(2, 3),
+            lambda t: t._points.__setitem__(0, math.nan),
+            lambda t: t._points.__setitem__(1023, -0.0),
+            lambda t: t._planes.__setitem__(0, 0.5),
+            lambda t: t._elements.__setitem__(8 * raw.ELEMENT_WIDTH + 4, 5),
+        ):
+            t = square()
+            damage(t)
+            before = t.copy()
+            self.assertFalse(t.is_sound())
+            self.refused(3, t.slice, at_x(0.0), SQUARE)
+            for call in (t.subelements_of, t.vertex_set, t.edges_in_order, t.has_primordial_facet):
+                self.refused(3, call, SQUARE)
+            self.refused(3, t.subelements_with_rank, SQUARE, 1)
+            self.refused(3, t.greatest_common_subelements, ids(8))
+            self.assertEqual(t, before)
+
+    def test_each_number_has_words(self):
+        self.assertEqual(list(REFUSALS), list(range(1, 13)))
+        self.assertEqual(str(Refused(10)), "refused 10: there is no room for another hyperplane")
+        self.assertEqual(copy.copy(Refused(4)).number, 4)
+
+
+class Numbers(Case):
+    KINDS = (ElementId, VertexId, HyperplaneId)
+
+    def test_three_lists_have_three_kinds(self):
+        for a, b in itertools.permutations(self.KINDS, 2):
+            self.assertNotEqual(a(3), b(3))
+            self.assertEqual(len({a(3), b(3), a(3)}), 2)
+            with self.assertRaises(TypeError):
+                a(1) < b(2)
+        for kind in self.KINDS:
+            self.assertEqual(kind(3), kind(3))
+            self.assertLess(kind(3), kind(4))
+            self.assertNotEqual(kind(3), 3)
+            self.assertEqual(repr(kind(3)), f"{kind.__name__}(3)")
+            for other in (1.5, "1", None):
+                self.assertRaises(TypeError, kind, other)
+
+    def test_another_kind_is_not_taken(self):
+        t = square()
+        for other in (8, VertexId(1), HyperplaneId(1), None):
+            for call in (t.subelements_of, t.vertex_set, t.edges_in_order, t.has_primordial_facet, t.rank_of, t.boundary_of):
+                self.assertRaises(TypeError, call, other)
+            self.assertRaises(TypeError, t.slice, at_x(0.0), other)
+            self.assertRaises(TypeError, t.greatest_common_subelements, [other])
+        for other in (0, ElementId(0), HyperplaneId(0)):
+            self.assertRaises(TypeError, t.coordinates_of, other)
+        for other in (0, ElementId(0), VertexId(0)):
+            self.assertRaises(TypeError, t.hyperplane_at, other)
+        self.assertRaises(TypeError, t.cut, at_x(0.0), True, False, SQUARE)
+        self.assertRaises(TypeError, t.slice, ((1.0, 0.0), 0.0), SQUARE)
+        self.assertRaises(TypeError, Hyperplane, ("1",), 0.0)
+        self.assertRaises(TypeError, t.subelements_with_rank, SQUARE, 1.0)
+
+
+class Rows(Case):
+    def test_elements(self):
+        t = square()
+        self.assertEqual([t.rank_of(e) for e in ids(*range(9))], [0, 0, 1, 0, 0, 1, 1, 1, 2])
+        self.assertEqual([t.vertex_of(e) for e in ids(0, 1, 2, 3, 4)], [VertexId(0), VertexId(1), None, VertexId(2), VertexId(3)])
+        self.assertEqual(t.boundary_of(SQUARE), tuple(ids(2, 5, 6, 7)))
+        self.assertEqual(t.boundary_of(ElementId(4)), ())
+        self.assertEqual([t.hyperplane_of(e) for e in ids(2, 7, 8, 0)], [HyperplaneId(0), HyperplaneId(3), None, None])
+        self.assertEqual([t.is_primordial(e) for e in ids(7, 8, 0)], [True, False, False])
+        t.slice(at_x(0.0), SQUARE)
+        self.assertEqual(t.hyperplane_of(ElementId(15)), HyperplaneId(4))
+        self.assertFalse(t.is_primordial(ElementId(15)))
+
+    def test_vertices_and_hyperplanes(self):
+        t = square()
+        self.assertEqual([t.coordinates_of(VertexId(n)) for n in range(4)], [(-1.0, -1.0), (1.0, -1.0), (-1.0, 1.0), (1.0, 1.0)])
+        self.assertEqual(t.hyperplane_at(HyperplaneId(3)), Hyperplane((1.0, 0.0), 1.0))
+        for number in (4, -1, 65_536):
+            self.assertRaises(IndexError, t.coordinates_of, VertexId(number))
+            self.assertRaises(IndexError, t.hyperplane_at, HyperplaneId(number))
+        t.slice(at_x(0.25), SQUARE)
+        self.assertEqual([t.coordinates_of(VertexId(n)) for n in (4, 5)], [(0.25, -1.0), (0.25, 1.0)])
+
+    def test_counts_and_room(self):
+        t = square()
+        self.assertEqual(t.dimensions(), 2)
+        self.assertEqual(t.counts(), Counts(elements=9, vertices=4, hyperplanes=4))
+        self.assertEqual(t.room_left(), Counts(elements=503, vertices=252, hyperplanes=60))
+        self.assertEqual(t.last_element(), SQUARE)
+
+
+def load_tests(loader, tests, pattern):
+    for module in (spoonvelvet, values, table):
+        tests.addTests(doctest.DocTestSuite(module))
+    return tests
+
+
+if __name__ == "__main__":
+    unittest.main()

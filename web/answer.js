@@ -1,0 +1,43 @@
+// The answer of the record that we are at: cutlist's line with a name under each number, and what it means.
+import { $, escaped, html } from "./dom.js";
+import { STATES, meaning } from "./meaning.js";
+import { lineOf } from "./session.js";
+
+const PLACES = ["inside", "outside", "face of the cut"];
+const COUNTS = ["elements", "vertices", "hyperplanes"];
+const KINDS = ["inside", "outside", "face"];
+
+function slot(n, kind, name, { e = null, more = 0 } = {}) {
+    const named = e === null ? "" : ` data-e="${e}"`;
+    return ` <span class="slot ${kind}"${named}><span class="n">${n}</span><small>${name}${more > 0 ? ` <em>+${more}</em>` : ""}</small></span>`;
+}
+
+function slots({ record, line, before, after }) {
+    const [word, ...numbers] = line.split(" ");
+    if (word === "refused") return slot(numbers[0], "reason", "reason");
+    const places = word === "cut" ? numbers.slice(0, 3) : [];
+    const counts = numbers.slice(places.length);
+    const more = list => (record.kind === "cut" ? after[list] - before[list] : 0);
+    return places.map((n, i) => (n === "-" ? slot(n, "none", PLACES[i]) : slot(n, KINDS[i], PLACES[i], { e: n }))).join("") +
+        counts.map((n, i) => slot(n, `count ${COUNTS[i]}`, COUNTS[i], { more: more(COUNTS[i]) })).join("");
+}
+
+const place = ({ name, state, says }, i) =>
+    `<div class="place ${KINDS[i]} ${state}"><h3><span class="name">${name}</span> <span class="state">${STATES[state]}</span></h3>` +
+    `<p>${html(says)}</p></div>`;
+
+export const answer = {
+    changed(desk) {
+        const { step, history, live, aside } = desk;
+        if (!step) return;
+        aside.restore(live.bytes);
+        const { places, says } = meaning({ ...step, table: live, copy: aside });
+        const [word] = step.line.split(" ");
+        $("stepname").textContent = `Record ${history.at + 1} of ${history.steps.length}`;
+        $("asked").textContent = lineOf(step.record);
+        $("line").dataset.line = step.line;
+        $("line").innerHTML = `<span class="word ${word}">${escaped(word)}</span>${slots(step)}`;
+        $("places").innerHTML = places.map(place).join("");
+        $("says").innerHTML = says.map(text => `<p>${html(text)}</p>`).join("");
+    },
+};

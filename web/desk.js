@@ -1,0 +1,209 @@
+// What stands and what is aimed at: the one state of the page. Panels read it, change it through these calls, and are told.
+import { TABLE_BYTES, Table } from "./table.js";
+import { fits, load } from "./engine.js";
+import { ask, bytesOf, printed, turns } from "./session.js";
+import { History } from "./history.js";
+import { Bench } from "./bench.js";
+import { Shapes } from "./shapes.js";
+import { previewOf, removedSides } from "./preview.js";
+import { axis } from "./plane.js";
+
+const NOTHING = { elements: 0, vertices: 0, hyperplanes: 0 };
+const VIEW = { yaw: 30, pitch: 35, roll: 25, apart: 0 };
+
+export const loadDesk = async (bytes, parts) => new Desk(await load(bytes, 3 * TABLE_BYTES), parts);
+
+class Desk {
+    constructor(engine, parts) {
+        this.engine = engine;
+        this.parts = parts; // of the lesson
+        this.live = new Table(engine); // the table that stands
+        this.trial = new Table(engine); // the copy that is cut before a cut is made
+        this.aside = new Table(engine); // a copy for what is asked beside an answer
+        this.blank = this.live.save();
+        this.history = new History();
+        this.earlier = null; // the session before this one and its lesson, if there was one
+        this.lesson = null; // which part of it is gone through
+        this.aim = { normal: [1, 0], distance: 0, kept: "both", root: 0, aiming: true };
+        this.look = { ...VIEW, numbers: "both" };
+        this.pointed = null;
+        this.preview = null;
+        this.panels = [];
+    }
+
+    get step() {
+        return this.history.step;
+    }
+
+    get stands() {
+        return this.live.dimension > 0;
+    }
+
+    get bench() {
+        return this.step?.bench ?? new Bench();
+    }
+
+    get cubeStep() {
+        const { steps, at } = this.history;
+        return steps.findLastIndex(({ record, reply }, i) => i <= at && record.kind === "cube" && reply.number === 0);
+    }
+
+    get radius() {
+        return this.history.steps[this.cubeStep]?.record.radius ?? 1;
+    }
+
+    // ---- telling the panels: `changed` after a record or a step, `aimed` when the plane moved, `looked` when the view did
+
+    tell(what) {
+        if (what !== "looked" && what !== "pointed") this.preview = this.previewNow();
+        for (const panel of this.panels) panel[what]?.(this);
+    }
+
+    // at most once a frame, for a drag
+    soon(what) {
+        this.waiting = this.waiting === "aimed" ? "aimed" : what;
+        this.frame ??= requestAnimationFrame(() => {
+            this.frame = null;
+            const waiting = this.waiting;
+            this.waiting = null;
+            this.tell(waiting);
+        });
+    }
+
+    previewNow() {
+        return this.stands ? previewOf(this.live, this.trial, this.asked()) : null;
+    }
+
+    // ---- records
+
+    // where nothing was added the table is the same, for old entries never change, and is kept once
+    take(record, reply, line, before) {
+        const { live, step } = this;
+        const isNew = record.kind === "cube" && reply.number === 0;
+        const isSame = step !== null && !isNew && Object.keys(NOTHING).every(list => step.after[list] === live.sizes[list]);
+        const older = isNew || !step ? null : step.shapes;
+        this.aside.restore(live.bytes);
+        this.history.take({
+            record, reply, line, before: isNew ? NOTHING : before, after: live.sizes,
+            saved: isSame ? step.saved : live.save(),
+            shapes: isSame ? step.shapes : new Shapes(live, older),
+            bench: this.bench.after(record, reply, live),
+            removed: removedSides(this.aside, record, reply),
+        });
+    }
+
+    make(record) {
+        const before = this.live.sizes;
+        const reply = ask(this.live, record);
+        this.take(record, reply, printed(record, reply, this.live.sizes), before);
+        this.aimNext();
+    }
+
+    addCube(dimension, radius) {
+        this.make({ kind: "cube", dimension, radius });
+        this.tell("changed");
+    }
+
+    newSession(dimension, radius) {
+        this.run(bytesOf([{ kind: "cube", dimension, radius }]));
+        this.tell("changed");
+    }
+
+    cut() {
+        if (!this.stands || !fits(this.aim.root, 16)) return;
+        this.make(this.asked());
+        this.tell("changed");
+    }
+
+    // a session's bytes in place of the session that is there; gives words for what was bad, or none
+    run(bytes, lesson = null) {
+        const { history, lesson: oldLesson, earlier } = this;
+        Object.assign(this, { history: new History(), lesson, earlier: history.step && { history, lesson: oldLesson } });
+        this.live.restore(this.blank);
+        let says = "";
+        let before = NOTHING;
+        for (const { record, reply, line, bad } of turns(this.live, bytes)) {
+            if (bad !== undefined) says = `${line}: the bytes from ${bad} on are no record.`;
+            else this.take(record, reply, line, before);
+            before = this.live.sizes;
+        }
+        if (!this.step) {
+            Object.assign(this, { history, lesson: oldLesson, earlier });
+            this.live.restore(this.step?.saved ?? this.blank);
+            return `${says || "There is no record."} The session is as it was.`;
+        }
+        this.aimNext();
+        return says;
+    }
+
+    backToEarlier() {
+        if (!this.earlier) return;
+        const { history, lesson } = this.earlier;
+        this.earlier = { history: this.history, lesson: this.lesson };
+        Object.assign(this, { history, lesson });
+        this.go(history.at);
+    }
+
+    // ---- undo, redo
+
+    go(to) {
+        this.history.go(to);
+        this.live.restore(this.step?.saved ?? this.blank);
+        this.aimNext();
+        this.tell("changed");
+    }
+
+    by(steps) {
+        if (!this.history.can(steps)) return;
+        const undone = steps === -1 ? this.step.record : null;
+        this.history.go(this.history.at + steps);
+        this.live.restore(this.step.saved);
+        this.aimNext();
+        if (undone?.kind === "cut") this.aimLike(undone, true);
+        this.tell("changed");
+    }
+
+    // ---- the plane, the sides kept and the root
+
+    asked() {
+        const { kept, root, normal, distance } = this.aim;
+        return { kind: "cut", kept, root, normal, distance };
+    }
+
+    aimLike({ normal, distance, kept, root }, aiming) {
+        if (normal.length === this.live.dimension) Object.assign(this.aim, { normal, distance, kept, root, aiming });
+    }
+
+    // after a cube, its last element; after a cut, a piece that it answered
+    aimNext() {
+        const { record, reply } = this.step ?? {};
+        if (!this.stands) return;
+        if (record.kind === "cube" || record.normal.length !== this.live.dimension) {
+            const root = this.live.sizes.elements - 1;
+            Object.assign(this.aim, { normal: axis(this.live.dimension, 0), distance: 0, kept: "both", root, aiming: reply.number === 0 });
+            return;
+        }
+        this.aimLike(record, false);
+        if (reply.number === 0 && !reply.flush && this.live.isFull(record.root)) this.aim.root = reply.inside ?? reply.outside ?? record.root;
+    }
+
+    aimAt(change) {
+        Object.assign(this.aim, change, { aiming: true });
+        this.soon("aimed");
+    }
+
+    lookFrom(change) {
+        Object.assign(this.look, change);
+        this.soon("looked");
+    }
+
+    resetView() {
+        this.lookFrom(VIEW);
+    }
+
+    pointAt(what) {
+        if (what?.list === this.pointed?.list && what?.n === this.pointed?.n) return;
+        this.pointed = what;
+        this.tell("pointed");
+    }
+}

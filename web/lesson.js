@@ -1,0 +1,62 @@
+// The lesson, read from docs/LESSON.md itself: each session as steps, with its text. What is added there shows up here.
+import { $, enable, escaped } from "./dom.js";
+import { bytesOf, lineOf, recordsOf } from "./session.js";
+
+// the parts that have a session: title, session, the lines that it prints, and the text
+export function partsOf(markdown) {
+    return markdown.split(/^## /m).slice(1).map(part => {
+        const title = part.split("\n")[0].trim();
+        const block = kind => part.match(new RegExp("^```" + kind + "\\n([^]*?)^```$", "m"))?.[1] ?? null;
+        const text = part.slice(part.indexOf("\n")).replace(/^```[^]*?^```$/gm, "").trim();
+        const paragraphs = text.split(/\n\s*\n/).map(words => words.replace(/\s+/g, " "));
+        return { title, session: block("session"), lines: block("lines"), paragraphs };
+    }).filter(({ session }) => session !== null);
+}
+
+const marked = text => escaped(text).replace(/`([^`]+)`/g, "<code>$1</code>").replace(/\*([^*]+)\*/g, "<em>$1</em>");
+
+function start(desk, i) {
+    const { session } = desk.parts[i];
+    desk.run(bytesOf(recordsOf(session)), i);
+    desk.go(0);
+    $("lessonnext").focus({ preventScroll: true });
+}
+
+function row({ record, line }, i, at) {
+    const state = i < at ? "done" : i === at ? "now" : "to come";
+    return `<li class="${state === "to come" ? "later" : state}"${i === at ? ' aria-current="step"' : ""}><code>${escaped(lineOf(record))}</code>` +
+        `<code class="gives">${i <= at ? escaped(line) : "?"}</code></li>`;
+}
+
+export const lesson = {
+    wire(desk) {
+        $("lessons").innerHTML = desk.parts.map(({ title }, i) => {
+            const name = `Lesson ${i + 1}: ${escaped(title)}`;
+            return `<button type="button" data-lesson="${i}" title="${name}" aria-label="${name}">${i + 1}</button>`;
+        }).join("");
+        $("lessons").onclick = event => {
+            const button = event.target.closest("button");
+            if (button) start(desk, Number(button.dataset.lesson));
+        };
+        $("lessonnext").onclick = () => desk.by(1);
+        $("lessonback").onclick = () => desk.go(desk.history.at - 1);
+        $("lessonleave").onclick = () => {
+            desk.lesson = null;
+            desk.tell("changed");
+        };
+    },
+
+    changed(desk) {
+        const { lesson: i, history, parts } = desk;
+        $("lesson").hidden = i === null;
+        $("lessons").querySelectorAll("button").forEach((button, k) => button.setAttribute("aria-pressed", String(k === i)));
+        if (i === null) return;
+        const { title, paragraphs } = parts[i];
+        $("lessontitle").textContent = `${i + 1}. ${title}`;
+        $("lessonsteps").innerHTML = history.steps.map((step, k) => row(step, k, history.at)).join("");
+        $("lessonat").textContent = `step ${history.at + 1} of ${history.steps.length}`;
+        $("lessontext").innerHTML = paragraphs.map(text => `<p>${marked(text)}</p>`).join("");
+        enable($("lessonnext"), history.can(1));
+        enable($("lessonback"), history.can(-1));
+    },
+};
