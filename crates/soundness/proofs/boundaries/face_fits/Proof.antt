@@ -25,6 +25,16 @@ Inv-loop elements from to e met₀ stamp low₀ twice₀ i₀ met low twice i = 
 abbrev μ-loop : tie.MeasureT-loop
 μ-loop elements from to e met₀ stamp low₀ twice₀ i₀ met low twice i = to - i
 
+-- where the function began, where an edge is taken up, and where its number was found to fit
+abbrev start : tie.At-loop Inv-loop μ-loop → tie.Start Inv-loop μ-loop
+start c = c .before .before .before
+
+abbrev taken-up : tie.Else1 Inv-loop μ-loop → tie.In-loop Inv-loop μ-loop
+taken-up c = c .before .before .before .before
+
+abbrev fitted : tie.After-join-ends Inv-loop μ-loop → tie.Else1 Inv-loop μ-loop
+fitted c = c .before .before
+
 stamp-of-requires : tie.Need-stamp-of-requires Inv-loop μ-loop
 stamp-of-requires c κs = c .before .pre .4
 
@@ -50,94 +60,104 @@ wide-requires : tie.Need-wide-requires Inv-loop μ-loop
 wide-requires c κs = search needs
 
 number-fits-requires : tie.Need-number-fits-requires Inv-loop μ-loop
-number-fits-requires c κs = (search needs, omega (arith, c .before .before .before .before .before .before .pre .4))
+number-fits-requires c κs = (search needs, omega (arith, start (c .before .before .before) .pre .4))
 
 returns : tie.Need-returns Inv-loop μ-loop
 returns c =
-    let a = c .before .before .before .before .before .before .before .before .args in
-    let p = c .before .before .before .before .before .before .before .before .pre in
-    let at = c .before .before .before .before .before .loop in
-    (no-first _ _ (fits-no (a .elements .now) (a .to) (a .e) 2 (p .2) (at .low) (at .i) _ (at .inv .3) (c .before .before .wide .ensures .0) (c .before .before .before .before .loop-test .taken) (sym (c .before .number-fits .ensures) ∙ not-true _ (c .if1 .taken))), λ e. absurd (false≢true e))
+    let n = c .before in
+    let f = n .before .before .before in
+    let at = f .before .loop in
+    let a = start (f .before) .args in
+    let p = start (f .before) .pre in
+    (no-first _ _ (fits-no (a .elements .now) (a .to) (a .e) 2 (p .2) (at .low) (at .i) _ (at .inv .3) (n .before .wide .ensures .0) (f .loop-test .taken) (sym (n .number-fits .ensures) ∙ not-true _ (c .if1 .taken))), λ e. absurd (false≢true e))
 
 join-ends-requires : tie.Need-join-ends-requires Inv-loop μ-loop
 join-ends-requires c κs =
-    let a = c .before .before .before .before .before .before .before .before .before .args in
-    let p = c .before .before .before .before .before .before .before .before .before .pre in
-    let at = c .before .before .before .before .before .before .loop in
-    let fits = sym (c .before .before .number-fits .ensures) ∙ not-false _ (c .before .if1 .left) in
+    let e = c .before in
+    let f = taken-up e in
+    let at = f .before .loop in
+    let a = start (f .before) .args in
+    let p = start (f .before) .pre in
+    let fits = sym (e .before .number-fits .ensures) ∙ not-false _ (e .if1 .left) in
     let l = number-low (a .elements .now) (a .e) 2 (at .low) _ fits in (
       p .3,
       omega (arith, l, p .4),
       number-ends (a .elements .now) (a .e) (p .5) (at .low) _ fits,
       subst (λ (s : ℕ). Stamped s (at .met)) (sym (at .inv .2)) (paths-stamped (a .elements .now) (drop (a .from) (take (a .to) (a .elements .now))) (stampOf (a .e)) (at .met) (at .twice) (at .i - a .from) (at .inv .4)),
-      c .before .before .before .before .before .before .before .stamp-of .ensures .1,
+      f .before .before .stamp-of .ensures .1,
     )
 
 returns-2 : tie.Need-returns-2 Inv-loop μ-loop
 returns-2 c =
-    let a = c .before .before .before .before .before .before .before .before .before .before .before .args in
-    let p = c .before .before .before .before .before .before .before .before .before .before .before .pre in
-    let at = c .before .before .before .before .before .before .before .before .loop in
-    let h = c .before .before .before .before .before .before .before .loop-test .taken in
-    let x = c .before .before .before .before .before .wide .ensures .0 in
-    let fits = sym (c .before .before .before .before .number-fits .ensures) ∙ not-false _ (c .before .before .before .if1 .left) in
-    let j = c .before .join-ends in
-    let r = j .ensures .0 ∙ ap (λ (s : ℕ). joining s (a .elements .now) (at .met) (c .before .before .before .before .before .wide .result)) (at .inv .2) in
-    (face-thrice (a .elements .now) (a .from) (a .to) (a .e) (p .2) (p .4) (p .5) (at .met) (at .twice) (at .i) (stampOf (a .e)) (at .inv .4) (at .inv .0) h _ _ x r (c .if2 .taken), λ t. absurd (false≢true t))
+    let j = c .before in
+    let e = fitted j in
+    let f = taken-up e in
+    let at = f .before .loop in
+    let a = start (f .before) .args in
+    let p = start (f .before) .pre in
+    let h = f .loop-test .taken in
+    let w = e .before .before .wide in
+    let r = j .join-ends .ensures .0 ∙ ap (λ (s : ℕ). joining s (a .elements .now) (at .met) (w .result)) (at .inv .2) in
+    (face-thrice (a .elements .now) (a .from) (a .to) (a .e) (p .2) (p .4) (p .5) (at .met) (at .twice) (at .i) (stampOf (a .e)) (at .inv .4) (at .inv .0) h _ _ (w .ensures .0) r (c .if2 .taken), λ t. absurd (false≢true t))
 
 add-if4 : tie.Need-add-if4 Inv-loop μ-loop
 add-if4 c = search needs
 
 returns-3 : tie.Need-returns-3 Inv-loop μ-loop
 returns-3 c =
-    let a = c .before .before .before .before .before .before .before .before .before .before .before .before .before .args in
-    let p = c .before .before .before .before .before .before .before .before .before .before .before .before .before .pre in
-    let at = c .before .before .before .before .before .before .before .before .before .before .loop in
-    let h = c .before .before .before .before .before .before .before .before .before .loop-test .taken in
-    let x = c .before .before .before .before .before .before .before .wide .ensures .0 in
-    let fits = sym (c .before .before .before .before .before .before .number-fits .ensures) ∙ not-false _ (c .before .before .before .before .before .if1 .left) in
-    let j = c .before .before .before .join-ends in
-    let r = j .ensures .0 ∙ ap (λ (s : ℕ). joining s (a .elements .now) (at .met) (c .before .before .before .before .before .before .before .wide .result)) (at .inv .2) in
-    (face-early (a .elements .now) (a .from) (a .to) (a .e) (p .2) (p .4) (p .5) (at .met) (at .twice) (at .i) (stampOf (a .e)) (at .inv .4) (at .inv .0) h _ _ x r (c .before .if3 .taken) (c .if4 .taken), λ t. absurd (false≢true t))
+    let j = c .before .before .before in
+    let e = fitted j in
+    let f = taken-up e in
+    let at = f .before .loop in
+    let a = start (f .before) .args in
+    let p = start (f .before) .pre in
+    let h = f .loop-test .taken in
+    let w = e .before .before .wide in
+    let r = j .join-ends .ensures .0 ∙ ap (λ (s : ℕ). joining s (a .elements .now) (at .met) (w .result)) (at .inv .2) in
+    (face-early (a .elements .now) (a .from) (a .to) (a .e) (p .2) (p .4) (p .5) (at .met) (at .twice) (at .i) (stampOf (a .e)) (at .inv .4) (at .inv .0) h _ _ (w .ensures .0) r (c .before .if3 .taken) (c .if4 .taken), λ t. absurd (false≢true t))
 
 add-result : tie.Need-add-result Inv-loop μ-loop
 add-result c =
-    let a = c .before .before .before .before .before .before .before .before .before .before .before .before .before .args in
-    let p = c .before .before .before .before .before .before .before .before .before .before .before .before .before .pre in
-    let at = c .before .before .before .before .before .before .before .before .before .before .loop in
-    let f = paths-few _ _ _ _ _ _ (at .inv .4) in
-    omega (arith, f, p .1, at .inv .0, at .inv .1)
+    let e = fitted (c .before .before .before) in
+    let f = taken-up e in
+    let at = f .before .loop in
+    let p = start (f .before) .pre in
+    let few = paths-few _ _ _ _ _ _ (at .inv .4) in
+    omega (arith, few, p .1, at .inv .0, at .inv .1)
 
 sub-result : tie.Need-sub-result Inv-loop μ-loop
-sub-result c = c .before .before .before .before .before .before .before .before .before .before .before .before .before .pre .0
+sub-result c = start (taken-up (fitted (c .before .before .before)) .before) .pre .0
 
 returns-4 : tie.Need-returns-4 Inv-loop μ-loop
 returns-4 c =
-    let a = c .before .before .before .before .before .before .before .before .before .before .before .before .before .args in
-    let p = c .before .before .before .before .before .before .before .before .before .before .before .before .before .pre in
-    let at = c .before .before .before .before .before .before .before .before .before .before .loop in
-    let h = c .before .before .before .before .before .before .before .before .before .loop-test .taken in
-    let x = c .before .before .before .before .before .before .before .wide .ensures .0 in
-    let fits = sym (c .before .before .before .before .before .before .number-fits .ensures) ∙ not-false _ (c .before .before .before .before .before .if1 .left) in
-    let j = c .before .before .before .join-ends in
-    let r = j .ensures .0 ∙ ap (λ (s : ℕ). joining s (a .elements .now) (at .met) (c .before .before .before .before .before .before .before .wide .result)) (at .inv .2) in
+    let j = c .before .before .before in
+    let e = fitted j in
+    let f = taken-up e in
+    let at = f .before .loop in
+    let a = start (f .before) .args in
+    let p = start (f .before) .pre in
+    let h = f .loop-test .taken in
+    let w = e .before .before .wide in
+    let r = j .join-ends .ensures .0 ∙ ap (λ (s : ℕ). joining s (a .elements .now) (at .met) (w .result)) (at .inv .2) in
+    let fits = sym (e .before .number-fits .ensures) ∙ not-false _ (e .if1 .left) in
     let last = c .if4 .left in
     let three = c .before .if3 .taken in
-    let same = j .ensures .2 (let z : 3 ≤ j .result = omega (arith, three) in z) in (
-      face-last (a .elements .now) (a .from) (a .to) (a .e) (p .2) (p .4) (p .5) (at .met) (at .twice) (at .i) (stampOf (a .e)) (at .inv .4) (at .inv .0) h _ _ x r three last
-          (fits-end (a .elements .now) (a .to) (a .e) 2 (p .2) _ _ (fits-go (a .elements .now) (a .to) (a .e) 2 (p .2) (at .low) (at .i) _ (at .inv .3) x h fits) last),
+    let same = j .join-ends .ensures .2 (let z : 3 ≤ j .join-ends .result = omega (arith, three) in z) in (
+      face-last (a .elements .now) (a .from) (a .to) (a .e) (p .2) (p .4) (p .5) (at .met) (at .twice) (at .i) (stampOf (a .e)) (at .inv .4) (at .inv .0) h _ _ (w .ensures .0) r three last
+          (fits-end (a .elements .now) (a .to) (a .e) 2 (p .2) _ _ (fits-go (a .elements .now) (a .to) (a .e) 2 (p .2) (at .low) (at .i) _ (at .inv .3) (w .ensures .0) h fits) last),
       λ t. subst (λ (ws : List ℕ). Unmet (stampOf (a .e + 1)) ws) (sym same)
           (stamped-next (a .e) (at .met) (paths-stamped (a .elements .now) (drop (a .from) (take (a .to) (a .elements .now))) (stampOf (a .e)) (at .met) (at .twice) (at .i - a .from) (at .inv .4))),
     )
 
 add-twice : tie.Need-add-twice Inv-loop μ-loop
 add-twice c =
-    let a = c .before .before .before .before .before .before .before .before .before .before .before .before .args in
-    let p = c .before .before .before .before .before .before .before .before .before .before .before .before .pre in
-    let at = c .before .before .before .before .before .before .before .before .before .loop in
-    let f = paths-few _ _ _ _ _ _ (at .inv .4) in
-    let few = c .before .before .join-ends .ensures .3 in
-    omega (arith, f, few, p .1, at .inv .0, at .inv .1)
+    let j = c .before .before in
+    let e = fitted j in
+    let f = taken-up e in
+    let at = f .before .loop in
+    let p = start (f .before) .pre in
+    let few = paths-few _ _ _ _ _ _ (at .inv .4) in
+    omega (arith, few, j .join-ends .ensures .3, p .1, at .inv .0, at .inv .1)
 
 add-low : tie.Need-add-low Inv-loop μ-loop
 add-low c = search needs
@@ -150,25 +170,27 @@ loop-less c = search needs
 
 loop-again : tie.Need-loop-again Inv-loop μ-loop
 loop-again c =
-    let a = c .before .before .before .before .before .before .before .before .before .before .before .before .args in
-    let p = c .before .before .before .before .before .before .before .before .before .before .before .before .pre in
-    let at = c .before .before .before .before .before .before .before .before .before .loop in
-    let h = c .before .before .before .before .before .before .before .before .loop-test .taken in
-    let x = c .before .before .before .before .before .before .wide .ensures .0 in
-    let fits = sym (c .before .before .before .before .before .number-fits .ensures) ∙ not-false _ (c .before .before .before .before .if1 .left) in
-    let j = c .before .before .join-ends in
-    let r = j .ensures .0 ∙ ap (λ (s : ℕ). joining s (a .elements .now) (at .met) (c .before .before .before .before .before .before .wide .result)) (at .inv .2) in
-    let few = j .ensures .3 in
+    let j = c .before .before in
+    let e = fitted j in
+    let f = taken-up e in
+    let at = f .before .loop in
+    let a = start (f .before) .args in
+    let p = start (f .before) .pre in
+    let h = f .loop-test .taken in
+    let w = e .before .before .wide in
+    let r = j .join-ends .ensures .0 ∙ ap (λ (s : ℕ). joining s (a .elements .now) (at .met) (w .result)) (at .inv .2) in
+    let fits = sym (e .before .number-fits .ensures) ∙ not-false _ (e .if1 .left) in
+    let most = j .join-ends .ensures .3 in
     let not-four = c .before .if2 .left in
     let not-three = c .if3 .left in
-    let small : j .result < 3 = omega (arith, few, not-four, not-three) in (
+    let small : j .join-ends .result < 3 = omega (arith, most, not-four, not-three) in (
       search needs,
       search needs,
       at .inv .2,
-      fits-go (a .elements .now) (a .to) (a .e) 2 (p .2) (at .low) (at .i) _ (at .inv .3) x h fits,
-      face-go (a .elements .now) (a .from) (a .to) (a .e) (p .2) (at .met) _ (at .twice) (at .i) _ _ (stampOf (a .e)) (at .inv .4) (at .inv .0) h x
+      fits-go (a .elements .now) (a .to) (a .e) 2 (p .2) (at .low) (at .i) _ (at .inv .3) (w .ensures .0) h fits,
+      face-go (a .elements .now) (a .from) (a .to) (a .e) (p .2) (at .met) _ (at .twice) (at .i) _ _ (stampOf (a .e)) (at .inv .4) (at .inv .0) h (w .ensures .0)
           (number-ends (a .elements .now) (a .e) (p .5) (at .low) _ fits) r small
-          (j .ensures .1 small ∙ ap (λ (s : ℕ). joined s (a .elements .now) (at .met) (c .before .before .before .before .before .before .wide .result)) (at .inv .2)),
+          (j .join-ends .ensures .1 small ∙ ap (λ (s : ℕ). joined s (a .elements .now) (at .met) (w .result)) (at .inv .2)),
     )
 
 sub-result-2 : tie.Need-sub-result-2 Inv-loop μ-loop

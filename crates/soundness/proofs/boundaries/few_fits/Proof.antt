@@ -23,6 +23,16 @@ Inv-loop elements from to e met₀ stamp low₀ twice₀ i₀ met low twice i = 
 abbrev μ-loop : tie.MeasureT-loop
 μ-loop elements from to e met₀ stamp low₀ twice₀ i₀ met low twice i = to - i
 
+-- where the function began, where an edge is taken up, and where its number was found to fit
+abbrev start : tie.At-loop Inv-loop μ-loop → tie.Start Inv-loop μ-loop
+start c = c .before .before .before
+
+abbrev taken-up : tie.Else1 Inv-loop μ-loop → tie.In-loop Inv-loop μ-loop
+taken-up c = c .before .before .before .before
+
+abbrev fitted : tie.After-meet-ends Inv-loop μ-loop → tie.Else1 Inv-loop μ-loop
+fitted c = c .before .before
+
 stamp-of-requires : tie.Need-stamp-of-requires Inv-loop μ-loop
 stamp-of-requires c κs = search needs
 
@@ -48,28 +58,36 @@ wide-requires : tie.Need-wide-requires Inv-loop μ-loop
 wide-requires c κs = search needs
 
 number-fits-requires : tie.Need-number-fits-requires Inv-loop μ-loop
-number-fits-requires c κs = (search needs, omega (arith, c .before .before .before .before .before .before .pre .4))
+number-fits-requires c κs = (search needs, omega (arith, start (c .before .before .before) .pre .4))
 
 returns : tie.Need-returns Inv-loop μ-loop
 returns c =
-    let a = c .before .before .before .before .before .before .before .before .args in
-    let at = c .before .before .before .before .before .loop in
-    (no-first _ _ (fits-no (a .elements .now) (a .to) (a .e) 2 (c .before .before .before .before .before .before .before .before .pre .2) (at .low) (at .i) _ (at .inv .3) (c .before .before .wide .ensures .0) (c .before .before .before .before .loop-test .taken) (sym (c .before .number-fits .ensures) ∙ not-true _ (c .if1 .taken))), λ e. absurd (false≢true e))
+    let n = c .before in
+    let f = n .before .before .before in
+    let at = f .before .loop in
+    let a = start (f .before) .args in
+    let p = start (f .before) .pre in
+    (no-first _ _ (fits-no (a .elements .now) (a .to) (a .e) 2 (p .2) (at .low) (at .i) _ (at .inv .3) (n .before .wide .ensures .0) (f .loop-test .taken) (sym (n .number-fits .ensures) ∙ not-true _ (c .if1 .taken))), λ e. absurd (false≢true e))
 
 meet-ends-requires : tie.Need-meet-ends-requires Inv-loop μ-loop
 meet-ends-requires c κs =
-    let a = c .before .before .before .before .before .before .before .before .before .args in
-    let p = c .before .before .before .before .before .before .before .before .before .pre in
-    let fits = sym (c .before .before .number-fits .ensures) ∙ not-false _ (c .before .if1 .left) in
-    let l = number-low (a .elements .now) (a .e) 2 (c .before .before .before .before .before .before .loop .low) _ fits in
-    (p .3, omega (arith, l, p .4), number-ends (a .elements .now) (a .e) (p .5) (c .before .before .before .before .before .before .loop .low) _ fits, c .before .before .before .before .before .before .before .stamp-of .ensures .1)
+    let e = c .before in
+    let f = taken-up e in
+    let at = f .before .loop in
+    let a = start (f .before) .args in
+    let p = start (f .before) .pre in
+    let fits = sym (e .before .number-fits .ensures) ∙ not-false _ (e .if1 .left) in
+    let l = number-low (a .elements .now) (a .e) 2 (at .low) _ fits in
+    (p .3, omega (arith, l, p .4), number-ends (a .elements .now) (a .e) (p .5) (at .low) _ fits, f .before .before .stamp-of .ensures .1)
 
 add-twice : tie.Need-add-twice Inv-loop μ-loop
 add-twice c =
-    let p = c .before .before .before .before .before .before .before .before .before .before .pre in
-    let at = c .before .before .before .before .before .before .before .loop in
-    let f = round-few _ _ _ _ _ _ (at .inv .4) in
-    omega (arith, f, c .meet-ends .ensures .2, p .1, at .inv .0, at .inv .1)
+    let e = fitted c in
+    let f = taken-up e in
+    let at = f .before .loop in
+    let p = start (f .before) .pre in
+    let few = round-few _ _ _ _ _ _ (at .inv .4) in
+    omega (arith, few, c .meet-ends .ensures .2, p .1, at .inv .0, at .inv .1)
 
 add-low : tie.Need-add-low Inv-loop μ-loop
 add-low c = search needs
@@ -82,15 +100,19 @@ loop-less c = search needs
 
 loop-again : tie.Need-loop-again Inv-loop μ-loop
 loop-again c =
-    let a = c .before .before .before .before .before .before .before .before .before .before .args in
-    let p = c .before .before .before .before .before .before .before .before .before .before .pre in
-    let at = c .before .before .before .before .before .before .before .loop in
-    let fits = sym (c .before .before .before .number-fits .ensures) ∙ not-false _ (c .before .before .if1 .left) in (
+    let e = fitted c in
+    let f = taken-up e in
+    let at = f .before .loop in
+    let a = start (f .before) .args in
+    let p = start (f .before) .pre in
+    let fits = sym (e .before .number-fits .ensures) ∙ not-false _ (e .if1 .left) in
+    let h = f .loop-test .taken in
+    let x = e .before .before .wide .ensures .0 in (
       search needs,
       search needs,
       at .inv .2,
-      fits-go (a .elements .now) (a .to) (a .e) 2 (p .2) (at .low) (at .i) _ (at .inv .3) (c .before .before .before .before .wide .ensures .0) (c .before .before .before .before .before .before .loop-test .taken) fits,
-      few-go (a .elements .now) (a .from) (a .to) (a .e) (p .2) (at .met) _ (at .twice) (at .i) _ _ (stampOf (a .e)) _ (at .inv .4) (at .inv .0) (c .before .before .before .before .before .before .loop-test .taken) (c .before .before .before .before .wide .ensures .0)
+      fits-go (a .elements .now) (a .to) (a .e) 2 (p .2) (at .low) (at .i) _ (at .inv .3) x h fits,
+      few-go (a .elements .now) (a .from) (a .to) (a .e) (p .2) (at .met) _ (at .twice) (at .i) _ _ (stampOf (a .e)) _ (at .inv .4) (at .inv .0) h x
           (number-ends (a .elements .now) (a .e) (p .5) (at .low) _ fits) (at .inv .2) (c .meet-ends .ensures .0) (c .meet-ends .ensures .1),
     )
 

@@ -6,6 +6,13 @@ use borrow.Author.Needs.{needs}
 use Rattle.soundness.proofs.sound.higher_sound.Statement.{statement}
 use Rattle.soundness.proofs.sound.higher_sound.Tie as tie
 
+-- where the count was found to fit, and where the function began
+abbrev start : tie.Else1 → tie.Start
+start c = c .before .before .before .before
+
+abbrev counted : tie.After-gather-past → tie.Else1
+counted c = c .before .before
+
 mul-at : tie.Need-mul-at
 mul-at c = search needs
 
@@ -36,15 +43,18 @@ add-boundary-sound c = search needs
 
 boundary-sound-requires : tie.Need-boundary-sound-requires
 boundary-sound-requires c κs =
-    let p = c .before .before .before .before .before .before .before .pre in
-    (p .0, omega (arith, p .1, c .before .before .before .if1 .left), c .before .before .before .if1 .left, p .1, p .2, p .3, p .4)
+    let f = counted (c .before) in
+    let p = start f .pre in
+    (p .0, omega (arith, p .1, f .if1 .left), f .if1 .left, p .1, p .2, p .3, p .4)
 
 returns-2 : tie.Need-returns-2
 returns-2 c =
-    let a = c .before .before .before .before .before .before .before .before .args in (
-      polytope-few (a .elements .now) (a .d) (a .e) _ (c .before .before .before .before .before .wide .ensures .0) (a .rank) (c .before .before .before .before .if1 .left) (c .boundary-sound .ensures .0),
+    let g = c .before .before in
+    let f = counted g in
+    let a = start f .args in (
+      polytope-few (a .elements .now) (a .d) (a .e) _ (f .before .wide .ensures .0) (a .rank) (f .if1 .left) (c .boundary-sound .ensures .0),
       c .boundary-sound .ensures .1,
-      λ t. c .before .before .gather-past .ensures,
+      λ t. g .gather-past .ensures,
     )
 
 pub higher-sound-spec : {M : Type 1} → statement M

@@ -4,13 +4,25 @@ use mathlib.Core.Bool.{true, false, false≢true}
 use mathlib.Core.Path.{refl, sym, _∙_}
 use native.Mathlib.Omega.{arith}
 use Rattle.rules.proofs.Laws.{test-le, not-true, not-false}
-use Rattle.soundness.specs.Words.{stampOf}
 use Rattle.soundness.proofs.FaceLoops.{unmet-next}
 use Rattle.soundness.proofs.RowKinds.{row-corner, row-polytope}
 use borrow.Author.Tests.{lt-leb}
 use borrow.Author.Needs.{needs}
 use Rattle.soundness.proofs.sound.row_sound.Statement.{statement}
 use Rattle.soundness.proofs.sound.row_sound.Tie as tie
+
+-- a polytope: where the function began, where its rank and its mark were found to fit, and where its boundary was
+abbrev start : tie.Else1 → tie.Start
+start c = c .before .before .before .before
+
+abbrev ranked : tie.Else3 → tie.Else1
+ranked c = c .before .before .before
+
+abbrev fitted : tie.After-polytope-sound → tie.Else3
+fitted c = c .before .before .before
+
+abbrev bound : tie.After-wide2 → tie.Else4
+bound c = c .before .before
 
 mul-at : tie.Need-mul-at
 mul-at c = search needs
@@ -60,12 +72,16 @@ returns-3 c =
     )
 
 polytope-sound-requires : tie.Need-polytope-sound-requires
-polytope-sound-requires c κs = c .before .before .before .before .before .before .before .before .before .pre
+polytope-sound-requires c κs = start (ranked (c .before .before)) .pre
 
 returns-4 : tie.Need-returns-4
 returns-4 c =
-    let a = c .before .before .before .before .before .before .before .before .before .before .before .args in (
-      row-polytope (a .elements .now) (a .d) (a .h) (a .k) (a .e) _ (c .before .before .before .before .before .before .before .before .wide .ensures .0) _ _ true true false _ (c .before .before .before .before .before .before .before .if1 .left) refl refl (test-le _ 1 (c .before .before .before .before .before .if2 .left)) (test-le _ (a .d) (c .before .before .before .before .if3 .left)) (sym (c .before .polytope-sound .ensures .0) ∙ not-true _ (c .if4 .taken)) refl,
+    let w = c .before in
+    let t = fitted w in
+    let r = ranked t in
+    let a = start r .args in (
+      row-polytope (a .elements .now) (a .d) (a .h) (a .k) (a .e) _ (r .before .wide .ensures .0) _ _ true true false _ (r .if1 .left) refl refl (test-le _ 1 (t .before .if2 .left)) (test-le _ (a .d) (t .if3 .left))
+          (sym (w .polytope-sound .ensures .0) ∙ not-true _ (c .if4 .taken)) refl,
       λ t. absurd (false≢true t),
       λ t. absurd (false≢true t),
     )
@@ -95,15 +111,21 @@ wide-requires-3 : tie.Need-wide-requires-3
 wide-requires-3 c κs = search needs
 
 facet-sound-requires : tie.Need-facet-sound-requires
-facet-sound-requires c κs = c .before .before .before .before .before .before .before .before .if3 .left
+facet-sound-requires c κs = fitted (bound (c .before .before) .before) .if3 .left
 
 returns-5 : tie.Need-returns-5
 returns-5 c =
-    let a = c .before .before .before .before .before .before .before .before .before .before .before .before .before .before .before .before .args in
-    let yes = not-false _ (c .before .before .before .before .before .if4 .left) in (
-      row-polytope (a .elements .now) (a .d) (a .h) (a .k) (a .e) _ (c .before .before .before .before .before .before .before .before .before .before .before .before .before .wide .ensures .0) _ _ true true true _ (c .before .before .before .before .before .before .before .before .before .before .before .before .if1 .left) (c .before .before .before .wide2 .ensures .0) (c .before .wide3 .ensures .0) (test-le _ 1 (c .before .before .before .before .before .before .before .before .before .before .if2 .left)) (test-le _ (a .d) (c .before .before .before .before .before .before .before .before .before .if3 .left)) (sym (c .before .before .before .before .before .before .polytope-sound .ensures .0) ∙ yes) (sym (c .facet-sound .ensures)),
-      λ t. c .before .before .before .before .before .before .polytope-sound .ensures .1 yes,
-      λ t. c .before .before .before .before .before .before .polytope-sound .ensures .2 yes,
+    let q = c .before .before .before in
+    let b = bound q in
+    let w = b .before in
+    let t = fitted w in
+    let r = ranked t in
+    let a = start r .args in
+    let yes = not-false _ (b .if4 .left) in (
+      row-polytope (a .elements .now) (a .d) (a .h) (a .k) (a .e) _ (r .before .wide .ensures .0) _ _ true true true _ (r .if1 .left) (q .wide2 .ensures .0) (c .before .wide3 .ensures .0) (test-le _ 1 (t .before .if2 .left)) (test-le _ (a .d) (t .if3 .left))
+          (sym (w .polytope-sound .ensures .0) ∙ yes) (sym (c .facet-sound .ensures)),
+      λ t. w .polytope-sound .ensures .1 yes,
+      λ t. w .polytope-sound .ensures .2 yes,
     )
 
 pub row-sound-spec : {M : Type 1} → statement M
