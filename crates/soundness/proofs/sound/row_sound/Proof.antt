@@ -60,13 +60,18 @@ shared-slice-read-if2 c = search needs
 
 returns-2 : tie.Need-returns-2
 returns-2 c =
-    let a = c .before .before .before .before .before .before .args in
-    (row-polytope (a .elements .now) (a .d) (a .h) (a .k) (a .e) _ (c .before .before .before .wide .ensures .0) _ _ false _ _ _ (c .before .before .if1 .left) refl refl (lt-leb _ 1 (c .if2 .taken)) refl refl refl, λ t. absurd (false≢true t), λ t. absurd (false≢true t))
+    let r = c .before .before in
+    let a = start r .args in (
+      row-polytope (a .elements .now) (a .d) (a .h) (a .k) (a .e) _ (r .before .wide .ensures .0) _ _ false _ _ _ (r .if1 .left) refl refl (lt-leb _ 1 (c .if2 .taken)) refl refl refl,
+      λ t. absurd (false≢true t),
+      λ t. absurd (false≢true t),
+    )
 
 returns-3 : tie.Need-returns-3
 returns-3 c =
-    let a = c .before .before .before .before .before .before .before .args in (
-      row-polytope (a .elements .now) (a .d) (a .h) (a .k) (a .e) _ (c .before .before .before .before .wide .ensures .0) _ _ true false _ _ (c .before .before .before .if1 .left) refl refl (test-le _ 1 (c .before .if2 .left)) (lt-leb _ (a .d) (c .if3 .taken)) refl refl,
+    let r = c .before .before .before in
+    let a = start r .args in (
+      row-polytope (a .elements .now) (a .d) (a .h) (a .k) (a .e) _ (r .before .wide .ensures .0) _ _ true false _ _ (r .if1 .left) refl refl (test-le _ 1 (c .before .if2 .left)) (lt-leb _ (a .d) (c .if3 .taken)) refl refl,
       λ t. absurd (false≢true t),
       λ t. absurd (false≢true t),
     )

@@ -17,6 +17,13 @@ Inv-loop elements list n met₀ twice₀ k₀ met twice k = (k ≤ n) × Round e
 abbrev μ-loop : tie.MeasureT-loop
 μ-loop elements list n met₀ twice₀ k₀ met twice k = n - k
 
+-- where the function began, and where an edge is taken up
+abbrev start : tie.At-loop Inv-loop μ-loop → tie.Start Inv-loop μ-loop
+start c = c .before .before .before
+
+abbrev taken-up : tie.After-meet-ends Inv-loop μ-loop → tie.In-loop Inv-loop μ-loop
+taken-up c = c .before .before .before .before
+
 loop-holds : tie.Need-loop-holds Inv-loop μ-loop
 loop-holds c =
     let a = c .before .before .args in
@@ -33,19 +40,22 @@ wide-requires c κs = search needs
 
 meet-ends-requires : tie.Need-meet-ends-requires Inv-loop μ-loop
 meet-ends-requires c κs =
-    let a = c .before .before .before .before .before .before .before .args in
-    let p = c .before .before .before .before .before .before .before .pre in
-    let k = c .before .before .before .before .loop .k in
-    let h : k < a .n = search needs in
+    let f = c .before .before .before in
+    let a = start (f .before) .args in
+    let p = start (f .before) .pre in
+    let k = f .before .loop .k in
+    let h = f .loop-test .taken in
     let e = c .before .wide .ensures .0 in
     (p .0, edge-low (a .list .now) (a .n) (p .1) k _ h e (p .3), ends-low (a .list .now) (a .n) (p .1) k _ h e (a .elements .now) (p .4), search needs)
 
 add-twice : tie.Need-add-twice Inv-loop μ-loop
 add-twice c =
-    let a = c .before .before .before .before .before .before .before .before .args in
-    let at = c .before .before .before .before .before .loop in
-    let f = round-few (a .elements .now) (take (a .n) (a .list .now)) 1 (at .met) (at .twice) (at .k) (at .inv .1) in
-    search needs
+    let f = taken-up c in
+    let at = f .before .loop in
+    let a = start (f .before) .args in
+    let p = start (f .before) .pre in
+    let few = round-few (a .elements .now) (take (a .n) (a .list .now)) 1 (at .met) (at .twice) (at .k) (at .inv .1) in
+    omega (arith, few, c .meet-ends .ensures .2, p .2, at .inv .0)
 
 add-k : tie.Need-add-k Inv-loop μ-loop
 add-k c = search needs
@@ -55,14 +65,16 @@ loop-less c = search needs
 
 loop-again : tie.Need-loop-again Inv-loop μ-loop
 loop-again c =
-    let a = c .before .before .before .before .before .before .before .before .args in
-    let p = c .before .before .before .before .before .before .before .before .pre in
-    let at = c .before .before .before .before .before .loop in
-    let h : at .k < a .n = search needs in
-    let e = c .before .before .wide .ensures .0 in
+    let f = taken-up c in
+    let at = f .before .loop in
+    let a = start (f .before) .args in
+    let p = start (f .before) .pre in
+    let h = f .loop-test .taken in
+    let w = c .before .before .wide in
+    let e = w .ensures .0 in
     let l = edges-long (a .list .now) (a .n) (p .1) in (
       search needs,
-      round-met (a .elements .now) (take (a .n) (a .list .now)) 1 (at .met) _ (at .twice) (at .k) (c .before .before .wide .result) _ (at .inv .1) (omega (arith, l, h))
+      round-met (a .elements .now) (take (a .n) (a .list .now)) 1 (at .met) _ (at .twice) (at .k) (w .result) _ (at .inv .1) (omega (arith, l, h))
           (edge-at (a .list .now) (a .n) (p .1) (at .k) _ h e)
           (ends-low (a .list .now) (a .n) (p .1) (at .k) _ h e (a .elements .now) (p .4))
           (c .meet-ends .ensures .0) (c .meet-ends .ensures .1),

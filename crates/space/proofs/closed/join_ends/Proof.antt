@@ -47,6 +47,16 @@ module _ (s : ℕ) (es paths : List ℕ) (e a b x y : ℕ) (p : a ≡ firstEnd e
       counting : (x ≡ b → ⊥) → cond (eqb x a) 0 1 + cond (eqb y b) 0 1 ≡ joining s es paths e
       counting h = sym (not-thrice ∙ ap (λ (t : Bool). cond t 3 (cond (eqb x a) 0 1 + cond (eqb y b) 0 1)) (not-eq x b h)) ∙ code-is
 
+-- where the function began, where the two ends were read, and where both paths' other ends were
+abbrev start : tie.After-wide → tie.Start
+start c = c .before .before .before
+
+abbrev first : tie.After-wide2 → tie.After-wide
+first c = c .before .before
+
+abbrev second : tie.After-far-end2 → tie.After-wide2
+second c = c .before .before .before .before
+
 boundary-at-requires : tie.Need-boundary-at-requires
 boundary-at-requires c κs = search needs
 
@@ -67,29 +77,38 @@ far-end-requires-2 c κs = search needs
 
 returns : tie.Need-returns
 returns c =
-    let a = c .before .before .before .before .before .before .before .before .before .before .args in
-    let p = c .before .before .before .before .before .before .before .wide .ensures .0 ∙ c .before .before .before .before .before .before .before .before .boundary-at .ensures in
-    let q = c .before .before .before .before .before .wide2 .ensures .0 ∙ c .before .before .before .before .before .before .boundary-at2 .ensures in
-    let f = c .before .before .before .far-end .ensures .0 in
-    let g = c .before .far-end2 .ensures .0 in
+    let z = c .before in
+    let t = second z in
+    let w = first t in
+    let a = start w .args in
+    let p = w .wide .ensures .0 ∙ w .before .boundary-at .ensures in
+    let q = t .wide2 .ensures .0 ∙ t .before .boundary-at2 .ensures in
+    let f = z .before .before .far-end .ensures .0 in
+    let g = z .far-end2 .ensures .0 in
     (first-thrice (a .stamp) (a .elements .now) (a .paths .now) (a .e) _ _ _ _ p q f g (c .if1 .taken), λ l. absurd (omega (arith, l)), λ l. refl, lit≤ tt)
 
 returns-2 : tie.Need-returns-2
 returns-2 c =
-    let a = c .before .before .before .before .before .before .before .before .before .before .before .args in
-    let p = c .before .before .before .before .before .before .before .before .wide .ensures .0 ∙ c .before .before .before .before .before .before .before .before .before .boundary-at .ensures in
-    let q = c .before .before .before .before .before .before .wide2 .ensures .0 ∙ c .before .before .before .before .before .before .before .boundary-at2 .ensures in
-    let f = c .before .before .before .before .far-end .ensures .0 in
-    let g = c .before .before .far-end2 .ensures .0 in
+    let z = c .before .before in
+    let t = second z in
+    let w = first t in
+    let a = start w .args in
+    let p = w .wide .ensures .0 ∙ w .before .boundary-at .ensures in
+    let q = t .wide2 .ensures .0 ∙ t .before .boundary-at2 .ensures in
+    let f = z .before .before .far-end .ensures .0 in
+    let g = z .far-end2 .ensures .0 in
     (second-thrice (a .stamp) (a .elements .now) (a .paths .now) (a .e) _ _ _ _ p q f g (c .before .if1 .left) (c .if2 .taken), λ l. absurd (omega (arith, l)), λ l. refl, lit≤ tt)
 
 returns-3 : tie.Need-returns-3
 returns-3 c =
-    let a = c .before .before .before .before .before .before .before .before .before .before .before .before .args in
-    let p = c .before .before .before .before .before .before .before .before .before .wide .ensures .0 ∙ c .before .before .before .before .before .before .before .before .before .before .boundary-at .ensures in
-    let q = c .before .before .before .before .before .before .before .wide2 .ensures .0 ∙ c .before .before .before .before .before .before .before .before .boundary-at2 .ensures in
-    let f = c .before .before .before .before .before .far-end .ensures .0 in
-    let g = c .before .before .before .far-end2 .ensures .0 in
+    let z = c .before .before .before in
+    let t = second z in
+    let w = first t in
+    let a = start w .args in
+    let p = w .wide .ensures .0 ∙ w .before .boundary-at .ensures in
+    let q = t .wide2 .ensures .0 ∙ t .before .boundary-at2 .ensures in
+    let f = z .before .before .far-end .ensures .0 in
+    let g = z .far-end2 .ensures .0 in
     (closing (a .stamp) (a .elements .now) (a .paths .now) (a .e) _ _ _ _ p q f g (c .before .before .if1 .left) (c .before .if2 .left) (c .if3 .taken), λ l. absurd (omega (arith, l)), λ l. refl, lit≤ tt)
 
 add-paths : tie.Need-add-paths
@@ -145,19 +164,24 @@ add-result c = search needs
 
 returns-4 : tie.Need-returns-4
 returns-4 c =
-    let a = c .before .before .before .before .before .before .before .before .before .before .before .before .before .before .args in
-    let p = c .before .before .before .before .before .before .before .before .before .before .before .wide .ensures .0 ∙ c .before .before .before .before .before .before .before .before .before .before .before .before .boundary-at .ensures in
-    let q = c .before .before .before .before .before .before .before .before .before .wide2 .ensures .0 ∙ c .before .before .before .before .before .before .before .before .before .before .boundary-at2 .ensures in
-    let f = c .before .before .before .before .before .before .before .far-end .ensures .0 in
-    let g = c .before .before .before .before .before .far-end2 .ensures .0 in
+    let j = c .before .before in
+    let z = j .before .before .before in
+    let t = second z in
+    let w = first t in
+    let a = start w .args in
+    let p = w .wide .ensures .0 ∙ w .before .boundary-at .ensures in
+    let q = t .wide2 .ensures .0 ∙ t .before .boundary-at2 .ensures in
+    let f = z .before .before .far-end .ensures .0 in
+    let g = z .far-end2 .ensures .0 in
     let u = c .before .one-unless-same in
-    let w = c .one-unless-same2 in
+    let v = c .one-unless-same2 in
     let lu = u .ensures .1 in
-    let lw = w .ensures .1 in (
-      ap₂ (λ (m n : ℕ). m + n) (u .ensures .0) (w .ensures .0) ∙ counting (a .stamp) (a .elements .now) (a .paths .now) (a .e) _ _ _ _ p q f g (c .before .before .before .before .if1 .left) (c .before .before .before .if2 .left) (c .before .before .if3 .left),
+    let lv = v .ensures .1 in (
+      ap₂ (λ (m n : ℕ). m + n) (u .ensures .0) (v .ensures .0)
+          ∙ counting (a .stamp) (a .elements .now) (a .paths .now) (a .e) _ _ _ _ p q f g (j .before .before .if1 .left) (j .before .if2 .left) (j .if3 .left),
       λ l. words-are (a .stamp) (a .elements .now) (a .paths .now) (a .e) _ _ _ _ p q f g,
-      λ l. absurd (omega (arith, l, lu, lw)),
-      omega (arith, lu, lw),
+      λ l. absurd (omega (arith, l, lu, lv)),
+      omega (arith, lu, lv),
     )
 
 pub join-ends-spec : {M : Type 1} → statement M
