@@ -2,15 +2,17 @@
 import { $, enable, escaped } from "./dom.js";
 import { bytesOf, lineOf, recordsOf } from "./session.js";
 
-// the parts that have a session: title, session, the lines that it prints, and the text
+// every session: its title, the session, the lines that it prints, and the text around it
 export function partsOf(markdown) {
-    return markdown.split(/^## /m).slice(1).map(part => {
+    return markdown.split(/^## /m).slice(1).flatMap(part => {
         const title = part.split("\n")[0].trim();
-        const block = kind => part.match(new RegExp("^```" + kind + "\\n([^]*?)^```$", "m"))?.[1] ?? null;
+        const blocks = kind => [...part.matchAll(new RegExp("^```" + kind + "\\n([^]*?)^```$", "gm"))].map(found => found[1]);
         const text = part.slice(part.indexOf("\n")).replace(/^```[^]*?^```$/gm, "").trim();
         const paragraphs = text.split(/\n\s*\n/).map(words => words.replace(/\s+/g, " "));
-        return { title, session: block("session"), lines: block("lines"), paragraphs };
-    }).filter(({ session }) => session !== null);
+        const [sessions, lines] = [blocks("session"), blocks("lines")];
+        const named = i => (sessions.length === 1 ? title : `${title} (${i + 1} of ${sessions.length})`);
+        return sessions.map((session, i) => ({ title: named(i), session, lines: lines[i], paragraphs }));
+    });
 }
 
 const marked = text => escaped(text).replace(/`([^`]+)`/g, "<code>$1</code>").replace(/\*([^*]+)\*/g, "<em>$1</em>");

@@ -38,8 +38,18 @@ function recordOf(line) {
     throw new NoRecord(`no record: ${line.trim()}`);
 }
 
+const stands = ({ dimension, radius }) => dimension >= 1 && dimension <= 4 && radius >= 1 && radius <= 65536;
+
+// a cut's length follows the cube that stands: with another the bytes of the next record would be read as its own
 export function recordsOf(text) {
-    return text.split("\n").map(line => line.split("#")[0]).filter(line => line.trim() !== "").map(recordOf);
+    let dimensions = 0;
+    return text.split("\n").map(line => line.split("#")[0]).filter(line => line.trim() !== "").map(line => {
+        const record = recordOf(line);
+        if (record.kind === "cube" && stands(record)) dimensions = record.dimension;
+        if (record.kind === "cut" && record.normal.length !== dimensions)
+            throw new NoRecord(`no record: ${line.trim()}: ${dimensions ? `the cube that stands has ${dimensions} dimensions` : "no cube stands"}`);
+        return record;
+    });
 }
 
 export function lineOf(record) {

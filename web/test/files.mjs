@@ -40,9 +40,9 @@ for (const { title, session } of parts) {
     checks.same(`${title}: lines`, recordsOf(session).map(lineOf).join("\n") + "\n", session);
 }
 const floats = [0, -0, 0.1, -1 / 3, 5e-324, 1.7976931348623157e308, Infinity, -Infinity, 1e21, 1e-7];
-const hard = `cut both 8 ${floats.map(plain).join(" ")}\n`;
+const hard = `cube 4 1\n${[floats.slice(0, 5), floats.slice(5)].map(five => `cut both 8 ${five.map(plain).join(" ")}\n`).join("")}`;
 checks.same("floats by their bits", Buffer.from(bytesOf(recordsOf(hard))).toString("hex"), execFileSync("./record", { input: hard }).toString("hex"));
-for (const line of ["cube 258 1", "cut both 65544 1 0 0", "cut both -1 1 0 0", "cut all 8 1 0 0", "cube 2", "cube 2 1 1", "cut both 8 0x1 0 0"]) {
+for (const line of ["cube 258 1", "cut both 65544 1 0 0", "cut both -1 1 0 0", "cut all 8 1 0 0", "cube 2", "cube 2 1 1", "cut both 8 0x1 0 0", "cut both 8 1 0 0", "cube 2 1\ncut both 8 1 0", "cube 2 1\ncut both 8 1 0 0 0", "cube 5 1\ncut both 8 1 0 0"]) {
     let says = "taken";
     try {
         recordsOf(line);
