@@ -7,11 +7,11 @@ use native.Mathlib.Nat.{le-trans, le-of-lt}
 use native.Mathlib.Omega.{arith}
 use lib.Dec.{ltb}
 use Rattle.rules.specs.Limits.{Limits}
-use Rattle.rules.specs.Table.{ElementNumber, Table, element, elementCount, boundary}
+use Rattle.rules.specs.Table.{ElementNumber, Table, element, elementCount}
 use Rattle.carvings.specs.Renumbered.{renumbered, Renumbering}
 use Rattle.carvings.specs.Promises.{RenumberingGoesBack}
 use Rattle.rules.proofs.Good.{Good, sound-good}
-use Rattle.rules.proofs.Laws.{le-test, test-le, not-le}
+use Rattle.rules.proofs.Laws.{le-test, not-le}
 use Rattle.carvings.proofs.Embeds.{good-rising, good-under}
 use Rattle.carvings.proofs.Images.{renumbered-agree, renumbered-same, renumbered-twice}
 

@@ -1,6 +1,6 @@
 -- One table inside another, by a renumbering: each element of the first stands in the second with its boundary renumbered.
 -- It goes on when the first gets an element that the second has.
-use Prim.Native.Nat.{ℕ, suc, zero, _<_, _≤_, _+_}
+use Prim.Native.Nat.{ℕ, suc, zero, _<_, _≤_}
 use mathlib.Core.Bool.{Bool, true, false, false≢true}
 use mathlib.Core.List.{List, [], _∷_}
 use mathlib.Core.Option.{Option, none, some}

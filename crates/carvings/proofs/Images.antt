@@ -12,7 +12,7 @@ use Rattle.rules.specs.Table.{Element, corner, polytope, boundaryOf}
 use Rattle.carvings.specs.Renumbered.{image, renumbered}
 use Rattle.rules.proofs.Extends.{Below}
 use Rattle.rules.proofs.FaceEdges.{of-all}
-use Rattle.rules.proofs.Laws.{and-left, and-right, eq-test, eqb-self, le-test, or-left, or-right, or-case, or-false, refute, both-ways}
+use Rattle.rules.proofs.Laws.{and-left, and-right, eq-test, eqb-self, le-test, or-left, or-case, or-false, refute, both-ways}
 use Rattle.rules.proofs.Ranked.{rises-with}
 use Rattle.rules.proofs.Reach.{some-of, any-at}
 

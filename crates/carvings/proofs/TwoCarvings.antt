@@ -10,9 +10,7 @@ use lib.Ieee.{Float, fin, inf, nan}
 use lib.ListN.{length}
 use Rattle.rules.specs.Limits.{Limits}
 use Rattle.rules.specs.Table.{Plane, Table, elementCount, rank}
-use Rattle.rules.specs.Sound.{sound, soundPlane}
 use Rattle.rules.specs.Cut.{Outcome, done, next, Cutting, addPlane, cutElement, cutFinite, cutAtDistance, cut}
-use Rattle.rules.specs.Promises.{Finite}
 use Rattle.carvings.specs.Promises.{Sliceable, SliceIsTwoCarvings, SliceTakenAsCarvings}
 use Rattle.rules.specs.Held.{Begins, Extends, OutputOf}
 use Rattle.carvings.specs.Renumbered.{Renumbering, Corresponds}

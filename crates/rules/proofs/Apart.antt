@@ -1,13 +1,12 @@
 -- No two elements of a sound table are equal. So from three dimensions on no two edges share both ends:
 -- an edge names no hyperplane there and has no mark, and so its ends are all that it is.
-use Prim.Native.Nat.{ℕ, suc, _+_, _<_}
-use mathlib.Core.Bool.{Bool, true, false, not, _&&_, true≢false, false≢true}
+use Prim.Native.Nat.{ℕ, _+_, _<_}
+use mathlib.Core.Bool.{Bool, true, false, not, _&&_, false≢true}
 use mathlib.Core.List.{List}
 use mathlib.Core.Option.{Option, none, some}
 use mathlib.Core.Path.{_≡_, refl, ap, sym, _∙_, subst}
 use native.Mathlib.Nat.{zero-add}
 use native.Mathlib.Omega.{arith}
-use lib.Dec.{eqb}
 use Rattle.rules.specs.Lists.{if_then_else_, findFrom, distinct}
 use Rattle.rules.specs.Table.{Element, corner, polytope, Table, element, elementCount, boundary, boundaryOf, rankOf, sameElement}
 use Rattle.rules.specs.Sound.{namesPlane, namesNone, soundFacet, soundElement}

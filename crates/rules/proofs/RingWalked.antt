@@ -1,4 +1,5 @@
--- Edges are walked, each once, exactly when they are one ring, wherever the walk starts; so a face of a sound table is walked. On a ring, no edge is met again before the start is: of the edges taken only two corners have an edge beyond, the walk's own and the start.
+-- Edges are walked, each once, exactly when they are one ring, wherever the walk starts; so a face of a sound table is walked.
+-- On a ring, no edge is met again before the start is: of the edges taken only two corners have an edge beyond, the walk's own and the start.
 -- So there is fuel for every step, and the edges taken when the walk is back are all. And where it takes all and comes back, what spreads from edge to edge spreads over all.
 use Prim.Native.Nat.{ℕ, zero, suc, _+_, _≤_, _<_, zero-le, suc-le-suc}
 use mathlib.Core.Bool.{Bool, true, false, not, _&&_, _||_, false≢true, true≢false}

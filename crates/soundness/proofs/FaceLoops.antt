@@ -15,8 +15,8 @@ use Rattle.rules.proofs.Growing.{all-get}
 use Rattle.rules.proofs.Laws.{and-left, and-right}
 use Rattle.space.specs.Closed.{metTwice, bothMet, seconds, ringRaw, joining, joined, Unmet, Stamped, EndsLow}
 use Rattle.space.proofs.EndsCounted.{Round, round-met, round-end}
-use Rattle.space.proofs.PathsJoined.{Paths, paths-go, paths-stamped}
-use Rattle.space.proofs.Rings.{never-closed, no-edges, answers-thrice, answers-early, answers-last}
+use Rattle.space.proofs.PathsJoined.{Paths, paths-go}
+use Rattle.space.proofs.Rings.{no-edges, answers-thrice, answers-early, answers-last}
 use Rattle.soundness.specs.Words.{numbersFit, fewWords, faceWords, stampOf, EdgesLow}
 use Rattle.soundness.proofs.BoundaryLoops.{numbers-ends}
 

@@ -1,7 +1,7 @@
 -- Each element's own line: the words' test is the table's.
 use Prim.Native.Nat.{ℕ, _<_, _*_, zero, suc, _+_, _≤_}
 use mathlib.Core.Bool.{not, Bool, true, false, _&&_, false≢true}
-use mathlib.Core.List.{List, map, [], _∷_, _++_}
+use mathlib.Core.List.{List, map, [], _∷_}
 use mathlib.Core.Option.{none, some}
 use mathlib.Core.Path.{_≡_, ap, sym, _∙_, refl, subst, ap₂}
 use native.Mathlib.Nat.{not-suc-le-zero, zero-mul, le-of-suc-le-suc, suc-mul, add-zero, le-trans}
@@ -17,7 +17,7 @@ use Rattle.rules.specs.Sound.{closed, soundBoundary, soundFacet, namesPlane, na
 use Rattle.rules.specs.Table.{rank, rankOf, Element, corner, polytope, boundary, boundaryOf, element, elementCount, sameElement, Table}
 use Rattle.rules.proofs.Apart.{Apart, distinct-apart, Plain, plain-facet, plain, plain-once}
 use Rattle.rules.proofs.Laws.{eq-test, and-left, and-right, not-eq, test-le, both-ways}
-use Rattle.rules.proofs.FaceEdges.{of-all, Two as TwoEnds, two as two-entries}
+use Rattle.rules.proofs.FaceEdges.{of-all, two as two-entries}
 use Rattle.space.specs.Closed.{firstEnd, secondEnd, Untwinned, closedRaw}
 use Rattle.space.proofs.TwiceMet.{face-same}
 use Rattle.soundness.specs.Words.{boundaryIn, boundaryWords, facetWords, elementSound, elementsSound}

@@ -15,7 +15,7 @@ use Rattle.rules.proofs.Laws.{eq-test, test-eq, not-eq, unlike-eq, and-true, re
 use Rattle.rules.proofs.RingWalked.{all-of}
 use Rattle.space.specs.Closed.{EndsLow, Unmet, firstEnd, secondEnd, rawEnds, metTwice, metNext, meeting, isSecond, bothMet, seconds}
 use Rattle.space.proofs.Meetings.{times-cons, bit, ends-on, met-in, in-met, spare, spare-none, spares, more-is, spares-more}
-use Rattle.space.proofs.Sums.{sumTo, sum-zeros, zeros-sum}
+use Rattle.space.proofs.Sums.{sum-zeros, zeros-sum}
 use Rattle.space.proofs.Webs.{more}
 
 -- the lower end of an edge is within the room, for the higher one is

@@ -12,9 +12,9 @@ use Rattle.rules.specs.Lists.{if_then_else_, keep, member, rises}
 use Rattle.rules.specs.Table.{Table, boundary}
 use Rattle.rules.specs.Walk.{otherEdge, around, eachOnce, eachTwice}
 use Rattle.rules.specs.Sound.{closed}
-use Rattle.rules.specs.Rings.{HangTogether, Ring}
+use Rattle.rules.specs.Rings.{HangTogether}
 use Rattle.rules.proofs.FaceEdges.{Two, On, Face, Linked, is-face}
-use Rattle.rules.proofs.Laws.{both-ways, and-true, and-left, and-right, eq-test, eqb-self, not-eq, or-case, or-left, or-right}
+use Rattle.rules.proofs.Laws.{both-ways, and-true, and-left, eq-test, eqb-self, not-eq, or-case, or-left, or-right}
 use Rattle.rules.proofs.RingWalked.{less, ring-rule, twice-each}
 use Rattle.rules.proofs.WalkRound.{edge-on}
 use Rattle.space.specs.Closed.{few, Untwinned}

@@ -1,6 +1,6 @@
 -- How often the corners of a face are met, edge after edge: what counting their ends and joining paths have in common.
 -- Two for each second meeting, and the spare meetings of each corner, make up the ends that are met.
-use Prim.Native.Nat.{ℕ, _+_, _-_, _*_, suc, zero, _<_, _≤_}
+use Prim.Native.Nat.{ℕ, _+_, _-_, suc, zero, _<_, _≤_}
 use mathlib.Core.Bool.{cond, Bool, true, false, false≢true}
 use mathlib.Core.List.{List, _∷_, []}
 use mathlib.Core.Path.{_≡_, sym, ap, _∙_, refl, subst}

@@ -1,28 +1,22 @@
 -- The edges of a face join paths, one after another: the face is one ring exactly when no corner is met three times, no edge but the last closes a path,
 -- and then as many ends are met for the second time as there are edges. Two for each second meeting, and the spare meetings of each number, make up the ends that are met.
 use Prim.Native.Nat.{ℕ, _+_, _-_, suc, zero, _<_, _*_, _≤_}
-use mathlib.Core.Bool.{cond, Bool, true, false, _&&_, false≢true}
-use mathlib.Core.List.{List, _∷_, [], _++_}
+use mathlib.Core.Bool.{cond, Bool, true, false}
+use mathlib.Core.List.{List, _∷_, []}
 use mathlib.Core.Path.{_≡_, sym, ap, ap₂, _∙_, refl, subst}
 use native.Mathlib.Nat.{zero-add}
-use native.Mathlib.Numerals.{add-one}
 use native.Mathlib.Omega.{arith}
-use lib.Dec.{eqb, ltb}
-use lib.ListN.{length, drop, getD, set, replicate, length-set, length-replicate, getD-replicate, length-drop}
-use lib.Seq.{drop-cons, drop-length, getD-drop, getD-set-same, getD-set-other}
-use borrow.Author.Tests.{ltb-true, lt-ltb, le-ltb}
-use Rattle.rules.specs.Lists.{occurrences, all, any, member, rises}
-use Rattle.rules.specs.Table.{boundary}
-use Rattle.rules.specs.Walk.{endsOf}
-use Rattle.rules.specs.Rings.{HangTogether, Ring}
-use Rattle.rules.proofs.FaceEdges.{Two, two, of-all, met-end}
-use Rattle.rules.proofs.Laws.{eq-test, test-eq, not-eq, unlike-eq, test-le, and-true, and-left, and-right, or-case, or-left, or-right, eqb-self, refute}
-use Rattle.rules.proofs.Reach.{some-at, at-some}
-use Rattle.rules.proofs.RingWalked.{rule-ring, ring-rule}
+use lib.Dec.{eqb}
+use lib.ListN.{length, drop, getD, set, length-set}
+use lib.Seq.{getD-set-same, getD-set-other}
+use borrow.Author.Tests.{lt-ltb, le-ltb}
+use Rattle.rules.specs.Lists.{occurrences, member}
+use Rattle.rules.proofs.FaceEdges.{two}
+use Rattle.rules.proofs.Laws.{eq-test, test-eq, not-eq, unlike-eq, or-left, or-right, eqb-self}
 use Rattle.space.specs.Closed.{EndsLow, Unmet, Stamped, firstEnd, secondEnd, rawEnds, farEnd, joinCode, joinWords, joining, joined}
-use Rattle.space.proofs.Sums.{sumTo, sum-change, sum-zeros, zeros-sum}
-use Rattle.space.proofs.Meetings.{times-cons, bit, ends-on, spare, spare-none, spares, more-is, spares-more}
-use Rattle.space.proofs.Webs.{Same, yes, no, same?, OneOf, this, that, Web, web-none, more, linking, hanging, far-once, met-once, join, x-once, y-once, no-fewer, at-a, at-b, at-other, at-x, at-y, elsewhere, root-along, both-rooted, x-y, y-a}
+use Rattle.space.proofs.Sums.{sum-zeros}
+use Rattle.space.proofs.Meetings.{times-cons, ends-on, spare, spares, more-is, spares-more}
+use Rattle.space.proofs.Webs.{Same, yes, no, same?, Web, web-none, more, linking, hanging, met-once, join, x-once, y-once, at-a, at-b, at-other, at-x, at-y, elsewhere, root-along, both-rooted}
 
 -- ---- the word of a corner
 

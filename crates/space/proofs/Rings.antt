@@ -1,19 +1,18 @@
 -- What the paths tell of the face: test 7 as the code makes it is one ring, in each of its four ends.
 use Prim.Native.Nat.{ℕ, _+_, _-_, suc, zero, _<_, _*_, _≤_}
-use mathlib.Core.Bool.{cond, Bool, true, false, _&&_, false≢true}
+use mathlib.Core.Bool.{cond, Bool, true, false, _&&_}
 use mathlib.Core.List.{List, _∷_, [], _++_}
 use mathlib.Core.Path.{_≡_, sym, ap, ap₂, _∙_, refl, subst}
-use native.Mathlib.Nat.{not-suc-le-zero, le-of-suc-le-suc}
 use native.Mathlib.Omega.{arith}
 use lib.Dec.{eqb}
-use lib.ListN.{length, drop, getD, length-drop}
-use lib.Seq.{drop-length, getD-drop}
+use lib.ListN.{length, drop, getD}
+use lib.Seq.{drop-length}
 use Rattle.rules.specs.Lists.{occurrences, any, member, rises}
 use Rattle.rules.specs.Table.{Table, boundary}
 use Rattle.rules.specs.Walk.{endsOf}
 use Rattle.rules.specs.Rings.{HangTogether, Ring}
 use Rattle.rules.proofs.FaceEdges.{Two, met-end}
-use Rattle.rules.proofs.Laws.{eq-test, test-eq, not-eq, unlike-eq, and-true, and-left, and-right, or-case, or-left, or-right, eqb-self, refute, both-ways}
+use Rattle.rules.proofs.Laws.{eq-test, test-eq, not-eq, and-true, and-left, and-right, eqb-self, refute, both-ways}
 use Rattle.rules.proofs.Reach.{some-at, at-some, some-of, any-at}
 use Rattle.rules.proofs.RingWalked.{rule-ring, ring-rule}
 use Rattle.space.specs.Closed.{EndsLow, firstEnd, secondEnd, rawEnds, asEdges, ringRaw, joining}
@@ -21,7 +20,7 @@ use Rattle.space.proofs.Sums.{sumTo, sum-zeros, zeros-sum}
 use Rattle.space.proofs.TwiceMet.{boundary-as}
 use Rattle.space.proofs.Webs.{Same, yes, no, same?, OneOf, this, that, more, met-once}
 use Rattle.space.proofs.PathsJoined.{Paths, Told, third, closes, joins, told, balanced, whole′, fewer}
-use Rattle.space.proofs.Meetings.{times-cons, bit, ends-on, met-in, in-met, End, end-case, first-end, second-end, ends-in, ends-later, spare, spare-none, spares}
+use Rattle.space.proofs.Meetings.{met-in, in-met, End, end-case, first-end, second-end, ends-in, ends-later, spare, spare-none, spares}
 
 -- ---- the face
 

@@ -2,7 +2,7 @@
 use Prim.Native.Nat.{_-_, ℕ, suc, _*_}
 use mathlib.Core.Bool.{true, Bool}
 use mathlib.Core.List.{map, List, [], _∷_}
-use mathlib.Core.Option.{Option, none, some}
+use mathlib.Core.Option.{Option, some}
 use mathlib.Core.Path.{_≡_, refl, ap, sym, subst, _∙_, ap₂}
 use lib.Dec.{eqb}
 use lib.ListN.{length, length-map, replicate}

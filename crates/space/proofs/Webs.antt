@@ -1,6 +1,6 @@
 -- Paths that edges make, joined end to end: each number is met so often, and one that is met less than twice is an end of a path, or a path by itself.
 -- `far` is a path's other end, and `root` is alike for what hangs together. No path is closed: so each has its ends, and no two paths share one.
-use Prim.Native.Nat.{ℕ, _+_, suc, zero, _<_}
+use Prim.Native.Nat.{ℕ, suc, zero, _<_}
 use mathlib.Core.Bool.{cond, Bool, true, false}
 use mathlib.Core.Path.{_≡_, sym, ap, _∙_, refl, subst}
 use native.Mathlib.Omega.{arith}

@@ -1,10 +1,9 @@
 -- An edge meets no ends, so the places stay as they are.
-use Prim.Native.Nat.{ℕ, _+_, _*_}
+use Prim.Native.Nat.{ℕ, _*_}
 use mathlib.Core.Path.{sym, ap, _∙_}
-use native.Mathlib.Omega.{arith}
 use lib.ListN.{take, drop}
 use Rattle.rules.specs.Limits.{desk}
-use Rattle.soundness.specs.Words.{stampOf, polytopeWords}
+use Rattle.soundness.specs.Words.{polytopeWords}
 use Rattle.soundness.proofs.FaceLoops.{unmet-next}
 use Rattle.soundness.proofs.sound.polytope_sound.Statement.{statement}
 use Rattle.soundness.proofs.sound.polytope_sound.Tie as tie

@@ -1,5 +1,4 @@
 -- The answer is read off the tests that were taken, those of a vertex or those of a polytope.
-use Prim.Native.Nat.{_+_}
 use mathlib.Core.Bool.{true, false, false≢true}
 use mathlib.Core.Path.{refl, sym, _∙_}
 use native.Mathlib.Omega.{arith}

@@ -1,5 +1,5 @@
 -- The ends that are met so far and those that are left make up the whole; n second meetings mean that each end is met twice.
-use Prim.Native.Nat.{_-_, _<_, _≤_}
+use Prim.Native.Nat.{_-_, _≤_}
 use mathlib.Core.Path.{ap, sym, _∙_}
 use lib.Dec.{eqb}
 use lib.ListN.{take, replicate}

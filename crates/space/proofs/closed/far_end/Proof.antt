@@ -1,5 +1,5 @@
 -- Below the stamp the corner is its own path; else its word says the other end.
-use Prim.Native.Nat.{ℕ, _-_, _<_}
+use Prim.Native.Nat.{_-_, _<_}
 use mathlib.Core.Bool.{Bool, cond}
 use mathlib.Core.Path.{ap, sym}
 use native.Mathlib.Omega.{arith}

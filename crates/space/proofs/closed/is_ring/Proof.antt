@@ -1,18 +1,14 @@
 -- The edges so far have joined paths, and none of them closed one.
-use Prim.Native.Nat.{ℕ, _+_, _-_, _<_, _≤_}
-use mathlib.Core.Bool.{Bool, true, false}
-use mathlib.Core.List.{List}
-use mathlib.Core.Path.{_≡_, ap, sym, _∙_, subst, refl}
+use Prim.Native.Nat.{_+_, _-_, _<_, _≤_}
+use mathlib.Core.Path.{_≡_, ap, sym, _∙_}
 use native.Mathlib.Omega.{arith}
 use lib.Dec.{eqb}
 use lib.ListN.{take, length, replicate}
 use borrow.Author.Needs.{needs}
-use Rattle.rules.proofs.Laws.{test-eq, not-eq}
-use Rattle.space.specs.Closed.{ringRaw}
 use Rattle.space.proofs.TwiceMet.{edges-long, edges-fine, edge-at, edge-low, ends-low}
 use Rattle.space.proofs.PathsJoined.{Paths, paths-start, paths-stamped, paths-few, paths-go}
 use Rattle.space.proofs.Meetings.{unmet-new}
-use Rattle.space.proofs.Rings.{never-closed, no-edges, answers-thrice, answers-early, answers-last}
+use Rattle.space.proofs.Rings.{no-edges, answers-thrice, answers-early, answers-last}
 use Rattle.space.proofs.closed.is_ring.Statement.{statement}
 use Rattle.space.proofs.closed.is_ring.Tie as tie
 

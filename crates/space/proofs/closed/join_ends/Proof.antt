@@ -1,5 +1,5 @@
 -- The answer by the tests in turn; the four words are written only where the edge joins two paths.
-use Prim.Native.Nat.{ℕ, _+_, _<_, _≤_}
+use Prim.Native.Nat.{ℕ, _+_, _≤_}
 use mathlib.Core.Bool.{Bool, cond}
 use mathlib.Core.List.{List}
 use mathlib.Core.Path.{_≡_, ap, ap₂, sym, _∙_, refl}
@@ -7,7 +7,7 @@ use native.Mathlib.Omega.{arith}
 use lib.Dec.{eqb, lit≤}
 use borrow.Author.Needs.{needs}
 use Rattle.rules.proofs.Laws.{test-eq, not-eq}
-use Rattle.space.specs.Closed.{EndsLow, firstEnd, secondEnd, farEnd, joinCode, joinWords, joining, joined}
+use Rattle.space.specs.Closed.{firstEnd, secondEnd, farEnd, joinCode, joinWords, joining, joined}
 use Rattle.space.proofs.closed.join_ends.Statement.{statement}
 use Rattle.space.proofs.closed.join_ends.Tie as tie
 
