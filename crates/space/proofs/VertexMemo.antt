@@ -8,8 +8,8 @@ use native.Mathlib.Nat.{le-trans, le-of-eq}
 use native.Mathlib.Omega.{arith}
 use lib.Dec.{eqb}
 use lib.Ieee.{Float}
-use lib.ListN.{getD, length, set, replicate, length-set, drop, length-map, take}
-use lib.Seq.{sets, getD-set-other}
+use lib.ListN.{getD, length, set, replicate, drop, length-map, take}
+use lib.Seq.{sets}
 use Rattle.rules.specs.Cut.{shareVertex, addElement, withPoint, refused, addVertex}
 use Rattle.rules.specs.Floats.{plusZero, within, farthest, pointMatches}
 use Rattle.rules.specs.Held.{Holds, elementWords, Came, stopped, elementsOf, planesOf, went, pointsOf}
@@ -30,7 +30,8 @@ use Rattle.rules.proofs.RoundTrip.{point-long, point-back}
 use Rattle.rules.proofs.Rows.{read-rows}
 use Rattle.space.specs.declared.rows.Placed.{Placed}
 use Rattle.space.specs.Found.{RowAdded, placedAt}
-use Rattle.space.specs.Shared.{four, VertexShared, InRoom, VertexAdded}
+use Rattle.space.specs.Numbers.{rowWidth}
+use Rattle.space.specs.Shared.{four, VertexShared, VertexInRoom, VertexAdded}
 use Rattle.space.proofs.Laid.{length-padded}
 use Rattle.space.proofs.Room.{point-counted, point-words-stored, point-fitted}
 use Rattle.space.proofs.RowAdds.{readable-desk}
@@ -105,10 +106,10 @@ module _ {cs : List ℕ} {ps : List Float} {es : List ℕ} {p : List Float} {m :
         go hs t q o (went a v z b N) = went a v (o ∙ z) b N
         go hs t q o (stopped j v z b y N) = stopped j v (o ∙ z) b (extends-trans (grown-point q t) y) N
 
-pub add-ready : (cs es : List ℕ) {row : List ℕ} (v n : ℕ) → length cs ≡ 4 → length es ≡ 18432 → getD cs 1 0 ≤ 512 → row ≡ elementWords desk (corner v)
-    → (length (set cs 2 n) ≡ 4) × (length es ≡ 18432) × (getD (set cs 2 n) 1 0 ≤ 512) × (length row ≡ 36)
+-- a corner's row is as long as any
+pub row-long : {row : List ℕ} (v : ℕ) → row ≡ elementWords desk (corner v) → length row ≡ rowWidth
 unfolding elementRow
-add-ready cs es v n a b c d = (length-set cs 2 n ∙ a, b, le-trans (le-of-eq (getD-set-other cs 2 1 n 0 (λ q. (let z : ⊥ = omega (arith, q) in z)))) c, ap length d)
+row-long v e = ap length e
 
 -- ---- the points of a sound table, as they are read back
 
@@ -117,15 +118,15 @@ length-rows zero w l = refl
 length-rows (suc n) w l = ap suc (length-rows n w (drop w l))
 
 -- what is found among n vertices is numbered below n
-pub found-in-room : (m : FoundVertex) (d n : ℕ) (p ps : List Float) → vertexNumber m ≡ find (λ q. pointMatches q (take d p)) (pointsIn d n ps) → n ≤ 256 → InRoom m
+pub found-in-room : (m : FoundVertex) (d n : ℕ) (p ps : List Float) → vertexNumber m ≡ find (λ q. pointMatches q (take d p)) (pointsIn d n ps) → n ≤ 256 → VertexInRoom m
 found-in-room NoVertex d n p ps e h = tt
 found-in-room (AtVertex v) d n p ps e h =
     let b = find-bound (λ q. pointMatches q (take d p)) 0 (v .0) (pointsIn d n ps) (sym e) in
     let k = length-map (rows n 4 ps) (take d) ∙ length-rows n 4 ps in
     let q : v .0 < 256 = omega (arith, b, k, h) in q
 
-pub in-room : (m : FoundVertex) (v : VertexId) → m ≡ AtVertex v → InRoom m → v .0 < 256
-in-room m v e h = subst InRoom e h
+pub in-room : (m : FoundVertex) (v : VertexId) → m ≡ AtVertex v → VertexInRoom m → v .0 < 256
+in-room m v e h = subst VertexInRoom e h
 
 points-back : (t : Table) → Good desk t → pointsIn (t .dimension) (length (t .points)) (pointsOf desk t) ≡ t .points
 unfolding pointsOf

@@ -1,14 +1,18 @@
 -- What a search over rows answers, and what appending a row does. Definitions only.
-use Prim.Native.Nat.{ℕ}
+use Prim.Native.Nat.{ℕ, _+_, _*_}
 use mathlib.Core.Path.{_≡_}
 use mathlib.Core.Bool.{true}
 use mathlib.Core.Option.{Option, none, some}
 use mathlib.Core.List.{List}
+use lib.Seq.{sets}
+use lib.ListN.{set}
 use lib.Ieee.{Float}
 use Rattle.rules.specs.Limits.{desk}
 use Rattle.rules.specs.Table.{ElementNumber, Element, Table}
 use Rattle.rules.specs.Held.{Holds, elementWords, fitting, Came}
 use Rattle.rules.specs.Cut.{addElement}
+use Rattle.space.specs.Numbers.{rowWidth}
+use Rattle.space.specs.Chains.{Indexed}
 use Rattle.space.specs.declared.chains.FoundElement.{FoundElement}
 use Rattle.space.specs.declared.chains.FoundElement.the-variants.{None as NoElement, At as AtElement}
 use Rattle.space.specs.declared.rows.Placed.{Placed}
@@ -26,3 +30,9 @@ placedAt i = placed.At (record { 0 = i })
 pub record RowAdded (cs es row : List ℕ) (r : Placed) (cs′ es′ : List ℕ) : Type 0 where
   pub of : (ps hs : List Float) (t : Table) (e : Element) → Holds desk cs ps hs es t → row ≡ elementWords desk e → fitting desk e ≡ true
       → Came placedAt placed.Refused (Holds desk cs′ ps hs es′) t (addElement desk e t) r
+
+-- the row stored behind n others, its count, and its chain
+pub record RowAppended (cs es row : List ℕ) (n : ℕ) (cs′ es′ ix′ : List ℕ) : Type 0 where
+  pub count : cs′ ≡ set cs 1 (n + 1)
+  pub stored : es′ ≡ sets es (n * rowWidth) row
+  pub index : Indexed es′ (n + 1) ix′

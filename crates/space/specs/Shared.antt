@@ -18,6 +18,7 @@ use Rattle.hypermath.specs.Answers.{vertexNumber, hyperplaneNumber}
 use Rattle.hypermath.specs.declared.FoundVertex.{FoundVertex}
 use Rattle.hypermath.specs.declared.FoundVertex.the-variants.{None as NoVertex, At as AtVertex}
 use Rattle.hypermath.specs.declared.FoundHyperplane.{FoundHyperplane}
+use Rattle.space.specs.Chains.{Indexed}
 use Rattle.space.specs.Closed.{Edges}
 use Rattle.space.specs.Found.{placedAt}
 use Rattle.space.specs.declared.rows.Placed.{Placed}
@@ -37,19 +38,26 @@ abbrev pub four : List Float → List Float
 four p = getD p 0 nan ∷ getD p 1 nan ∷ getD p 2 nan ∷ getD p 3 nan ∷ []
 
 -- what was found is within the room
-abbrev pub InRoom : FoundVertex → Type 0
-InRoom NoVertex = Unit {0}
-InRoom (AtVertex v) = v .0 < 256
+abbrev pub VertexInRoom : FoundVertex → Type 0
+VertexInRoom NoVertex = Unit {0}
+VertexInRoom (AtVertex v) = v .0 < desk .vertices
 
 -- whatever table the memory holds, and whatever point the four floats are written of: the step, once the search is done
 pub record VertexShared (cs : List ℕ) (ps : List Float) (es : List ℕ) (p : List Float) (m : FoundVertex) (r : Placed) (cs′ : List ℕ) (ps′ : List Float) (es′ : List ℕ) : Type 0 where
   pub of : (hs : List Float) (t : Table) (q : List Float) → Holds desk cs ps hs es t → p ≡ pad plusZero 4 q → length q ≤ 4
       → Came placedAt placed.Refused (Holds desk cs′ ps′ hs es′) t (shareVertex desk q (vertexNumber m) t) r
 
+-- and the rows in use are indexed then
+abbrev pub SharedIndexed : List ℕ → List Float → List ℕ → List Float → FoundVertex → Placed → List ℕ → List Float → List ℕ → List ℕ → Type 0
+SharedIndexed cs ps es p m r cs′ ps′ es′ ix′ = VertexShared cs ps es p m r cs′ ps′ es′ × Indexed es′ (getD cs′ 1 0) ix′
+
 -- the same of the whole step, on a sound table
 pub record VertexAdded (cs : List ℕ) (ps : List Float) (es : List ℕ) (p : List Float) (r : Placed) (cs′ : List ℕ) (ps′ : List Float) (es′ : List ℕ) : Type 0 where
   pub of : (hs : List Float) (t : Table) (q : List Float) → Holds desk cs ps hs es t → sound desk t ≡ true → p ≡ pad plusZero 4 q → soundPoint (t .dimension) q ≡ true
       → Came placedAt placed.Refused (Holds desk cs′ ps′ hs es′) t (addVertex desk q t) r
+
+abbrev pub VertexIndexed : List ℕ → List Float → List ℕ → List Float → Placed → List ℕ → List Float → List ℕ → List ℕ → Type 0
+VertexIndexed cs ps es p r cs′ ps′ es′ ix′ = VertexAdded cs ps es p r cs′ ps′ es′ × Indexed es′ (getD cs′ 1 0) ix′
 
 -- ---- hyperplanes
 
@@ -79,3 +87,6 @@ pub record HyperplaneAdded (cs : List ℕ) (hs : List Float) (h : Hyperplane) (r
 pub record PolytopeAdded (cs es : List ℕ) (rank : ℕ) (b : List ℕ) (plane : ℕ) (mark : Bool) (r : Added) (cs′ es′ : List ℕ) : Type 0 where
   pub of : (ps hs : List Float) (t : Table) → Holds desk cs ps hs es t → (rank < length b → 1 ≤ rank) → (rank ≡ 2 → Edges t b)
       → Came added.Made added.Refused (Holds desk cs′ ps hs es′) t (addPolytope desk rank b (planeNamed plane) mark t) r
+
+abbrev pub PolytopeIndexed : List ℕ → List ℕ → ℕ → List ℕ → ℕ → Bool → Added → List ℕ → List ℕ → List ℕ → Type 0
+PolytopeIndexed cs es rank b plane mark r cs′ es′ ix′ = PolytopeAdded cs es rank b plane mark r cs′ es′ × Indexed es′ (getD cs′ 1 0) ix′

@@ -19,14 +19,15 @@ use rules::VertexId;
 ghost use Prim.Native.Nat.{_+_, _<_, _≤_};
 ghost use mathlib.Core.Path.{_≡_};
 ghost use lib.Seq.{sets};
-ghost use lib.ListN.{length, getD, take};
+ghost use lib.ListN.{length, take};
 ghost use Rattle.rules.specs.Limits.{desk};
+ghost use Rattle.rules.specs.Memory.{planeWidth};
 ghost use Rattle.rules.specs.Table.{corner};
 ghost use Rattle.rules.specs.Table as table;
 ghost use Rattle.rules.specs.Held.{elementWords};
-ghost use Rattle.space.specs.Chains.{Indexed};
-ghost use Rattle.space.specs.Closed.{Low, LowEnds};
-ghost use Rattle.space.specs.Shared.{storedPoint, four, InRoom, VertexShared, VertexAdded, rowOf, five, HyperplaneShared, HyperplaneAdded, PolytopeAdded};
+ghost use Rattle.space.specs.Numbers.{pointSlice, planeSlice};
+ghost use Rattle.space.specs.Ready.{ShareReady, VertexReady, HyperplaneReady, PolytopeReady};
+ghost use Rattle.space.specs.Shared.{storedPoint, four, SharedIndexed, VertexIndexed, rowOf, five, HyperplaneShared, HyperplaneAdded, PolytopeIndexed};
 
 // What adding a hyperplane gives.
 pub enum PlacedHyperplane {
@@ -41,7 +42,7 @@ pub enum Added {
 }
 
 pub fn read_point(points: &[f64], v: VertexId) -> [f64; 4]
-    requires { ⌜ (length (now points) ≡ 1024) × (v .0 < 256) ⌝ }
+    requires { ⌜ (length (now points) ≡ pointSlice) × (v .0 < desk .vertices) ⌝ }
     ensures { λ r. ⌜ r ≡ storedPoint (now (points .entry)) (v .0) ⌝ }
 {
     let at = v.0 * AXES;
@@ -50,7 +51,7 @@ pub fn read_point(points: &[f64], v: VertexId) -> [f64; 4]
 
 // Rank 0, no mark, no hyperplane, and the vertex's number as the one entry of the boundary.
 pub fn corner_row(v: VertexId) -> [u16; 36]
-    requires { ⌜ v .0 < 256 ⌝ }
+    requires { ⌜ v .0 < desk .vertices ⌝ }
     ensures { λ r. ⌜ r ≡ elementWords desk (corner (v .0)) ⌝ }
 {
     let mut row = [0u16; 36];
@@ -61,7 +62,7 @@ pub fn corner_row(v: VertexId) -> [u16; 36]
 }
 
 pub fn put_point(points: &mut [f64], at: usize, p: [f64; 4])
-    requires { ⌜ at + 4 ≤ length (now points) ⌝ }
+    requires { ⌜ at + desk .dimensions ≤ length (now points) ⌝ }
     ensures { λ r. ⌜ now (points .exit) ≡ sets (now (points .entry)) at (four p) ⌝ }
 {
     points[at] = p[0];
@@ -79,8 +80,8 @@ fn share_vertex(
     p: [f64; 4],
     m: FoundVertex,
 ) -> Placed
-    requires { ⌜ (length (now counts) ≡ 4) × (length (now points) ≡ 1024) × (length (now elements) ≡ 18432) × (getD (now counts) 1 0 ≤ 512) × InRoom m × Indexed (now elements) (getD (now counts) 1 0) (now index) ⌝ }
-    ensures { λ r. ⌜ VertexShared (now (counts .entry)) (now (points .entry)) (now (elements .entry)) p m r (now (counts .exit)) (now (points .exit)) (now (elements .exit)) × Indexed (now (elements .exit)) (getD (now (counts .exit)) 1 0) (now (index .exit)) ⌝ }
+    requires { ⌜ ShareReady (now counts) (now points) (now elements) (now index) m ⌝ }
+    ensures { λ r. ⌜ SharedIndexed (now (counts .entry)) (now (points .entry)) (now (elements .entry)) p m r (now (counts .exit)) (now (points .exit)) (now (elements .exit)) (now (index .exit)) ⌝ }
 {
     match m {
         FoundVertex::At(v) => {
@@ -108,8 +109,8 @@ pub fn add_vertex(
     index: &mut [u16],
     p: [f64; 4],
 ) -> Placed
-    requires { ⌜ (length (now counts) ≡ 4) × (length (now points) ≡ 1024) × (length (now elements) ≡ 18432) × (getD (now counts) 1 0 ≤ 512) × (getD (now counts) 2 0 ≤ 256) × Indexed (now elements) (getD (now counts) 1 0) (now index) ⌝ }
-    ensures { λ r. ⌜ VertexAdded (now (counts .entry)) (now (points .entry)) (now (elements .entry)) p r (now (counts .exit)) (now (points .exit)) (now (elements .exit)) × Indexed (now (elements .exit)) (getD (now (counts .exit)) 1 0) (now (index .exit)) ⌝ }
+    requires { ⌜ VertexReady (now counts) (now points) (now elements) (now index) ⌝ }
+    ensures { λ r. ⌜ VertexIndexed (now (counts .entry)) (now (points .entry)) (now (elements .entry)) p r (now (counts .exit)) (now (points .exit)) (now (elements .exit)) (now (index .exit)) ⌝ }
 {
     let d = wide(counts[0]);
     let n = wide(counts[2]);
@@ -119,7 +120,7 @@ pub fn add_vertex(
 
 // How many hyperplanes are the cube's own.
 pub fn primordials(d: usize) -> usize
-    requires { ⌜ d ≤ 4 ⌝ }
+    requires { ⌜ d ≤ desk .dimensions ⌝ }
     ensures { λ r. ⌜ r ≡ table.primordials d ⌝ }
 {
     if d < 2 {
@@ -141,7 +142,7 @@ pub fn hyperplane_row(h: Hyperplane) -> [f64; 5]
 }
 
 pub fn put_hyperplane(planes: &mut [f64], at: usize, p: [f64; 5])
-    requires { ⌜ at + 5 ≤ length (now planes) ⌝ }
+    requires { ⌜ at + planeWidth desk ≤ length (now planes) ⌝ }
     ensures { λ r. ⌜ now (planes .exit) ≡ sets (now (planes .entry)) at (five p) ⌝ }
 {
     planes[at] = p[0];
@@ -158,7 +159,7 @@ fn share_hyperplane(
     row: [f64; 5],
     m: FoundHyperplane,
 ) -> PlacedHyperplane
-    requires { ⌜ (length (now counts) ≡ 4) × (length (now planes) ≡ 320) ⌝ }
+    requires { ⌜ (length (now counts) ≡ 4) × (length (now planes) ≡ planeSlice) ⌝ }
     ensures { λ r. ⌜ HyperplaneShared (now (counts .entry)) (now (planes .entry)) row m r (now (counts .exit)) (now (planes .exit)) ⌝ }
 {
     match m {
@@ -177,7 +178,7 @@ fn share_hyperplane(
 
 // The lowest hyperplane that matches, or a new one; the cube's own are never matched.
 pub fn add_hyperplane(counts: &mut [u16], planes: &mut [f64], h: Hyperplane) -> PlacedHyperplane
-    requires { ⌜ (length (now counts) ≡ 4) × (length (now planes) ≡ 320) × (getD (now counts) 0 0 ≤ 4) × (getD (now counts) 3 0 ≤ 64) ⌝ }
+    requires { ⌜ HyperplaneReady (now counts) (now planes) ⌝ }
     ensures { λ r. ⌜ HyperplaneAdded (now (counts .entry)) (now (planes .entry)) h r (now (counts .exit)) (now (planes .exit)) ⌝ }
 {
     let d = wide(counts[0]);
@@ -199,8 +200,8 @@ pub fn add_polytope(
     plane: u16,
     mark: bool,
 ) -> Added
-    requires { ⌜ (length (now counts) ≡ 4) × (length (now elements) ≡ 18432) × (getD (now counts) 1 0 ≤ 512) × (length (now list) ≡ 34) × (n ≤ 33) × (rank < 65536) × Low (now list) n × (rank ≡ 2 → LowEnds (now elements) (now list) n) × Indexed (now elements) (getD (now counts) 1 0) (now index) ⌝ }
-    ensures { λ r. ⌜ PolytopeAdded (now (counts .entry)) (now (elements .entry)) rank (take n (now (list .entry))) plane mark r (now (counts .exit)) (now (elements .exit)) × Indexed (now (elements .exit)) (getD (now (counts .exit)) 1 0) (now (index .exit)) ⌝ }
+    requires { ⌜ PolytopeReady (now counts) (now elements) (now index) rank (now list) n ⌝ }
+    ensures { λ r. ⌜ PolytopeIndexed (now (counts .entry)) (now (elements .entry)) rank (take n (now (list .entry))) plane mark r (now (counts .exit)) (now (elements .exit)) (now (index .exit)) ⌝ }
 {
     if n <= rank {
         return Added::Made(ElementOrNone::None);

@@ -11,6 +11,19 @@ use borrow.Author.Needs.{needs}
 use Rattle.space.proofs.rows.add_row.Statement.{statement}
 use Rattle.space.proofs.rows.add_row.Tie as tie
 
+-- where the function began, where the count was read, where an equal row was searched for, and where there was room for the row
+abbrev start : tie.After-wide → tie.Start
+start c = c .before .before .before .before .before .before
+
+abbrev counted : tie.After-find-row → tie.After-wide
+counted c = c .before .before .before
+
+abbrev sought : tie.Else1 → tie.After-find-row
+sought c = c .before .before .before
+
+abbrev roomy : tie.After-append-row → tie.Else1
+roomy c = c .before .before .before .before
+
 slice-read-wide : tie.Need-slice-read-wide
 slice-read-wide c = search needs
 
@@ -19,9 +32,10 @@ wide-requires c κs = search needs
 
 find-row-requires : tie.Need-find-row-requires
 find-row-requires c κs =
-    let p = c .before .before .before .before .before .before .before .before .pre in
-    let e = c .before .before .wide .ensures .0 in
-    (p .1, omega (arith, e, p .2), omega (arith, p .3), index-count _ _ _ _ (sym e) (p .4))
+    let w = c .before .before in
+    let p = start w .pre in
+    let e = w .wide .ensures .0 in
+    record { elements = p .elements; room = omega (arith, e, p .room); row = omega (arith, p .row); index = index-count _ _ _ _ (sym e) (p .index) }
 
 enum-known-found : tie.Need-enum-known-found
 enum-known-found c = search needs
@@ -37,16 +51,21 @@ same-length-2 c = search needs
 
 returns : tie.Need-returns
 returns c =
-    let a = c .before .before .before .before .before .before .before .before .before .before .before .before .args in
-    let p = c .before .before .before .before .before .before .before .before .before .before .before .before .pre in
-    (row-full (a .counts .now) (a .elements .now) (a .row .now) (c .before .before .before .before .before .before .wide .result) (c .before .before .before .find-row .result) (c .before .before .before .before .before .before .wide .ensures .0) (row-whole (a .elements .now) (a .row .now) (c .before .before .before .before .before .before .wide .result) (p .3) (c .before .before .before .find-row .ensures)) (c .before .enum-told .given .1) (c .if1 .taken), p .4)
+    let f = c .before .before .before in
+    let w = counted f in
+    let a = start w .args in
+    let p = start w .pre in
+    let n = w .wide .result in
+    let q = row-whole (a .elements .now) (a .row .now) n (p .row) (f .find-row .ensures) in
+    (row-full (a .counts .now) (a .elements .now) (a .row .now) n (f .find-row .result) (w .wide .ensures .0) q (c .before .enum-told .given .1) (c .if1 .taken), p .index)
 
 append-row-requires : tie.Need-append-row-requires
 append-row-requires c κs =
-    let p = c .before .before .before .before .before .before .before .before .before .before .before .before .before .before .before .pre in
-    let e = c .before .before .before .before .before .before .before .before .before .wide .ensures .0 in
-    let l = c .before .before .before .if1 .left in
-    (p .0, p .1, omega (arith, l), p .3, index-count _ _ _ _ (sym e) (p .4))
+    let r = c .before .before .before in
+    let w = counted (sought r) in
+    let p = start w .pre in
+    let l = r .if1 .left in
+    record { counts = p .counts; elements = p .elements; room = omega (arith, l); row = p .row; index = index-count _ _ _ _ (sym (w .wide .ensures .0)) (p .index) }
 
 same-length-3 : tie.Need-same-length-3
 same-length-3 c = search needs
@@ -56,9 +75,13 @@ same-length-4 c = search needs
 
 returns-2 : tie.Need-returns-2
 returns-2 c =
-    let a = c .before .before .before .before .before .before .before .before .before .before .before .before .args in
-    let p = c .before .before .before .before .before .before .before .before .before .before .before .before .pre in
-    (row-found (a .counts .now) (a .elements .now) (a .row .now) (c .before .before .before .before .before .before .wide .result) (c .before .before .before .find-row .result) (c .before .before .before .before .before .before .wide .ensures .0) (row-whole (a .elements .now) (a .row .now) (c .before .before .before .before .before .before .wide .result) (p .3) (c .before .before .before .find-row .ensures)) _ (c .before .found .given .1), p .4)
+    let f = c .before .before .before in
+    let w = counted f in
+    let a = start w .args in
+    let p = start w .pre in
+    let n = w .wide .result in
+    let q = row-whole (a .elements .now) (a .row .now) n (p .row) (f .find-row .ensures) in
+    (row-found (a .counts .now) (a .elements .now) (a .row .now) n (f .find-row .result) (w .wide .ensures .0) q _ (c .before .found .given .1), p .index)
 
 same-length-5 : tie.Need-same-length-5
 same-length-5 c = search needs
@@ -71,11 +94,18 @@ same-length-7 c = search needs
 
 returns-3 : tie.Need-returns-3
 returns-3 c =
-    let a = c .before .before .before .before .before .before .before .before .before .before .before .before .before .before .before .before .before .before .before .before .before .before .args in
-    let p = c .before .before .before .before .before .before .before .before .before .before .before .before .before .before .before .before .before .before .before .before .before .before .pre in
-    let r = c .before .before .before .before .before .before .append-row .ensures in (
-      row-new (a .counts .now) (a .elements .now) (a .row .now) (c .before .before .before .before .before .before .before .before .before .before .before .before .before .before .before .before .wide .result) (c .before .before .before .before .before .before .before .before .before .before .before .before .before .find-row .result) (c .before .before .before .before .before .before .before .before .before .before .before .before .before .before .before .before .wide .ensures .0) (row-whole (a .elements .now) (a .row .now) (c .before .before .before .before .before .before .before .before .before .before .before .before .before .before .before .before .wide .result) (p .3) (c .before .before .before .before .before .before .before .before .before .before .before .before .before .find-row .ensures)) _ _ (c .before .before .before .before .before .before .before .before .before .before .before .enum-told .given .1) (let l = c .before .before .before .before .before .before .before .before .before .before .if1 .left in omega (arith, l)) (r .0) (r .1),
-      index-count _ _ _ _ (sym (ap (λ (cs : List ℕ). getD cs 1 0) (r .0) ∙ getD-set-same (a .counts .now) 1 (c .before .before .before .before .before .before .before .before .before .before .before .before .before .before .before .before .wide .result + 1) 0 (omega (arith, p .0)))) (r .2),
+    let u = c .before .before .before .before .before .before in
+    let r = roomy u in
+    let f = sought r in
+    let w = counted f in
+    let a = start w .args in
+    let p = start w .pre in
+    let n = w .wide .result in
+    let q = row-whole (a .elements .now) (a .row .now) n (p .row) (f .find-row .ensures) in
+    let l = r .if1 .left in
+    let s = u .append-row .ensures in (
+      row-new (a .counts .now) (a .elements .now) (a .row .now) n (f .find-row .result) (w .wide .ensures .0) q _ _ (r .before .enum-told .given .1) (omega (arith, l)) (s .count) (s .stored),
+      index-count _ _ _ _ (sym (ap (λ (cs : List ℕ). getD cs 1 0) (s .count) ∙ getD-set-same (a .counts .now) 1 (n + 1) 0 (omega (arith, p .counts)))) (s .index),
     )
 
 pub add-row-spec : {M : Type 1} → statement M
