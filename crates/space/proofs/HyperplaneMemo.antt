@@ -11,7 +11,7 @@ use lib.ListN.{set, length, getD, length-append, drop}
 use lib.Seq.{sets, take-take}
 use Rattle.rules.specs.Cut.{sharePlane, done, withPlane, refused, planeMatches, addPlane}
 use Rattle.rules.specs.Floats.{plusZero}
-use Rattle.rules.specs.Held.{countsOf, Holds, went, stopped, elementsOf, pointsOf, Wide, Fits, planesOf, Came}
+use Rattle.rules.specs.Held.{Holds, went, stopped, elementsOf, pointsOf, Wide, Fits, planesOf, Came}
 use Rattle.rules.specs.Limits.{desk}
 use Rattle.rules.specs.Lists.{if_then_else_, findFrom}
 use Rattle.rules.specs.Memory.{planeRow, readPlane}
@@ -32,22 +32,23 @@ use Rattle.space.specs.declared.memo.PlacedHyperplane.{PlacedHyperplane}
 use Rattle.space.specs.Shared.{five, HyperplaneShared, hyperplaneAt, rowOf, HyperplaneAdded}
 use Rattle.space.proofs.Room.{plane-counted, plane-stored}
 use Rattle.space.proofs.RowAdds.{readable-desk}
+use Rattle.space.proofs.Slices.{slices}
 use Rattle.space.proofs.VertexMemo.{four-is, dimension-is}
 use borrow.Author.Tests.{le-ltb, lt-ltb}
 use Rattle.space.specs.declared.memo.PlacedHyperplane.the-variants as hyperplane
 
-pub few : (d : ℕ) → d < 2 → 0 ≡ primordials d
-few zero h = refl
-few (suc zero) h = refl
-few (suc (suc d)) h = absurd (let z : ⊥ = omega arith in z)
+pub primordials-none : (d : ℕ) → d < 2 → 0 ≡ primordials d
+primordials-none zero h = refl
+primordials-none (suc zero) h = refl
+primordials-none (suc (suc d)) h = absurd (let z : ⊥ = omega arith in z)
 
-pub many : (d : ℕ) → 2 ≤ d → 2 * d ≡ primordials d
-many zero h = absurd (let z : ⊥ = omega arith in z)
-many (suc zero) h = absurd (let z : ⊥ = omega arith in z)
-many (suc (suc d)) h = refl
+pub primordials-two : (d : ℕ) → 2 ≤ d → 2 * d ≡ primordials d
+primordials-two zero h = absurd (let z : ⊥ = omega arith in z)
+primordials-two (suc zero) h = absurd (let z : ⊥ = omega arith in z)
+primordials-two (suc (suc d)) h = refl
 
-pub stores : (l : List Float) (at : ℕ) (a b c d e : Float) → set (set (set (set (set l at a) (at + 1) b) (at + 2) c) (at + 3) d) (at + 4) e ≡ sets l at (a ∷ b ∷ c ∷ d ∷ e ∷ [])
-stores l at a b c d e =
+pub five-stores : (l : List Float) (at : ℕ) (a b c d e : Float) → set (set (set (set (set l at a) (at + 1) b) (at + 2) c) (at + 3) d) (at + 4) e ≡ sets l at (a ∷ b ∷ c ∷ d ∷ e ∷ [])
+five-stores l at a b c d e =
     let e₁ : at + 1 ≡ suc at = omega arith in
     let e₂ : at + 2 ≡ suc (suc at) = omega arith in
     let e₃ : at + 3 ≡ suc (suc (suc at)) = omega arith in
@@ -63,12 +64,8 @@ five-is (a ∷ b ∷ c ∷ d ∷ []) h = absurd (let z : ⊥ = omega (arith, h) 
 five-is (a ∷ b ∷ c ∷ d ∷ e ∷ []) h = refl
 five-is (a ∷ b ∷ c ∷ d ∷ e ∷ f ∷ r) h = absurd (let z : ⊥ = omega (arith, h) in z)
 
-planed : (t : Table) → getD (countsOf t) 3 0 ≡ length (t .planes)
-unfolding countsOf
-planed t = refl
-
 number : {cs : List ℕ} {ps hs : List Float} {es : List ℕ} {t : Table} (n : ℕ) → n ≡ getD cs 3 0 → Holds desk cs ps hs es t → n ≡ length (t .planes)
-number {t = t} n k H = k ∙ ap (λ (l : List ℕ). getD l 3 0) (H .counts) ∙ planed t
+number n k H = k ∙ slices H .planeCount
 
 module _ {cs : List ℕ} {hs : List Float} {row : List Float} {m : FoundHyperplane} where
   pub shared-old : (k : HyperplaneId) → m ≡ AtHyperplane k → HyperplaneShared cs hs row m (hyperplane.At k) cs hs

@@ -16,7 +16,7 @@ use Rattle.rules.specs.Table.{polytope, Table}
 use Rattle.rules.specs.Sound.{closed, namesNone}
 use Rattle.rules.specs.Memory.{planeNumber, planeNamed}
 use Rattle.rules.specs.Cut.{Outcome, refused, done, next, give, given, addElement, addPolytope}
-use Rattle.rules.specs.Held.{Holds, countsOf, elementWords, fitting, Came, went, stopped}
+use Rattle.rules.specs.Held.{Holds, elementWords, fitting, Came, went, stopped}
 use Rattle.rules.specs.declared.ElementId.{ElementId}
 use Rattle.rules.specs.declared.ElementOrNone.{ElementOrNone}
 use Rattle.rules.specs.declared.ElementOrNone.the-variants.{None, Some}
@@ -28,6 +28,7 @@ use Rattle.space.specs.Shared.{PolytopeAdded}
 use Rattle.space.specs.declared.rows.Placed.{Placed}
 use Rattle.space.specs.declared.rows.Placed.the-variants as placed
 use Rattle.space.specs.declared.memo.Added.the-variants as added
+use Rattle.space.proofs.Slices.{slices}
 use Rattle.space.proofs.TwiceMet.{closed-is}
 
 -- ---- the outcome, from the tests
@@ -49,11 +50,6 @@ module _ (L : Limits) (r : ℕ) (b : List ℕ) (h : Option ℕ) (m : Bool) (t : 
       go : (c : Bool) → eqb n noPlane ≡ c → not (eqb (planeNumber (if c then none else some n)) noPlane && not (namesNone (if c then none else some n))) ≡ true
       go true q = refl
       go false q = ap (λ (c : Bool). not (c && true)) q
-
--- the first count is the dimension
-dimension-held : {cs es : List ℕ} {ps hs : List Float} {t : Table} → Holds desk cs ps hs es t → getD cs 0 0 ≡ t .dimension
-unfolding countsOf
-dimension-held H = ap (λ (l : List ℕ). getD l 0 0) (H .counts)
 
 module _ (cs es : List ℕ) (r : ℕ) (b : List ℕ) (plane : ℕ) (mark : Bool) (n : ℕ) (len : length b ≡ n) where
   pub poly-few : n ≤ r → PolytopeAdded cs es r b plane mark (added.Made None) cs es
@@ -77,13 +73,14 @@ module _ (cs es : List ℕ) (r : ℕ) (b : List ℕ) (plane : ℕ) (mark : Bool)
       pub poly-open : closedRaw (getD cs 0 0) es r b ≡ false → PolytopeAdded cs es r b plane mark (added.Refused 7) cs es
       poly-open q = record {
         of = λ ps hs t H low edges.
-            stopped 7 t (tested desk r b (planeNamed plane) mark t false false false (lt-leb (length b) r more-b) (le-ltb 32 (length b) room-b) (sym (closed-is (getD cs 0 0) es t (dimension-held H) (H .elements) (H .fits) r b edges) ∙ q)) refl (extends-refl t) H;
+            (let not-closed = sym (closed-is (getD cs 0 0) es t (slices H .dimension) (H .elements) (H .fits) r b edges) ∙ q in
+            stopped 7 t (tested desk r b (planeNamed plane) mark t false false false (lt-leb (length b) r more-b) (le-ltb 32 (length b) room-b) not-closed) refl (extends-refl t) H);
       }
 
       module _ (q : closedRaw (getD cs 0 0) es r b ≡ true) (row cs′ es′ : List ℕ) (p : Placed) (w : row ≡ elementWords desk (polytope r b (planeNamed plane) mark)) (A : RowAdded cs es row p cs′ es′) where
         module _ (ps hs : List Float) (t : Table) (H : Holds desk cs ps hs es t) (low : r < length b → 1 ≤ r) (edges : r ≡ 2 → Edges t b) where
           whole : addPolytope desk r b (planeNamed plane) mark t ≡ next (addElement desk (polytope r b (planeNamed plane) mark) t) (λ i. give (given i))
-          whole = tested desk r b (planeNamed plane) mark t false false true (lt-leb (length b) r more-b) (le-ltb 32 (length b) room-b) (sym (closed-is (getD cs 0 0) es t (dimension-held H) (H .elements) (H .fits) r b edges) ∙ q)
+          whole = tested desk r b (planeNamed plane) mark t false false true (lt-leb (length b) r more-b) (le-ltb 32 (length b) room-b) (sym (closed-is (getD cs 0 0) es t (slices H .dimension) (H .elements) (H .fits) r b edges) ∙ q)
 
           added-row : Came placedAt placed.Refused (Holds desk cs′ ps hs es′) t (addElement desk (polytope r b (planeNamed plane) mark) t) p
           added-row = A .of ps hs t (polytope r b (planeNamed plane) mark) H w (fits-row desk r b (planeNamed plane) mark t (low more-b) room-b plane refl)

@@ -53,8 +53,8 @@ four-is (a ∷ b ∷ c ∷ []) h = absurd (let z : ⊥ = omega (arith, h) in z)
 four-is (a ∷ b ∷ c ∷ d ∷ []) h = refl
 four-is (a ∷ b ∷ c ∷ d ∷ e ∷ r) h = absurd (let z : ⊥ = omega (arith, h) in z)
 
-pub stores : (l : List Float) (at : ℕ) (a b c d : Float) → set (set (set (set l at a) (at + 1) b) (at + 2) c) (at + 3) d ≡ sets l at (a ∷ b ∷ c ∷ d ∷ [])
-stores l at a b c d =
+pub four-stores : (l : List Float) (at : ℕ) (a b c d : Float) → set (set (set (set l at a) (at + 1) b) (at + 2) c) (at + 3) d ≡ sets l at (a ∷ b ∷ c ∷ d ∷ [])
+four-stores l at a b c d =
     let e₁ : at + 1 ≡ suc at = omega arith in
     let e₂ : at + 2 ≡ suc (suc at) = omega arith in
     let e₃ : at + 3 ≡ suc (suc (suc at)) = omega arith in

@@ -1,7 +1,8 @@
 // What is found again, and what is new: a vertex with its element, a hyperplane, and a polytope.
+use crate::adding::add_row;
 use crate::closed::is_closed;
-use crate::rows;
 use crate::rows::Placed;
+use crate::rows::polytope_row;
 use crate::words::AXES;
 use crate::words::BOUNDARY;
 use crate::words::HYPERPLANES;
@@ -9,6 +10,7 @@ use crate::words::NO_PLANE;
 use crate::words::PLANE_WIDTH;
 use crate::words::SET;
 use crate::words::VERTICES;
+use crate::words::WIDTH;
 use crate::words::wide;
 use hypermath::FoundHyperplane;
 use hypermath::FoundVertex;
@@ -41,7 +43,7 @@ pub enum Added {
     Made(ElementOrNone),
 }
 
-pub fn read_point(points: &[f64], v: VertexId) -> [f64; 4]
+pub fn read_point(points: &[f64], v: VertexId) -> [f64; AXES]
     requires { ⌜ (length (now points) ≡ pointSlice) × (v .0 < desk .vertices) ⌝ }
     ensures { λ r. ⌜ r ≡ storedPoint (now (points .entry)) (v .0) ⌝ }
 {
@@ -50,18 +52,18 @@ pub fn read_point(points: &[f64], v: VertexId) -> [f64; 4]
 }
 
 // Rank 0, no mark, no hyperplane, and the vertex's number as the one entry of the boundary.
-pub fn corner_row(v: VertexId) -> [u16; 36]
+pub fn corner_row(v: VertexId) -> [u16; WIDTH]
     requires { ⌜ v .0 < desk .vertices ⌝ }
     ensures { λ r. ⌜ r ≡ elementWords desk (corner (v .0)) ⌝ }
 {
-    let mut row = [0u16; 36];
+    let mut row = [0u16; WIDTH];
     row[2] = NO_PLANE;
     row[3] = 1;
     row[4] = v.0 as u16;
     row
 }
 
-pub fn put_point(points: &mut [f64], at: usize, p: [f64; 4])
+pub fn put_point(points: &mut [f64], at: usize, p: [f64; AXES])
     requires { ⌜ at + desk .dimensions ≤ length (now points) ⌝ }
     ensures { λ r. ⌜ now (points .exit) ≡ sets (now (points .entry)) at (four p) ⌝ }
 {
@@ -77,7 +79,7 @@ fn share_vertex(
     points: &mut [f64],
     elements: &mut [u16],
     index: &mut [u16],
-    p: [f64; 4],
+    p: [f64; AXES],
     m: FoundVertex,
 ) -> Placed
     requires { ⌜ ShareReady (now counts) (now points) (now elements) (now index) m ⌝ }
@@ -86,7 +88,7 @@ fn share_vertex(
     match m {
         FoundVertex::At(v) => {
             let row = corner_row(v);
-            rows::add_row(counts, elements, index, &row)
+            add_row(counts, elements, index, &row)
         }
         FoundVertex::None => {
             let n = wide(counts[2]);
@@ -96,7 +98,7 @@ fn share_vertex(
             put_point(points, n * AXES, p);
             counts[2] = (n + 1) as u16;
             let row = corner_row(VertexId(n));
-            rows::add_row(counts, elements, index, &row)
+            add_row(counts, elements, index, &row)
         }
     }
 }
@@ -107,7 +109,7 @@ pub fn add_vertex(
     points: &mut [f64],
     elements: &mut [u16],
     index: &mut [u16],
-    p: [f64; 4],
+    p: [f64; AXES],
 ) -> Placed
     requires { ⌜ VertexReady (now counts) (now points) (now elements) (now index) ⌝ }
     ensures { λ r. ⌜ VertexIndexed (now (counts .entry)) (now (points .entry)) (now (elements .entry)) p r (now (counts .exit)) (now (points .exit)) (now (elements .exit)) (now (index .exit)) ⌝ }
@@ -119,7 +121,7 @@ pub fn add_vertex(
 }
 
 // How many hyperplanes are the cube's own.
-pub fn primordials(d: usize) -> usize
+fn primordials(d: usize) -> usize
     requires { ⌜ d ≤ desk .dimensions ⌝ }
     ensures { λ r. ⌜ r ≡ table.primordials d ⌝ }
 {
@@ -129,7 +131,7 @@ pub fn primordials(d: usize) -> usize
     2 * d
 }
 
-pub fn hyperplane_row(h: Hyperplane) -> [f64; 5]
+pub fn hyperplane_row(h: Hyperplane) -> [f64; PLANE_WIDTH]
     ensures { λ r. ⌜ r ≡ rowOf h ⌝ }
 {
     [
@@ -141,7 +143,7 @@ pub fn hyperplane_row(h: Hyperplane) -> [f64; 5]
     ]
 }
 
-pub fn put_hyperplane(planes: &mut [f64], at: usize, p: [f64; 5])
+pub fn put_hyperplane(planes: &mut [f64], at: usize, p: [f64; PLANE_WIDTH])
     requires { ⌜ at + planeWidth desk ≤ length (now planes) ⌝ }
     ensures { λ r. ⌜ now (planes .exit) ≡ sets (now (planes .entry)) at (five p) ⌝ }
 {
@@ -156,7 +158,7 @@ pub fn put_hyperplane(planes: &mut [f64], at: usize, p: [f64; 5])
 fn share_hyperplane(
     counts: &mut [u16],
     planes: &mut [f64],
-    row: [f64; 5],
+    row: [f64; PLANE_WIDTH],
     m: FoundHyperplane,
 ) -> PlacedHyperplane
     requires { ⌜ (length (now counts) ≡ 4) × (length (now planes) ≡ planeSlice) ⌝ }
@@ -212,8 +214,8 @@ pub fn add_polytope(
     if !is_closed(counts, elements, rank, list, n) {
         return Added::Refused(7);
     }
-    let row = rows::polytope_row(rank, list, n, plane, mark);
-    let placed = rows::add_row(counts, elements, index, &row);
+    let row = polytope_row(rank, list, n, plane, mark);
+    let placed = add_row(counts, elements, index, &row);
     match placed {
         Placed::Refused(no) => Added::Refused(no),
         Placed::At(e) => Added::Made(ElementOrNone::Some(e)),

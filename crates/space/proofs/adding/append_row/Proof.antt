@@ -6,8 +6,8 @@ use lib.ListN.{length}
 use Rattle.space.specs.Numbers.{rowWidth}
 use Rattle.space.proofs.Indexing.{index-appended}
 use borrow.Author.Needs.{needs}
-use Rattle.space.proofs.rows.append_row.Statement.{statement}
-use Rattle.space.proofs.rows.append_row.Tie as tie
+use Rattle.space.proofs.adding.append_row.Statement.{statement}
+use Rattle.space.proofs.adding.append_row.Tie as tie
 
 -- where the function began, where the row's key was known, and where the row was stored
 abbrev start : tie.After-key-of → tie.Start

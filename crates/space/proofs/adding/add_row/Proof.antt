@@ -8,8 +8,8 @@ use lib.Seq.{getD-set-same}
 use Rattle.space.proofs.Indexing.{index-count}
 use Rattle.space.proofs.RowAdds.{row-whole, row-found, row-full, row-new}
 use borrow.Author.Needs.{needs}
-use Rattle.space.proofs.rows.add_row.Statement.{statement}
-use Rattle.space.proofs.rows.add_row.Tie as tie
+use Rattle.space.proofs.adding.add_row.Statement.{statement}
+use Rattle.space.proofs.adding.add_row.Tie as tie
 
 -- where the function began, where the count was read, where an equal row was searched for, and where there was room for the row
 abbrev start : tie.After-wide → tie.Start
