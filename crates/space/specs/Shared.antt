@@ -10,7 +10,7 @@ use Rattle.rules.specs.Lists.{pad}
 use Rattle.rules.specs.Floats.{plusZero}
 use Rattle.rules.specs.Table.{Plane, Table}
 use Rattle.rules.specs.Sound.{sound, soundPoint, soundPlane}
-use Rattle.rules.specs.Memory.{planeRow, planeNamed}
+use Rattle.rules.specs.Memory.{planeRow, planeNamed, planeWidth}
 use Rattle.rules.specs.Cut.{shareVertex, addVertex, sharePlane, addPlane, addPolytope}
 use Rattle.rules.specs.Held.{Holds, Came}
 use Rattle.rules.specs.declared.Hyperplane.{Hyperplane}
@@ -44,7 +44,7 @@ VertexInRoom (AtVertex v) = v .0 < desk .vertices
 
 -- whatever table the memory holds, and whatever point the four floats are written of: the step, once the search is done
 pub record VertexShared (cs : List ℕ) (ps : List Float) (es : List ℕ) (p : List Float) (m : FoundVertex) (r : Placed) (cs′ : List ℕ) (ps′ : List Float) (es′ : List ℕ) : Type 0 where
-  pub of : (hs : List Float) (t : Table) (q : List Float) → Holds desk cs ps hs es t → p ≡ pad plusZero 4 q → length q ≤ 4
+  pub of : (hs : List Float) (t : Table) (q : List Float) → Holds desk cs ps hs es t → p ≡ pad plusZero (desk .dimensions) q → length q ≤ desk .dimensions
       → Came placedAt placed.Refused (Holds desk cs′ ps′ hs es′) t (shareVertex desk q (vertexNumber m) t) r
 
 -- and the rows in use are indexed then
@@ -53,7 +53,7 @@ SharedIndexed cs ps es p m r cs′ ps′ es′ ix′ = VertexShared cs ps es p m
 
 -- the same of the whole step, on a sound table
 pub record VertexAdded (cs : List ℕ) (ps : List Float) (es : List ℕ) (p : List Float) (r : Placed) (cs′ : List ℕ) (ps′ : List Float) (es′ : List ℕ) : Type 0 where
-  pub of : (hs : List Float) (t : Table) (q : List Float) → Holds desk cs ps hs es t → sound desk t ≡ true → p ≡ pad plusZero 4 q → soundPoint (t .dimension) q ≡ true
+  pub of : (hs : List Float) (t : Table) (q : List Float) → Holds desk cs ps hs es t → sound desk t ≡ true → p ≡ pad plusZero (desk .dimensions) q → soundPoint (t .dimension) q ≡ true
       → Came placedAt placed.Refused (Holds desk cs′ ps′ hs es′) t (addVertex desk q t) r
 
 abbrev pub VertexIndexed : List ℕ → List Float → List ℕ → List Float → Placed → List ℕ → List Float → List ℕ → List ℕ → Type 0
@@ -73,7 +73,7 @@ hyperplaneAt i = hyperplane.At (record { 0 = i })
 
 -- whatever table the memory holds, and whatever plane the row is written of: the step, once the search is done
 pub record HyperplaneShared (cs : List ℕ) (hs : List Float) (row : List Float) (m : FoundHyperplane) (r : PlacedHyperplane) (cs′ : List ℕ) (hs′ : List Float) : Type 0 where
-  pub of : (ps : List Float) (es : List ℕ) (t : Table) (g : Plane) → Holds desk cs ps hs es t → row ≡ planeRow desk g → length row ≡ 5
+  pub of : (ps : List Float) (es : List ℕ) (t : Table) (g : Plane) → Holds desk cs ps hs es t → row ≡ planeRow desk g → length row ≡ planeWidth desk
       → Came hyperplaneAt hyperplane.Refused (Holds desk cs′ ps hs′ es) t (sharePlane desk g (hyperplaneNumber m) t) r
 
 -- the same of the whole step, on a sound table
