@@ -44,7 +44,7 @@ pub full : {A : Type 0} (z : A) (ys : List A) (n : ℕ) → length ys ≡ n → 
 full z ys n e = sym (ap (λ (m : ℕ). ys ++ replicate m z) (let q : n - length ys ≡ 0 = omega (arith, e) in q) ∙ append-nil ys)
 
 -- one row more of the same width
-wide-more : {A B : Type 0} (w : ℕ) (f : A → List B) (xs : List A) (x : A) → Wide w (map f xs) → length (f x) ≡ w → Wide w (map f (xs ++ x ∷ []))
+pub wide-more : {A B : Type 0} (w : ℕ) (f : A → List B) (xs : List A) (x : A) → Wide w (map f xs) → length (f x) ≡ w → Wide w (map f (xs ++ x ∷ []))
 wide-more w f xs x h k = subst (Wide w) (sym (map-append f xs (x ∷ []))) (wide-append w (map f xs) (f x) h k)
 
 -- how many numbers stand after the four
