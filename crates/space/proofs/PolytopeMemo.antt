@@ -24,7 +24,7 @@ use Rattle.rules.proofs.Laws.{and-true}
 use Rattle.rules.proofs.Extends.{extends-refl}
 use Rattle.space.specs.Closed.{closedRaw, Edges}
 use Rattle.space.specs.Found.{placedAt, rowOutcome, RowAdded}
-use Rattle.space.specs.Shared.{madeOf, made, polytopeBy, polytopeOutcome, PolytopeAdded}
+use Rattle.space.specs.Shared.{madeOf, madeOutcome, polytopeTested, polytopeOutcome, PolytopeAdded}
 use Rattle.space.specs.declared.rows.Placed.{Placed}
 use Rattle.space.specs.declared.rows.Placed.the-variants as placed
 use Rattle.space.specs.declared.memo.Added.the-variants as added
@@ -57,9 +57,9 @@ module _ (cs es : List ℕ) (r : ℕ) (b : List ℕ) (plane : ℕ) (mark : Bool)
 
   -- the outcome by the three tests
   raw : (few many good : Bool) → leb (length b) r ≡ few → ltb 32 (length b) ≡ many → closedRaw (getD cs 0 0) es r b ≡ good
-      → polytopeBy cs es row-of few many good ≡ polytopeOutcome cs es r b plane mark
+      → polytopeTested cs es row-of few many good ≡ polytopeOutcome cs es r b plane mark
   unfolding polytopeOutcome
-  raw few many good p q s = sym (λ i. polytopeBy cs es row-of (p i) (q i) (s i))
+  raw few many good p q s = sym (λ i. polytopeTested cs es row-of (p i) (q i) (s i))
 
   pub poly-few : n ≤ r → PolytopeAdded cs es r b plane mark (added.Made None) cs es
   poly-few h = record {
@@ -100,7 +100,7 @@ module _ (cs es : List ℕ) (r : ℕ) (b : List ℕ) (plane : ℕ) (mark : Bool)
         -- what was placed is made
         made-raw : (x : Placed) → p ≡ x → record { reply = madeOf x; counts = cs′; elements = es′ } ≡ polytopeOutcome cs es r b plane mark
         made-raw x g =
-            ap (λ (y : Placed). record { reply = madeOf y; counts = cs′; elements = es′ }) (sym g) ∙ ap made (A .words ∙ ap (rowOutcome cs es) w)
+            ap (λ (y : Placed). record { reply = madeOf y; counts = cs′; elements = es′ }) (sym g) ∙ ap madeOutcome (A .words ∙ ap (rowOutcome cs es) w)
             ∙ raw false false true (lt-leb (length b) r more-b) (le-ltb 32 (length b) room-b) q
 
         pub poly-refused : (x : ℕ) → p ≡ placed.Refused x → PolytopeAdded cs es r b plane mark (added.Refused x) cs′ es′

@@ -13,7 +13,7 @@ use Rattle.rules.specs.Table.{elementCount}
 use Rattle.rules.specs.Floats.{plusZero}
 use Rattle.space.proofs.Room.{elements-restored, points-restored, planes-restored, counts-restored, fits-before}
 use Rattle.space.proofs.Slices.{slices}
-use Rattle.space.specs.Restored.{cleared, Restored}
+use Rattle.space.specs.Restored.{zerosFrom, Restored}
 
 module _ {A : Type 0} (z : A) (l : List A) (at : ℕ) where
   zeros : (j : ℕ) → at + j ≤ length l → sets l at (replicate j z) ≡ paste l at (replicate j z) j
@@ -41,13 +41,13 @@ module _ {A : Type 0} (z : A) (l : List A) (at : ℕ) where
 
 pub restored : {cs : List ℕ} {ps hs : List Float} {es : List ℕ} (e v h ne nv nh : ℕ) {ps′ hs′ : List Float} {es′ : List ℕ}
     → ne ≡ getD cs 1 0 → nv ≡ getD cs 2 0 → nh ≡ getD cs 3 0
-    → es′ ≡ cleared 0 36 es e ne → ps′ ≡ cleared plusZero 4 ps v nv → hs′ ≡ cleared plusZero 5 hs h nh
+    → es′ ≡ zerosFrom 0 36 es e ne → ps′ ≡ zerosFrom plusZero 4 ps v nv → hs′ ≡ zerosFrom plusZero 5 hs h nh
     → Restored cs ps hs es e v h (set (set (set cs 1 e) 2 v) 3 h) ps′ hs′ es′
 restored {cs} {ps} {hs} {es} e v h ne nv nh a b c p q r = record {
   counts = refl;
-  points = q ∙ ap (cleared plusZero 4 ps v) b;
-  planes = r ∙ ap (cleared plusZero 5 hs h) c;
-  elements = p ∙ ap (cleared 0 36 es e) a;
+  points = q ∙ ap (zerosFrom plusZero 4 ps v) b;
+  planes = r ∙ ap (zerosFrom plusZero 5 hs h) c;
+  elements = p ∙ ap (zerosFrom 0 36 es e) a;
   of = λ t u x H i j k.
       (let ei : ne ≡ elementCount u = a ∙ slices H .elementCount in
       let vj : nv ≡ length (u .points) = b ∙ slices H .pointCount in

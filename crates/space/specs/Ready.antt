@@ -36,7 +36,7 @@ pub record AppendReady (cs es ix w : List ℕ) (n : ℕ) : Type 0 where
   pub index : Indexed es n ix
 
 -- a row added
-pub record RowReady (cs es ix w : List ℕ) : Type 0 where
+pub record AddRowReady (cs es ix w : List ℕ) : Type 0 where
   pub counts : length cs ≡ 4
   pub elements : length es ≡ elementSlice
   pub room : getD cs 1 0 ≤ desk .elements

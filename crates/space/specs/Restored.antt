@@ -14,13 +14,13 @@ use Rattle.rules.specs.Held.{Extends, Holds}
 use Rattle.space.specs.Numbers.{rowWidth}
 
 -- zeros over the rows of width w from number k up to number n
-abbrev pub cleared : {A : Type 0} → A → ℕ → List A → ℕ → ℕ → List A
-cleared z w xs k n = sets xs (k * w) (replicate (n * w - k * w) z)
+abbrev pub zerosFrom : {A : Type 0} → A → ℕ → List A → ℕ → ℕ → List A
+zerosFrom z w xs k n = sets xs (k * w) (replicate (n * w - k * w) z)
 
 -- `of`: whatever table the memory holds, and whatever table it goes on from, whose counts are e, v and h
 pub record Restored (cs : List ℕ) (ps hs : List Float) (es : List ℕ) (e v h : ℕ) (cs′ : List ℕ) (ps′ hs′ : List Float) (es′ : List ℕ) : Type 0 where
   pub counts : cs′ ≡ set (set (set cs 1 e) 2 v) 3 h
-  pub points : ps′ ≡ cleared plusZero (desk .dimensions) ps v (getD cs 2 0)
-  pub planes : hs′ ≡ cleared plusZero (planeWidth desk) hs h (getD cs 3 0)
-  pub elements : es′ ≡ cleared 0 rowWidth es e (getD cs 1 0)
+  pub points : ps′ ≡ zerosFrom plusZero (desk .dimensions) ps v (getD cs 2 0)
+  pub planes : hs′ ≡ zerosFrom plusZero (planeWidth desk) hs h (getD cs 3 0)
+  pub elements : es′ ≡ zerosFrom 0 rowWidth es e (getD cs 1 0)
   pub of : (t u : Table) → Extends t u → Holds desk cs ps hs es u → e ≡ elementCount t → v ≡ length (t .points) → h ≡ length (t .planes) → Holds desk cs′ ps′ hs′ es′ t

@@ -158,20 +158,20 @@ abbrev pub madeOf : Placed → Added
 madeOf (placed.Refused x) = added.Refused x
 madeOf (placed.At e) = added.Made (some-or-none.Some e)
 
-abbrev pub made : RowOutcome → PolytopeOutcome
-made o = record { reply = madeOf (o .reply); counts = o .counts; elements = o .elements }
+abbrev pub madeOutcome : RowOutcome → PolytopeOutcome
+madeOutcome o = record { reply = madeOf (o .reply); counts = o .counts; elements = o .elements }
 
 -- rule 8 by its three tests: none, 11, 7, or the row added
-abbrev pub polytopeBy : List ℕ → List ℕ → List ℕ → Bool → Bool → Bool → PolytopeOutcome
-polytopeBy cs es row few many closed =
+abbrev pub polytopeTested : List ℕ → List ℕ → List ℕ → Bool → Bool → Bool → PolytopeOutcome
+polytopeTested cs es row few many closed =
     if few then record { reply = added.Made some-or-none.None; counts = cs; elements = es }
     else if many then record { reply = added.Refused 11; counts = cs; elements = es }
     else if not closed then record { reply = added.Refused 7; counts = cs; elements = es }
-    else made (rowOutcome cs es row)
+    else madeOutcome (rowOutcome cs es row)
 
 unfoldable pub polytopeOutcome : List ℕ → List ℕ → ℕ → List ℕ → ℕ → Bool → PolytopeOutcome
 polytopeOutcome cs es rank b plane mark =
-    polytopeBy cs es (elementWords desk (polytope rank b (planeNamed plane) mark)) (leb (length b) rank) (ltb (desk .boundary) (length b)) (closedRaw (getD cs 0 0) es rank b)
+    polytopeTested cs es (elementWords desk (polytope rank b (planeNamed plane) mark)) (leb (length b) rank) (ltb (desk .boundary) (length b)) (closedRaw (getD cs 0 0) es rank b)
 
 -- `of`: whatever table the memory holds, for a boundary of edges where a face is asked for, rule 8; and `words`, whatever the memory holds
 pub record PolytopeAdded (cs es : List ℕ) (rank : ℕ) (b : List ℕ) (plane : ℕ) (mark : Bool) (r : Added) (cs′ es′ : List ℕ) : Type 0 where
