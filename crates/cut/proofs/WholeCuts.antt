@@ -25,6 +25,7 @@ use Rattle.rules.proofs.Laws.{le-test}
 use Rattle.rules.proofs.Missed.{Unmoved, plane-unmoved}
 use Rattle.rules.proofs.Stays.{Stays, Kept, plane-stays}
 use Rattle.space.specs.Shared.{HyperplaneAdded, hyperplaneAt}
+use Rattle.space.specs.Ready.{HyperplaneReady, RestoreReady}
 use Rattle.space.specs.Restored.{Restored}
 use Rattle.space.specs.declared.memo.PlacedHyperplane.{PlacedHyperplane}
 use Rattle.space.specs.declared.memo.PlacedHyperplane.the-variants as hyperplane
@@ -74,11 +75,11 @@ module _ {cs : List ℕ} {ps hs : List Float} {es : List ℕ} {h : Hyperplane} {
   pub counts-ready : CutReady cs ps hs es h root → length cs ≡ 4
   counts-ready R = slices (R .fit .holds) .counts
 
-  pub plane-asked : CutReady cs ps hs es h root → (length cs ≡ 4) × (length hs ≡ 320) × (getD cs 0 0 ≤ 4) × (getD cs 3 0 ≤ 64)
+  pub plane-asked : CutReady cs ps hs es h root → HyperplaneReady cs hs
   plane-asked R =
       let s = slices (R .fit .holds) in
       let g = sound-good desk (R .table) (R .fit .sound) in
-      (s .counts, s .planes, le-trans (le-of-eq (s .dimension)) (le-test (R .table .dimension) 4 (g .high)), s .planesFit)
+      record { counts = s .counts; planes = s .planes; dimension = le-trans (le-of-eq (s .dimension)) (le-test (R .table .dimension) 4 (g .high)); room = s .planesFit }
 
   module _ {x : PlacedHyperplane} {cs₁ : List ℕ} {hs₁ : List Float} (P : HyperplaneAdded cs hs h x cs₁ hs₁) where
     added : {t : Table} → CutFit cs ps hs es h root t → Added ps es h x cs₁ hs₁ t
@@ -170,26 +171,25 @@ isNo (reply.Answered a) = 0
 
 -- what restoring asks
 abbrev RestoreAsks : List ℕ → List ℕ → List Float → List Float → List ℕ → Type 0
-RestoreAsks cs₀ cs ps hs es =
-    (length cs ≡ 4) × (length ps ≡ 1024) × (length hs ≡ 320) × (length es ≡ 18432) × (getD cs₀ 1 0 ≤ getD cs 1 0) × (getD cs₀ 2 0 ≤ getD cs 2 0) × (getD cs₀ 3 0 ≤ getD cs 3 0)
-    × (getD cs 1 0 ≤ 512) × (getD cs 2 0 ≤ 256) × (getD cs 3 0 ≤ 64)
+RestoreAsks cs₀ cs ps hs es = RestoreReady cs ps hs es (getD cs₀ 1 0) (getD cs₀ 2 0) (getD cs₀ 3 0)
 
 restore-asks : {cs₀ : List ℕ} {ps₀ hs₀ : List Float} {es₀ : List ℕ} {t u : Table} {cs : List ℕ} {ps hs : List Float} {es : List ℕ}
     → Holds desk cs₀ ps₀ hs₀ es₀ t → Extends t u → Holds desk cs ps hs es u → RestoreAsks cs₀ cs ps hs es
 restore-asks {t = t} {u} H₀ X H =
     let a = slices H₀ in
-    let b = slices H in (
-      b .counts,
-      b .points,
-      b .planes,
-      b .elements,
-      le-trans (le-of-eq (a .elementCount)) (le-trans (count-more X) (le-of-eq (sym (b .elementCount)))),
-      le-trans (le-of-eq (a .pointCount)) (le-trans (begins-length (t .points) (u .points) (X .points)) (le-of-eq (sym (b .pointCount)))),
-      le-trans (le-of-eq (a .planeCount)) (le-trans (begins-length (t .planes) (u .planes) (X .planes)) (le-of-eq (sym (b .planeCount)))),
-      b .elementsFit,
-      b .pointsFit,
-      b .planesFit,
-    )
+    let b = slices H in
+    record {
+      counts = b .counts;
+      points = b .points;
+      planes = b .planes;
+      elements = b .elements;
+      fromElement = le-trans (le-of-eq (a .elementCount)) (le-trans (count-more X) (le-of-eq (sym (b .elementCount))));
+      fromVertex = le-trans (le-of-eq (a .pointCount)) (le-trans (begins-length (t .points) (u .points) (X .points)) (le-of-eq (sym (b .pointCount))));
+      fromHyperplane = le-trans (le-of-eq (a .planeCount)) (le-trans (begins-length (t .planes) (u .planes) (X .planes)) (le-of-eq (sym (b .planeCount))));
+      room = b .elementsFit;
+      vertexRoom = b .pointsFit;
+      planeRoom = b .planesFit;
+    }
 
 module _ {cs : List ℕ} {ps hs : List Float} {es : List ℕ} {h : Hyperplane} {i o : Bool} {root : ℕ} {y : CutReply} {cs₁ : List ℕ} {ps₁ hs₁ : List Float} {es₁ : List ℕ}
     (T : CutTried cs ps hs es h i o root y cs₁ ps₁ hs₁ es₁) where

@@ -12,7 +12,7 @@ use Rattle.rules.specs.Lists.{all, any, rows, if_then_else_, rises, allFrom, di
 use Rattle.rules.specs.Memory.{planeWidth, elementWidth, rightSize}
 use Rattle.rules.specs.Held.{memoryOf}
 use Rattle.rules.specs.Table.{primordials}
-use Rattle.space.specs.Chains.{rowAt}
+use Rattle.space.specs.Chains.{storedRow}
 use Rattle.space.specs.Closed.{closedRaw, metTwice, ringRaw, EndsLow}
 
 abbrev pub blank : List ℕ → Bool
@@ -142,7 +142,7 @@ rowsInUse L d n v h es = all (recordWords L) (rows n (elementWidth L) es) && cor
 
 -- row i is equal to no earlier one
 unfoldable pub rowNew : List ℕ → ℕ → Bool
-rowNew es i = not (any (alike eqb (rowAt es i)) (rows i 36 es))
+rowNew es i = not (any (alike eqb (storedRow es i)) (rows i 36 es))
 
 unfoldable pub rowsDistinct : Limits → ℕ → List ℕ → Bool
 rowsDistinct L n es = distinct (alike eqb) (rows n (elementWidth L) es)

@@ -9,7 +9,7 @@ add-vertex-requires : tie.Need-add-vertex-requires
 add-vertex-requires c κs =
     let start = c .before .before .before .before .before .before .before .before in
     let asked = vertex-asked (start .pre .0) in
-    (asked .0, asked .1, asked .2, asked .3, asked .4, start .pre .1)
+    record { counts = asked .0; points = asked .1; elements = asked .2; room = asked .3; vertexRoom = asked .4; index = start .pre .1 }
 
 enum-known-placed : tie.Need-enum-known-placed
 enum-known-placed c = search needs

@@ -19,8 +19,9 @@ sub-add-polytope c = let h = c .before .before .before .before .before .before .
 
 add-polytope-requires : tie.Need-add-polytope-requires
 add-polytope-requires c κs =
-    let asked = intersection-asks (c .before .before .before .before .before .before .before .before .before .before .before .pre .0) _ (c .before .before .before .wide .ensures .0) in
-    (asked .0, asked .1, asked .2, asked .3, asked .4, asked .5, asked .6, asked .7, c .before .before .before .before .before .before .before .before .before .before .before .pre .1)
+    let start = c .before .before .before .before .before .before .before .before .before .before .before in
+    let asked = intersection-asks (start .pre .0) _ (c .before .before .before .wide .ensures .0) in
+    record { counts = asked .0; elements = asked .1; room = asked .2; words = asked .3; size = asked .4; rank = asked .5; low = asked .6; edges = asked .7; index = start .pre .1 }
 
 same-length : tie.Need-same-length
 same-length c = search needs

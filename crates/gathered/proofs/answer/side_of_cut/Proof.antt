@@ -44,7 +44,7 @@ add-polytope-requires c κs =
     let with = read .before .before in
     let start = with .before .before .before .before .before .before .before .before .before .before in
     let asked = side-asks (start .pre .0) _ (with .include .ensures) _ (read .wide .ensures .0) in
-    (asked .0, asked .1, asked .2, asked .3, asked .4, asked .5, asked .6, asked .7, start .pre .1)
+    record { counts = asked .0; elements = asked .1; room = asked .2; words = asked .3; size = asked .4; rank = asked .5; low = asked .6; edges = asked .7; index = start .pre .1 }
 
 same-length-2 : tie.Need-same-length-2
 same-length-2 c = search needs

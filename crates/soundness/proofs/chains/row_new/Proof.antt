@@ -18,7 +18,7 @@ mul-at c = search needs
 find-row-requires : tie.Need-find-row-requires
 find-row-requires c κs =
     let p = c .before .before .before .pre in
-    (p .1, omega (arith, p .0), omega (arith, p .0, p .1), p .2)
+    record { elements = p .1; room = omega (arith, p .0); row = omega (arith, p .0, p .1); index = p .2 }
 
 enum-told : tie.Need-enum-told
 enum-told c = search needs
@@ -34,7 +34,7 @@ key-of-requires c κs =
 join-requires : tie.Need-join-requires
 join-requires c κs =
     let p = c .before .before .before .before .before .before .before .before .pre in
-    (p .2 .long, c .before .key-of .ensures .1, p .0)
+    record { index = p .2 .long; key = c .before .key-of .ensures .1; room = p .0 }
 
 same-length : tie.Need-same-length
 same-length c = search needs

@@ -1,10 +1,23 @@
 -- The rows before keep their chains, and the new one starts the chain of its key.
+use Prim.Native.Nat.{_+_, _*_, _≤_}
 use mathlib.Core.Path.{refl}
 use native.Mathlib.Omega.{arith}
+use lib.ListN.{length}
+use Rattle.space.specs.Numbers.{rowWidth}
 use Rattle.space.proofs.Indexing.{index-appended}
 use borrow.Author.Needs.{needs}
-use Rattle.space.proofs.rows.append_row.Statement.{statement}
-use Rattle.space.proofs.rows.append_row.Tie as tie
+use Rattle.space.proofs.adding.append_row.Statement.{statement}
+use Rattle.space.proofs.adding.append_row.Tie as tie
+
+-- where the function began, where the row's key was known, and where the row was stored
+abbrev start : tie.After-key-of → tie.Start
+start c = c .before .before .before .before .before
+
+abbrev keyed : tie.After-put-row → tie.After-key-of
+keyed c = c .before .before
+
+abbrev stored : tie.After-join → tie.After-put-row
+stored c = c .before .before .before .before
 
 key-of-requires : tie.Need-key-of-requires
 key-of-requires c κs = search needs
@@ -38,12 +51,19 @@ same-length-3 c = search needs
 
 returns : tie.Need-returns
 returns c =
-    let a = c .before .before .before .before .before .before .before .before .before .before .before .before .before .args in
-    let p = c .before .before .before .before .before .before .before .before .before .before .before .before .before .pre in
-    let k = c .before .before .before .before .before .before .before .before .key-of .ensures in
-    let e = c .before .before .before .before .before .before .put-row .ensures in
-    let j = c .before .before .join .ensures in
-    (refl, e, index-appended (a .elements .now) (a .row .now) (a .n) (omega (arith, p .1, p .2)) (p .3) (a .index .now) (c .before .before .before .before .before .before .before .before .key-of .result) (p .4) (k .0) (k .1) (p .2) _ _ e j)
+    let j = c .before .before in
+    let w = stored j in
+    let k = keyed w in
+    let a = start k .args in
+    let p = start k .pre in
+    let e = w .put-row .ensures in
+    let q = k .key-of .ensures in
+    let fit : a .n * rowWidth + rowWidth ≤ length (a .elements .now) = omega (arith, p .elements, p .room) in
+    record {
+      count = refl;
+      stored = e;
+      index = index-appended (a .elements .now) (a .row .now) (a .n) fit (p .row) (a .index .now) (k .key-of .result) (p .index) (q .0) (q .1) (p .room) _ _ e (j .join .ensures);
+    }
 
 pub append-row-spec : {M : Type 1} → statement M
 append-row-spec =
