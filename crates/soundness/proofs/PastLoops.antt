@@ -7,7 +7,7 @@ use mathlib.Core.List.{List, [], _∷_}
 use native.Mathlib.Nat.{not-suc-le-zero, zero-lt-suc}
 use native.Mathlib.Omega.{arith}
 use lib.Bits.{bitOr}
-use lib.Dec.{eqb, ltb}
+use lib.Dec.{eqb, ltb, lit≤}
 use lib.ListN.{length, getD, take, drop, set, replicate, getD-replicate, length-set, length-drop}
 use lib.Seq.{getD-set-same, getD-set-other, getD-take, getD-drop, length-take-le}
 use borrow.Author.Tests.{lt-ltb, le-ltb, ltb-true, ltb-false}
@@ -15,6 +15,7 @@ use Rattle.rules.proofs.Growing.{all-get}
 use Rattle.rules.proofs.Laws.{eq-test, test-eq, unlike-eq, and-left, and-right, both-ways}
 use Rattle.space.proofs.NoBits.{no-bits}
 use Rattle.soundness.specs.Words.{blank}
+use Rattle.soundness.specs.Tests.{Kept}
 
 -- ---- the mask, made up to entry k
 
@@ -36,12 +37,12 @@ mask-go k l low fit m j h = go (ltb j k) refl
         ∙ sym (ap (λ (b : Bool). cond b 0 65535) (le-ltb j 32 (let q : 32 ≤ j = omega (arith, u, low) in q)))
 
 -- what an entry of the mask keeps of a word
-pub kept-is : (m w x k : ℕ) → m ≡ cond (ltb k 32) 0 65535 → (m ≡ 0 → x ≡ 0) × (m ≡ 65535 → x ≡ w) → x ≡ cond (ltb k 32) 0 w
+pub kept-is : (m w x k : ℕ) → m ≡ cond (ltb k 32) 0 65535 → Kept w m x → x ≡ cond (ltb k 32) 0 w
 kept-is m w x k e h = go (ltb k 32) e
   where
     go : (b : Bool) → m ≡ cond b 0 65535 → x ≡ cond b 0 w
-    go true e = h .0 e
-    go false e = h .1 e
+    go true e = h .nothing e
+    go false e = h .whole e
 
 -- ---- the room of a boundary
 
@@ -51,6 +52,7 @@ pastWord es at n j = cond (ltb (32 - n + j) 32) 0 (getD es (at + 4 + j) 0)
 
 -- up to place j such words have joined what was seen before
 pub record Joining (es : List ℕ) (at n : ℕ) (seen₀ seen : List ℕ) (j : ℕ) : Type 0 where
+  pub within : j ≤ 32
   pub long : length seen ≡ 32
   pub done : (k : ℕ) → k < j → getD seen k 0 ≡ bitOr (getD seen₀ k 0) (pastWord es at n k)
   pub still : (k : ℕ) → j ≤ k → getD seen k 0 ≡ getD seen₀ k 0
@@ -64,10 +66,11 @@ at-blank (x ∷ xs) h = ap₂ (λ (a b : Bool). a && b) (test-eq 0 x (sym (h 0 (
 
 module _ (es : List ℕ) (at n : ℕ) (seen₀ : List ℕ) where
   pub joining-start : length seen₀ ≡ 32 → Joining es at n seen₀ seen₀ 0
-  joining-start l = record { long = l; done = λ k h. absurd (not-suc-le-zero h); still = λ k h. refl }
+  joining-start l = record { within = lit≤ tt; long = l; done = λ k h. absurd (not-suc-le-zero h); still = λ k h. refl }
 
   pub joining-go : (seen : List ℕ) (j x : ℕ) → Joining es at n seen₀ seen j → j < 32 → x ≡ pastWord es at n j → Joining es at n seen₀ (set seen j (bitOr (getD seen j 0) x)) (j + 1)
   joining-go seen j x J h e = record {
+    within = let z : j + 1 ≤ 32 = omega (arith, h) in z;
     long = length-set seen j (bitOr (getD seen j 0) x) ∙ J .long;
     done = λ k l. go k l (eqb k j) refl;
     still = λ k l. getD-set-other seen j k (bitOr (getD seen j 0) x) 0 (λ q. let z : ⊥ = omega (arith, q, l) in z) ∙ J .still k (let z : j ≤ k = omega (arith, l) in z);

@@ -161,7 +161,10 @@ module _ (t : Table) (es : List ℕ) (n : ℕ) (long : length es ≡ 18432) (fit
         let K′ = all (λ x. eqb (suc (getD es (x * 36) 0)) r) b in
         let G = ltb r (length b) in
         and-when (rises b && A && K && G) (closed t r b) (closedRaw d es r b)
-        (λ p. closed-same e le r b (and-left (rises b) A (and-left (rises b && A) K (and-left (rises b && A && K) G p))) (and-right (rises b) A (and-left (rises b && A) K (and-left (rises b && A && K) G p))) (and-right (rises b && A) K (and-left (rises b && A && K) G p)))
+        (λ p.
+        let ranked = and-left (rises b && A && K) G p in
+        let early = and-left (rises b && A) K ranked in
+        closed-same e le r b (and-left (rises b) A early) (and-right (rises b) A early) (and-right (rises b && A) K ranked))
         ∙ ap (λ (c : Bool). (c && G) && closedRaw d es r b)
         (and-when (rises b && A) K K′
         (λ p. all-under (λ x. ltb x e) (λ x. eqb (suc (rank t x)) r) (λ x. eqb (suc (getD es (x * 36) 0)) r) (λ x lx. ap (λ (k : ℕ). eqb (suc k) r) (rank-at x (le-trans (ltb-true x e lx) le))) b (and-right (rises b) A p)))
@@ -221,7 +224,8 @@ module _ (t : Table) (es : List ℕ) (n : ℕ) (long : length es ≡ 18432) (fit
 
   table-two : allFrom 0 (soundElement t) (t .elements) ≡ true → Two
   table-two a x l =
-      element-two (0 + x) (element t x) (all-from (soundElement t) (t .elements) 0 x (corner 0) a (let e = ap length is ∙ length-map (rows n 36 es) readElement ∙ rows-length n 36 es in let q : x < length (t .elements) = omega (arith, e, l) in q))
+      let e = ap length is ∙ length-map (rows n 36 es) readElement ∙ rows-length n 36 es in
+      element-two (0 + x) (element t x) (all-from (soundElement t) (t .elements) 0 x (corner 0) a (let q : x < length (t .elements) = omega (arith, e, l) in q))
 
   -- the entry of an edge's row
   plain-read : (r : List ℕ) → getD r 0 0 ≡ 1 → planeNamed (getD r 2 0) ≡ none → eqb (getD r 1 0) 1 ≡ false → Plain (readElement r)
@@ -241,7 +245,8 @@ module _ (t : Table) (es : List ℕ) (n : ℕ) (long : length es ≡ 18432) (fit
       let b = boundaryIn r in
       let B = rises b && all (λ x. ltb x k) b && all (λ x. eqb (suc (getD es (x * 36) 0)) a) b && ltb a (length b) in
       let F = facetWords (t .dimension) h a (getD r 2 0) (getD r 1 0) in
-      let s′ : (leb a (t .dimension) && (B && closedRaw d es a b) && F) ≡ true = ap (λ (c : Bool). if c then true else (leb a (t .dimension) && (B && closedRaw d es a b) && F)) (sym (not-eq a 0 (λ z. let y : ⊥ = omega (arith, z, q) in y))) ∙ s in
+      let W = leb a (t .dimension) && (B && closedRaw d es a b) && F in
+      let s′ : W ≡ true = ap (λ (c : Bool). if c then true else W) (sym (not-eq a 0 (λ z. let y : ⊥ = omega (arith, z, q) in y))) ∙ s in
       let w = and-right (leb a (t .dimension)) (B && closedRaw d es a b) (and-left (leb a (t .dimension) && (B && closedRaw d es a b)) F s′) in
       let A = all (λ x. ltb x k) b in
       let K = all (λ x. eqb (suc (getD es (x * 36) 0)) a) b in (

@@ -54,7 +54,8 @@ module _ (L : Limits) (d : ℕ) (low : d ≤ L .dimensions) where
       && all (soundPoint d) (map (take d) (rows v (L .dimensions) ps))) ≡ pointsSound L d v ps
   unfolding pointsSound
   points-same v ps h e =
-      ap₂ (λ (l : List (List Float)) (b : Bool). alike sameBits (pad plusZero (L .vertices * L .dimensions) (joined l)) ps && b) (map-map (pad plusZero (L .dimensions)) (take d) (rows v (L .dimensions) ps)) (all-map (soundPoint d) (take d) (rows v (L .dimensions) ps))
+      ap₂ (λ (l : List (List Float)) (b : Bool). alike sameBits (pad plusZero (L .vertices * L .dimensions) (joined l)) ps && b)
+      (map-map (pad plusZero (L .dimensions)) (take d) (rows v (L .dimensions) ps)) (all-map (soundPoint d) (take d) (rows v (L .dimensions) ps))
       ∙ rows-tested sameBits (λ r. pad plusZero (L .dimensions) (take d r)) (λ r. soundPoint d (take d r)) (pointWords d) plusZero (L .dimensions) v (L .vertices) ps
       (λ r k. length-padded plusZero (L .dimensions) (take d r) (le-trans (le-of-eq (length-take-le d r (le-trans low (le-of-eq (sym k))))) low)) point-row h e
 
@@ -93,7 +94,8 @@ module _ (L : Limits) (d : ℕ) (low : d ≤ L .dimensions) where
       && all (soundPlane d) (map (readPlane L d) (rows h (planeWidth L) hs))) ≡ planesSound L d h hs
   unfolding planesSound
   planes-same h hs l e =
-      ap₂ (λ (l : List (List Float)) (b : Bool). alike sameBits (pad plusZero (L .hyperplanes * planeWidth L) (joined l)) hs && b) (map-map (planeRow L) (readPlane L d) (rows h (planeWidth L) hs)) (all-map (soundPlane d) (readPlane L d) (rows h (planeWidth L) hs))
+      ap₂ (λ (l : List (List Float)) (b : Bool). alike sameBits (pad plusZero (L .hyperplanes * planeWidth L) (joined l)) hs && b)
+      (map-map (planeRow L) (readPlane L d) (rows h (planeWidth L) hs)) (all-map (soundPlane d) (readPlane L d) (rows h (planeWidth L) hs))
       ∙ rows-tested sameBits (λ r. planeRow L (readPlane L d r)) (λ r. soundPlane d (readPlane L d r)) (planeWords L d) plusZero (planeWidth L) h (L .hyperplanes) hs plane-long plane-row l e
 
 -- ---- corners
@@ -229,7 +231,8 @@ module _ (L : Limits) (some-room : 1 ≤ L .boundary) where
   records-same n es h e =
       ap (λ (l : List (List ℕ)). alike eqb (pad 0 (L .elements * elementWidth L) (joined l)) es) (map-map (elementWords L) readElement (rows n (elementWidth L) es))
       ∙ laid-alike eqb (λ r. elementWords L (readElement r)) 0 (elementWidth L) record-long n (L .elements) es h e
-      ∙ ap (λ (b : Bool). b && blank (drop (n * elementWidth L) es)) (all-same (elementWidth L) (λ r. alike eqb (elementWords L (readElement r)) r) (recordWords L) record-row (rows n (elementWidth L) es) (rows-wide (elementWidth L) n (L .elements) es h e))
+      ∙ ap (λ (b : Bool). b && blank (drop (n * elementWidth L) es))
+      (all-same (elementWidth L) (λ r. alike eqb (elementWords L (readElement r)) r) (recordWords L) record-row (rows n (elementWidth L) es) (rows-wide (elementWidth L) n (L .elements) es h e))
 
   pub records-own : (rs : List (List ℕ)) → Wide (elementWidth L) rs → all (recordWords L) rs ≡ true → Own L rs
   records-own [] w h = tt

@@ -51,7 +51,10 @@ both S A1 A2 A3 A4 F B2 B3 B4 B5 B6 B7 C P H E O R D a1 c p h e o r dd =
     let f = and-left F B2 (and-left (F && B2) B3 y₄) in
     let cc : C ≡ true = sym c ∙ and-true F B4 f b4 in
     let ee : E ≡ true = sym (e s cc) ∙ a4 in
-    and-true _ _ (and-true _ _ (and-true _ _ (and-true _ _ (and-true _ _ (and-true _ _ (and-true S C s cc) (sym (p s cc) ∙ and-true A2 B2 a2 b2)) (sym (h s cc) ∙ and-true A3 B3 a3 b3)) ee) (sym o ∙ b5)) (sym (r s cc b7) ∙ b6)) (sym (dd s cc ee) ∙ b7))
+    let points = and-true _ _ (and-true S C s cc) (sym (p s cc) ∙ and-true A2 B2 a2 b2) in
+    let planes = and-true _ _ points (sym (h s cc) ∙ and-true A3 B3 a3 b3) in
+    let named = and-true _ _ (and-true _ _ planes ee) (sym o ∙ b5) in
+    and-true _ _ (and-true _ _ named (sym (r s cc b7) ∙ b6)) (sym (dd s cc ee) ∙ b7))
     (λ k.
     let d₁ = and-right ((((((S && C) && P) && H) && E) && O) && R) D k in
     let k₁ = and-left ((((((S && C) && P) && H) && E) && O) && R) D k in
@@ -73,6 +76,32 @@ both S A1 A2 A3 A4 F B2 B3 B4 B5 B6 B7 C P H E O R D a1 c p h e o r dd =
     and-true _ _
     (and-true S _ s (and-true _ A4 (and-true _ A3 (and-true A1 A2 (a1 s cc) (and-left A2 B2 pp)) (and-left A3 B3 hh)) (e s cc ∙ e₁)))
     (and-true _ B7 (and-true _ B6 (and-true _ B5 (and-true _ B4 (and-true _ B3 (and-true F B2 (and-left F B4 fb) (and-right A2 B2 pp)) (and-right A3 B3 hh)) (and-right F B4 fb)) (o ∙ o₁)) (r s cc b7 ∙ r₁)) b7))
+
+-- the counts that fit
+pub record CountsLow (d n v h : ℕ) : Type 0 where
+  pub dimension : d ≤ 4
+  pub vertices : v ≤ 256
+  pub elements : n ≤ 512
+  pub hyperplanes : h ≤ 64
+
+pub fit-counts : (d n v h : ℕ) → countsFit desk d n v h ≡ true → CountsLow d n v h
+unfolding countsFit
+fit-counts d n v h k =
+    let a = leb 1 d in
+    let b = leb d 4 in
+    let c = leb v 256 in
+    let e = leb n 512 in
+    let f = leb h 64 in
+    let k₁ = and-left (a && b && c && e && f) (leb (primordials d) h) k in
+    let k₂ = and-left (a && b && c && e) f k₁ in
+    let k₃ = and-left (a && b && c) e k₂ in
+    let k₄ = and-left (a && b) c k₃ in
+    record {
+      dimension = le-test d 4 (and-right a b k₄);
+      vertices = le-test v 256 (and-right (a && b) c k₃);
+      elements = le-test n 512 (and-right (a && b && c) e k₂);
+      hyperplanes = le-test h 64 (and-right (a && b && c && e) f k₁);
+    }
 
 -- four counts are written again
 counts-back : (cs : List ℕ) (n v h : ℕ) → length cs ≡ 4 → n ≡ getD cs 1 0 → v ≡ getD cs 2 0 → h ≡ getD cs 3 0 → alike eqb (getD cs 0 0 ∷ n ∷ v ∷ h ∷ []) cs ≡ true
@@ -148,25 +177,8 @@ module _ (cs : List ℕ) (ps hs : List Float) (es : List ℕ) where
   nh : length H ≡ h
   nh = length-map (rows h 5 hs) (readPlane desk d) ∙ rows-length h 5 hs
 
-  record Counts : Type 0 where
-    d₄ : d ≤ 4
-    v₂ : v ≤ 256
-    n₅ : n ≤ 512
-    h₆ : h ≤ 64
-
-  counts : C ≡ true → Counts
-  unfolding countsFit
-  counts k =
-      let a = leb 1 d in
-      let b = leb d 4 in
-      let c = leb v 256 in
-      let e = leb n 512 in
-      let f = leb h 64 in
-      let k₁ = and-left (a && b && c && e && f) (leb (primordials d) h) k in
-      let k₂ = and-left (a && b && c && e) f k₁ in
-      let k₃ = and-left (a && b && c) e k₂ in
-      let k₄ = and-left (a && b) c k₃ in
-      record { d₄ = le-test d 4 (and-right a b k₄); v₂ = le-test v 256 (and-right (a && b) c k₃); n₅ = le-test n 512 (and-right (a && b && c) e k₂); h₆ = le-test h 64 (and-right (a && b && c && e) f k₁) }
+  low : C ≡ true → CountsLow d n v h
+  low = fit-counts d n v h
 
   room : (roomFits desk t && leb (primordials d) (length H)) ≡ C
   unfolding roomFits countsFit
@@ -186,9 +198,10 @@ module _ (cs : List ℕ) (ps hs : List Float) (es : List ℕ) where
       C (pointsSound desk d v ps) (planesSound desk d h hs) (recordsSound desk n es) (cornersSound desk n v es) (elementsSound desk d n h es) (rowsDistinct desk n es)
       (λ s k. counts-back cs (length E) (length P) (length H) (size-known cs ps hs es s .0) ne np nh)
       room
-      (λ s k. points-same desk d (counts k .d₄) v ps (counts k .v₂) (size-known cs ps hs es s .1))
-      (λ s k. planes-same desk d (counts k .d₄) h hs (counts k .h₆) (size-known cs ps hs es s .2))
-      (λ s k. records-same desk (lit≤ tt) n es (counts k .n₅) (size-known cs ps hs es s .3))
+      (λ s k. points-same desk d (low k .dimension) v ps (low k .vertices) (size-known cs ps hs es s .1))
+      (λ s k. planes-same desk d (low k .dimension) h hs (low k .hyperplanes) (size-known cs ps hs es s .2))
+      (λ s k. records-same desk (lit≤ tt) n es (low k .elements) (size-known cs ps hs es s .3))
       (ap (λ (j : ℕ). alike eqb (map vertexOf (keep isCorner E)) (upTo j)) np ∙ order-same (rows n 36 es) 0 v v (let q : 0 + v ≡ v = omega arith in q))
-      (λ s k u. elements-same t es n (size-known cs ps hs es s .3) (counts k .n₅) refl h nh (counts k .h₆) u)
-      (λ s k r. distinct-same desk (rows n 36 es) (records-own desk (lit≤ tt) (rows n 36 es) (rows-wide 36 n 512 es (counts k .n₅) (size-known cs ps hs es s .3)) (and-left (all (recordWords desk) (rows n 36 es)) (blank (drop (n * 36) es)) r)))
+      (λ s k u. elements-same t es n (size-known cs ps hs es s .3) (low k .elements) refl h nh (low k .hyperplanes) u)
+      (λ s k r. distinct-same desk (rows n 36 es) (records-own desk (lit≤ tt) (rows n 36 es) (rows-wide 36 n 512 es (low k .elements) (size-known cs ps hs es s .3))
+      (and-left (all (recordWords desk) (rows n 36 es)) (blank (drop (n * 36) es)) r)))

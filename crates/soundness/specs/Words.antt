@@ -58,7 +58,7 @@ unfoldable pub pastBlank : List ℕ → Bool
 pastBlank row = blank (drop (getD row 3 0) (drop 4 row))
 
 -- what stands there has joined what was seen before
-pub record Gathered (row before after : List ℕ) : Type 0 where
+pub record PastSeen (row before after : List ℕ) : Type 0 where
   pub clear : blank after ≡ (blank before && pastBlank row)
   pub long : length after ≡ 32
 
