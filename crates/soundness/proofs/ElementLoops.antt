@@ -9,7 +9,7 @@ use Rattle.rules.specs.Limits.{desk}
 use Rattle.rules.specs.Lists.{all, rows}
 use Rattle.rules.specs.Memory.{soundMemory, rightSize}
 use Rattle.rules.specs.Held.{memoryOf}
-use Rattle.soundness.specs.Words.{recordsSound, recordWords, blank, elementsSound, rowsInUse, countsFit, pointsSound, planesSound, floatsSound, cornersSound, rowsDistinct, rowsSound, wordsSound}
+use Rattle.soundness.specs.Words.{recordsSound, recordWords, blankWords, elementsSound, rowsInUse, countsFit, pointsSound, planesSound, floatsSound, cornersSound, rowsDistinct, rowsSound, wordsSound}
 use Rattle.soundness.proofs.ReadBack.{and-one, and-zero}
 use Rattle.soundness.proofs.SoundWhole.{words-memory}
 
@@ -19,10 +19,10 @@ pub floats-are : (d v h : ℕ) (ps hs : List Float) (a b : Bool) → pointsSound
 unfolding floatsSound
 floats-are d v h ps hs a b p q = sym (λ i. p i && q i)
 
-pub rows-both : (d n v h : ℕ) (es : List ℕ) (a b : Bool) → (rowsInUse desk d n v h es && rowsDistinct desk n es) ≡ a → blank (drop (n * 36) es) ≡ b → (a && b) ≡ rowsSound desk d n v h es
+pub rows-both : (d n v h : ℕ) (es : List ℕ) (a b : Bool) → (rowsInUse desk d n v h es && rowsDistinct desk n es) ≡ a → blankWords (drop (n * 36) es) ≡ b → (a && b) ≡ rowsSound desk d n v h es
 unfolding rowsSound recordsSound
 rows-both d n v h es a b p q =
-    sym (moved (all (recordWords desk) (rows n 36 es)) (blank (drop (n * 36) es)) (cornersSound desk n v es) (elementsSound desk d n h es) (rowsDistinct desk n es) ∙ (λ i. p i && q i))
+    sym (moved (all (recordWords desk) (rows n 36 es)) (blankWords (drop (n * 36) es)) (cornersSound desk n v es) (elementsSound desk d n h es) (rowsDistinct desk n es) ∙ (λ i. p i && q i))
   where
     moved : (w z k e c : Bool) → ((w && z) && k && e && c) ≡ (((w && k && e) && c) && z)
     moved false z k e c = refl

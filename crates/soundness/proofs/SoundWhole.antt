@@ -3,7 +3,6 @@ use Prim.Native.Nat.{ℕ, _≤_, zero, suc, _+_, _*_}
 use mathlib.Core.Bool.{Bool, true, _&&_, false}
 use mathlib.Core.List.{List, _∷_, [], map}
 use mathlib.Core.Path.{_≡_, sym, _∙_, refl, ap}
-use native.Mathlib.Nat.{le-refl}
 use native.Mathlib.Omega.{arith}
 use lib.Dec.{eqb, leb, lit≤}
 use lib.Ieee.{Float}
@@ -16,8 +15,8 @@ use Rattle.rules.specs.Memory.{readElement, planeNamed, Memory, readPlane, soun
 use Rattle.rules.specs.Sound.{roomFits, sound, cornersInOrder, soundPoint, soundPlane, soundElement}
 use Rattle.rules.specs.Table.{boundaryOf, Element, corner, polytope, Plane, Table, primordials, sameElement, vertexOf, isCorner}
 use Rattle.rules.proofs.Laws.{and-left, and-right, and-true, eqb-self, test-eq, test-le, le-test, both-ways}
-use Rattle.soundness.specs.Words.{countsFit, wordsSound, cornersSound, rowsDistinct, recordsSound, pointsSound, planesSound, elementsSound, recordWords, blank}
-use Rattle.soundness.proofs.ReadBack.{rows-length, and-one, rows-wide}
+use Rattle.soundness.specs.Words.{countsFit, wordsSound, cornersSound, rowsDistinct, recordsSound, pointsSound, planesSound, elementsSound, recordWords, blankWords}
+use Rattle.soundness.proofs.ReadBack.{take-short, take-few, rows-length, and-one, rows-wide}
 use Rattle.space.proofs.Sizes.{size-known}
 use Rattle.soundness.proofs.SoundElements.{elements-same}
 use Rattle.soundness.proofs.SoundLines.{points-same, planes-same, records-same, order-same, distinct-same, records-own}
@@ -113,11 +112,6 @@ counts-back (a ∷ b ∷ c ∷ d ∷ []) n v h e p q r = and-true _ _ (eqb-self 
 counts-back (a ∷ b ∷ c ∷ d ∷ x ∷ l) n v h e p q r = absurd (let z : ⊥ = omega (arith, e) in z)
 
 -- a row's boundary is never wider than the row
-short : {A : Type 0} (n : ℕ) (l : List A) → (length (take n l) ≤ length l) × (length (take n l) ≤ n)
-short zero l = (let z : 0 ≤ length l = omega arith in z, le-refl 0)
-short (suc n) [] = (le-refl 0, let z : 0 ≤ suc n = omega arith in z)
-short (suc n) (y ∷ l) = let q = short n l in let a = q .0 in let b = q .1 in (let z : suc (length (take n l)) ≤ suc (length l) = omega (arith, a) in z, let z : suc (length (take n l)) ≤ suc n = omega (arith, b) in z)
-
 narrow : (n : ℕ) (l : List ℕ) → all (λ e. leb (length (boundaryOf e)) 32) (map readElement (rows n 36 l)) ≡ true
 unfolding readElement
 narrow zero l = refl
@@ -129,9 +123,9 @@ narrow (suc n) l = and-true _ _ (test-le _ 32 (go (eqb (getD r 0 0) 0))) (narrow
     go : (b : Bool) → length (boundaryOf (if b then corner (getD r 4 0) else polytope (getD r 0 0) (take (getD r 3 0) (drop 4 r)) (planeNamed (getD r 2 0)) (eqb (getD r 1 0) 1))) ≤ 32
     go true = let z : 0 ≤ 32 = omega arith in z
     go false =
-        let a = short (getD r 3 0) (drop 4 r) .0 in
+        let a = take-short (getD r 3 0) (drop 4 r) in
         let k = length-drop 4 r in
-        let b = short 36 l .1 in
+        let b = take-few 36 l in
         let z : length (take (getD r 3 0) (drop 4 r)) ≤ 32 = omega (arith, a, k, b) in z
 
 module _ (cs : List ℕ) (ps hs : List Float) (es : List ℕ) where
@@ -204,4 +198,4 @@ module _ (cs : List ℕ) (ps hs : List Float) (es : List ℕ) where
       (ap (λ (j : ℕ). alike eqb (map vertexOf (keep isCorner E)) (upTo j)) np ∙ order-same (rows n 36 es) 0 v v (let q : 0 + v ≡ v = omega arith in q))
       (λ s k u. elements-same t es n (size-known cs ps hs es s .3) (low k .elements) refl h nh (low k .hyperplanes) u)
       (λ s k r. distinct-same desk (rows n 36 es) (records-own desk (lit≤ tt) (rows n 36 es) (rows-wide 36 n 512 es (low k .elements) (size-known cs ps hs es s .3))
-      (and-left (all (recordWords desk) (rows n 36 es)) (blank (drop (n * 36) es)) r)))
+      (and-left (all (recordWords desk) (rows n 36 es)) (blankWords (drop (n * 36) es)) r)))

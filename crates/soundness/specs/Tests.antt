@@ -53,8 +53,8 @@ pub record CornerTested (es : List ℕ) (at k : ℕ) (reply : Bool) (seen seen�
 
 -- the row of element e is there
 pub record RowThere (es : List ℕ) (e : ℕ) (past seen : List ℕ) : Type 0 where
-  pub whole : length es ≡ 18432
-  pub room : e < 512
+  pub long : length es ≡ 18432
+  pub inRoom : e < 512
   pub mask : Mask past
   pub places : length seen ≡ 32
 
@@ -84,14 +84,14 @@ pub record RowTested (test : Bool) (es : List ℕ) (e : ℕ) (reply : Bool) (met
 
 -- the first n rows are there, and the index is empty
 pub record RowsReady (es : List ℕ) (n : ℕ) (index : List ℕ) : Type 0 where
-  pub whole : length es ≡ 18432
-  pub room : n ≤ 512
+  pub long : length es ≡ 18432
+  pub fits : n ≤ 512
   pub empty : Indexed es 0 index
 
 -- row i is there, and the rows before it are in the index
 pub record NewReady (es : List ℕ) (i : ℕ) (index : List ℕ) : Type 0 where
-  pub whole : length es ≡ 18432
-  pub room : i < 512
+  pub long : length es ≡ 18432
+  pub inRoom : i < 512
   pub earlier : Indexed es i index
 
 -- a new row joins the index, and any other leaves it as it is

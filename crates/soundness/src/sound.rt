@@ -24,7 +24,7 @@ ghost use Rattle.rules.specs.Memory.{soundMemory};
 ghost use Rattle.rules.specs.Held.{memoryOf};
 ghost use Rattle.rules.specs.Replies.{isSoundReply};
 ghost use Rattle.space.specs.Chains.{Indexed, rowAt};
-ghost use Rattle.soundness.specs.Words.{blank, countsFit, Mask, PastSeen, facetWords, polytopeWords, rowSound, rowsInUse, rowsDistinct, rowsSound};
+ghost use Rattle.soundness.specs.Words.{blankWords, countsFit, Mask, PastSeen, facetWords, polytopeWords, rowSound, rowsInUse, rowsDistinct, rowsSound};
 ghost use Rattle.soundness.specs.Tests.{PartOf, Kept, MovesOn, PastReady, CornerReady, CornerTested, RowThere, EdgeTested};
 ghost use Rattle.soundness.specs.Tests.{RowReady, HigherReady, RowTested, RowsReady, RowsTested, MemoryTested};
 
@@ -62,7 +62,7 @@ fn counts_fit(d: usize, n: usize, v: usize, h: usize) -> bool
 // Unused words are zero. Their bits are gathered to the end whatever is met, so that many words are read at once.
 fn blank_words(list: &[u16], from: usize, to: usize) -> bool
     requires { ⌜ PartOf from to (length (now list)) ⌝ }
-    ensures { λ r. ⌜ r ≡ blank (drop from (take to (now (list .entry)))) ⌝ }
+    ensures { λ r. ⌜ r ≡ blankWords (drop from (take to (now (list .entry)))) ⌝ }
 {
     let mut seen = 0u16;
     for i in from..to {

@@ -31,7 +31,7 @@ mul-at c = search needs
 find-row-requires : tie.Need-find-row-requires
 find-row-requires c κs =
     let p = c .before .before .before .before .pre in
-    (p .whole, omega (arith, p .room), omega (arith, p .room, p .whole), p .earlier)
+    (p .long, omega (arith, p .inRoom), omega (arith, p .inRoom, p .long), p .earlier)
 
 enum-told : tie.Need-enum-told
 enum-told c = search needs
@@ -42,12 +42,12 @@ enum-told-2 c = search needs
 key-of-requires : tie.Need-key-of-requires
 key-of-requires c κs =
     let p = start (c .before .before) .pre in
-    omega (arith, p .room, p .whole)
+    omega (arith, p .inRoom, p .long)
 
 join-requires : tie.Need-join-requires
 join-requires c κs =
     let p = start (missed (c .before)) .pre in
-    (p .earlier .long, c .before .key-of .ensures .1, p .room)
+    (p .earlier .long, c .before .key-of .ensures .1, p .inRoom)
 
 same-length : tie.Need-same-length
 same-length c = search needs
@@ -78,7 +78,7 @@ returns-2 c =
       told = row-unmet (a .elements .now) (a .e .0) (ap elementNumber (sym (k .before .enum-told2 .given .1)) ∙ f .find-row .ensures);
       indexed = λ t.
           subst (λ (l : List ℕ). Indexed (a .elements .now) (a .e .0 + 1) l) (sym after)
-          (index-joined (a .elements .now) (a .e .0) (a .index .now) (k .key-of .result) (p .earlier) (key .0) (key .1) (p .room));
+          (index-joined (a .elements .now) (a .e .0) (a .index .now) (k .key-of .result) (p .earlier) (key .0) (key .1) (p .inRoom));
       joins = λ t. after ∙ ap (λ (m : ℕ). joined (a .index .now) m (a .e .0)) (key .0);
       stays = λ t. absurd (false≢true (sym t));
     }

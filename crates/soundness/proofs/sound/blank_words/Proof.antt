@@ -5,7 +5,7 @@ use mathlib.Core.Bool.{_&&_}
 use mathlib.Core.List.{List}
 use lib.Dec.{eqb}
 use lib.ListN.{getD, drop, take}
-use Rattle.soundness.specs.Words.{blank}
+use Rattle.soundness.specs.Words.{blankWords}
 use Rattle.soundness.proofs.Unseen.{eq-turned, unseen-go, unseen-end}
 use borrow.Author.Needs.{needs}
 use Rattle.soundness.proofs.sound.blank_words.Statement.{statement}
@@ -13,7 +13,7 @@ use Rattle.soundness.proofs.sound.blank_words.Tie as tie
 
 pub record Seen (list : List ℕ) (from to seen i : ℕ) : Type 0 where
   pub within : i ≤ to
-  pub same : blank (drop from (take to list)) ≡ (eqb seen 0 && blank (drop i (take to list)))
+  pub same : blankWords (drop from (take to list)) ≡ (eqb seen 0 && blankWords (drop i (take to list)))
 
 abbrev Inv-loop : tie.InvT-loop
 Inv-loop list from to seen₀ i₀ seen i = Seen list from to seen i

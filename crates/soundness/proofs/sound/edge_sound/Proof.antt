@@ -31,14 +31,14 @@ returns c =
     let begun = c .before .before .before .before in
     let a = begun .args in
     record {
-      told = λ d. edge-open (a .elements .now) d (a .e .0) _ refl (begun .pre .whole) (begun .pre .room) (c .if1 .taken);
+      told = λ d. edge-open (a .elements .now) d (a .e .0) _ refl (begun .pre .long) (begun .pre .inRoom) (c .if1 .taken);
       past = λ t. absurd (false≢true t);
     }
 
 gather-past-requires : tie.Need-gather-past-requires
 gather-past-requires c κs =
     let p = start (c .before) .pre in
-    record { row = omega (arith, p .whole, p .room); count = sym (c .before .if1 .left); fits = search needs; mask = p .mask; places = p .places }
+    record { row = omega (arith, p .long, p .inRoom); count = sym (c .before .if1 .left); fits = search needs; mask = p .mask; places = p .places }
 
 add-numbers-fit : tie.Need-add-numbers-fit
 add-numbers-fit c = search needs
@@ -52,7 +52,7 @@ add-numbers-fit-3 c = search needs
 numbers-fit-requires : tie.Need-numbers-fit-requires
 numbers-fit-requires c κs =
     let p = start (two c) .pre in
-    (omega arith, omega (arith, p .whole, p .room), p .whole, omega (arith, p .room))
+    (omega arith, omega (arith, p .long, p .inRoom), p .long, omega (arith, p .inRoom))
 
 returns-2 : tie.Need-returns-2
 returns-2 c =
@@ -61,7 +61,7 @@ returns-2 c =
     let a = start n .args in
     let p = start n .pre in
     record {
-      told = λ d. edge-two (a .elements .now) d (a .e .0) _ refl (p .whole) (p .room) (n .if1 .left) (c .numbers-fit .ensures);
+      told = λ d. edge-two (a .elements .now) d (a .e .0) _ refl (p .long) (p .inRoom) (n .if1 .left) (c .numbers-fit .ensures);
       past = λ t. g .gather-past .ensures;
     }
 

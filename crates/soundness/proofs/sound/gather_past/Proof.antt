@@ -3,7 +3,7 @@ use Prim.Native.Nat.{ℕ, _+_, _-_}
 use mathlib.Core.Bool.{Bool, _&&_}
 use mathlib.Core.Path.{sym, ap, _∙_}
 use lib.ListN.{getD, take, drop}
-use Rattle.soundness.specs.Words.{blank}
+use Rattle.soundness.specs.Words.{blankWords}
 use Rattle.soundness.proofs.PastLoops.{Joining, kept-is, joining-start, joining-go, joining-end}
 use Rattle.soundness.proofs.RowLoops.{past-is}
 use borrow.Author.Needs.{needs}
@@ -87,8 +87,8 @@ returns c =
     let at = c .before .loop in
     record {
       clear = joining-end (a .elements .now) (a .at) (a .n) (a .seen .now) (p .fits) (p .row) (p .places) (at .seen) (at .j) (at .inv) (search needs)
-          ∙ ap (λ (m : ℕ). blank (a .seen .now) && blank (drop (a .at + 4 + m) (take (a .at + 36) (a .elements .now)))) (p .count)
-          ∙ ap (λ (b : Bool). blank (a .seen .now) && b) (sym (past-is (a .at) (a .elements .now)));
+          ∙ ap (λ (m : ℕ). blankWords (a .seen .now) && blankWords (drop (a .at + 4 + m) (take (a .at + 36) (a .elements .now)))) (p .count)
+          ∙ ap (λ (b : Bool). blankWords (a .seen .now) && b) (sym (past-is (a .at) (a .elements .now)));
       long = at .inv .long;
     }
 

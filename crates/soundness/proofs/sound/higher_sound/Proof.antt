@@ -42,7 +42,7 @@ gather-past-requires : tie.Need-gather-past-requires
 gather-past-requires c κs =
     let f = c .before in
     let p = start f .pre .ready .there in
-    record { row = omega (arith, p .whole, p .room); count = f .before .wide .ensures .0; fits = f .if1 .left; mask = p .mask; places = p .places }
+    record { row = omega (arith, p .long, p .inRoom); count = f .before .wide .ensures .0; fits = f .if1 .left; mask = p .mask; places = p .places }
 
 add-boundary-sound : tie.Need-add-boundary-sound
 add-boundary-sound c = search needs
@@ -52,7 +52,7 @@ boundary-sound-requires c κs =
     let f = counted (c .before) in
     let p = start f .pre in
     let r = p .ready in
-    (r .there .whole, omega (arith, r .there .room, f .if1 .left), f .if1 .left, r .there .room, p .no-edge, r .edges, r .unmet)
+    (r .there .long, omega (arith, r .there .inRoom, f .if1 .left), f .if1 .left, r .there .inRoom, p .no-edge, r .edges, r .unmet)
 
 returns-2 : tie.Need-returns-2
 returns-2 c =

@@ -147,7 +147,7 @@ rows-sound-requires c κs =
     let s = sized (first (second (third (fitted f)))) in
     let long = size-known _ _ _ _ (sym (s .before .right-size .ensures) ∙ not-false _ (s .if1 .left)) in
     let fits = fit-counts _ _ _ _ (sym (f .before .counts-fit .ensures) ∙ not-false _ (f .if2 .left)) in
-    record { whole = long .3; room = fits .elements; empty = start (s .before) .pre }
+    record { long = long .3; fits = fits .elements; empty = start (s .before) .pre }
 
 same-length : tie.Need-same-length
 same-length c = search needs

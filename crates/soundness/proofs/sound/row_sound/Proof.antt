@@ -43,7 +43,7 @@ corner-sound-requires : tie.Need-corner-sound-requires
 corner-sound-requires c κs =
     let f = c .before in
     let p = named f .pre .there in
-    record { row = omega (arith, p .whole, p .room); corner = sym (f .before .wide .ensures .0) ∙ f .if1 .taken; mask = p .mask; places = p .places }
+    record { row = omega (arith, p .long, p .inRoom); corner = sym (f .before .wide .ensures .0) ∙ f .if1 .taken; mask = p .mask; places = p .places }
 
 returns : tie.Need-returns
 returns c =

@@ -5,7 +5,7 @@ use mathlib.Core.Bool.{false, true, false≢true}
 use Rattle.rules.proofs.Laws.{not-true, not-false}
 use Rattle.soundness.proofs.ElementLoops.{rows-both}
 use Rattle.soundness.proofs.RowLoops.{whole-room}
-use Rattle.soundness.specs.Words.{blank}
+use Rattle.soundness.specs.Words.{blankWords}
 use borrow.Author.Needs.{needs}
 use Rattle.soundness.proofs.sound.rows_along.Statement.{statement}
 use Rattle.soundness.proofs.sound.rows_along.Tie as tie
@@ -49,7 +49,7 @@ returns-2 c =
     let yes = not-false _ (c .before .if1 .left) in
     record {
       told = rows-both (a .d) (a .n) (a .v) (a .h) (a .elements .now) true _ (sym (u .rows-in-use .ensures .told) ∙ yes)
-          (sym (c .blank-words .ensures ∙ whole-room blank (a .n * 36) 18432 (a .elements .now) (start u .pre .whole)));
+          (sym (c .blank-words .ensures ∙ whole-room blankWords (a .n * 36) 18432 (a .elements .now) (start u .pre .long)));
       indexed = λ t. u .rows-in-use .ensures .indexed yes;
       read = u .rows-in-use .ensures .read;
     }

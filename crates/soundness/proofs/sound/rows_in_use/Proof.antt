@@ -1,4 +1,4 @@
--- What is asked of the rows that are left, with `k` as the vertex that is to be named next, is what is asked of all, where nothing is seen past a boundary so far; and the rows so far are in the index, no two of them equal.
+-- What is asked of the rows that are rowsLeft, with `k` as the vertex that is to be named next, is what is asked of all, where nothing is seen past a boundary so far; and the rows so far are in the index, no two of them equal.
 use Prim.Native.Nat.{ℕ, _-_, _≤_}
 use mathlib.Core.Bool.{_&&_, true, false≢true}
 use mathlib.Core.List.{List}
@@ -11,13 +11,13 @@ use Rattle.space.specs.Chains.{Indexed}
 use Rattle.space.specs.Closed.{Unmet}
 use Rattle.space.proofs.Indexing.{index-count}
 use Rattle.space.proofs.Meetings.{unmet-new}
-use Rattle.soundness.specs.Words.{blank, Mask, stampOf, rowsInUse, EdgesLow}
+use Rattle.soundness.specs.Words.{blankWords, Mask, stampOf, rowsInUse, EdgesLow}
 use Rattle.soundness.specs.Tests.{rowsRead, withRows}
 use Rattle.soundness.proofs.BoundaryLoops.{edges-none, edges-on}
 use Rattle.soundness.proofs.Distinct.{apart, apart-go, apart-no, apart-is}
 use Rattle.soundness.proofs.RowLoops.{whole-room}
 use Rattle.soundness.proofs.RowsRead.{readFrom, read-start, read-no, read-known, read-go, read-end, with-go}
-use Rattle.soundness.proofs.OnePass.{left, pass-start, pass-go, pass-no, pass-short, pass-end, row-head, row-element, no-first, no-second, both}
+use Rattle.soundness.proofs.OnePass.{rowsLeft, pass-start, pass-go, pass-no, pass-short, pass-end, row-head, row-element, no-first, no-second, both}
 use borrow.Author.Needs.{needs}
 use Rattle.soundness.proofs.sound.rows_in_use.Statement.{statement}
 use Rattle.soundness.proofs.sound.rows_in_use.Tie as tie
@@ -26,7 +26,7 @@ pub record Passed (es : List ℕ) (d n v h : ℕ) (index₀ past index met seen 
   pub within : i ≤ n
   pub few : k ≤ i
   pub mask : Mask past
-  pub same : rowsInUse desk d n v h es ≡ (blank seen && left es d n v h k i)
+  pub same : rowsInUse desk d n v h es ≡ (blankWords seen && rowsLeft es d n v h k i)
   pub edges : EdgesLow es i
   pub unmet : Unmet (stampOf i) met
   pub places : length seen ≡ 32
@@ -78,7 +78,7 @@ row-sound-requires c κs =
     let inv = f .before .loop .inv in
     let p = start (f .before) .pre in
     record {
-      there = record { whole = p .whole; room = omega (arith, p .room, f .loop-test .taken); mask = inv .mask; places = inv .places };
+      there = record { long = p .long; inRoom = omega (arith, p .fits, f .loop-test .taken); mask = inv .mask; places = inv .places };
       edges = inv .edges;
       unmet = inv .unmet;
     }
@@ -94,7 +94,7 @@ returns c =
     let l = f .loop-test .taken in
     let no = sym (c .before .row-sound .ensures .told) ∙ not-true _ (c .if1 .taken) in
     record {
-      told = no-first _ _ (pass-no (a .elements .now) (a .d) (a .n) (a .v) (a .h) (blank (at .seen)) (at .k) (at .i) (at .inv .same) l no);
+      told = no-first _ _ (pass-no (a .elements .now) (a .d) (a .n) (a .v) (a .h) (blankWords (at .seen)) (at .k) (at .i) (at .inv .same) l no);
       indexed = λ t. absurd (false≢true t);
       read = at .inv .joins ∙ ap (λ (m : ℕ). withRows (a .elements .now) m (a .index .now)) (sym (read-no (a .elements .now) (a .d) (a .n) (a .h) (at .k) (at .i) (at .inv .read) l no));
     }
@@ -103,7 +103,7 @@ row-new-requires : tie.Need-row-new-requires Inv-loop μ-loop
 row-new-requires c κs =
     let f = taken-up (c .before .before) in
     let p = start (f .before) .pre in
-    record { whole = p .whole; room = omega (arith, p .room, f .loop-test .taken); earlier = f .before .loop .inv .indexed }
+    record { long = p .long; inRoom = omega (arith, p .fits, f .loop-test .taken); earlier = f .before .loop .inv .indexed }
 
 same-length-2 : tie.Need-same-length-2 Inv-loop μ-loop
 same-length-2 c = search needs
@@ -160,8 +160,8 @@ loop-again c =
       within = search needs;
       few = search needs;
       mask = inv .mask;
-      same = pass-go (a .elements .now) (a .d) (a .n) (a .v) (a .h) (blank (at .seen)) _ (at .k) (at .i) _ (inv .same) l sound (past .clear) one;
-      edges = edges-on (a .elements .now) (at .i) (a .d) (a .h) (p .whole) (omega (arith, p .room, l)) (row-head (a .elements .now) (a .d) (a .h) (at .k) (at .i) _ sound)
+      same = pass-go (a .elements .now) (a .d) (a .n) (a .v) (a .h) (blankWords (at .seen)) _ (at .k) (at .i) _ (inv .same) l sound (past .clear) one;
+      edges = edges-on (a .elements .now) (at .i) (a .d) (a .h) (p .long) (omega (arith, p .fits, l)) (row-head (a .elements .now) (a .d) (a .h) (at .k) (at .i) _ sound)
           (row-element (a .elements .now) (a .d) (a .h) (at .k) (at .i) _ sound) (inv .edges);
       unmet = r .row-sound .ensures .unmet yes;
       places = past .long;
@@ -180,7 +180,7 @@ returns-3 c =
     let at = l .before .loop in
     let a = start (l .before) .args in
     record {
-      told = no-first _ _ (pass-short (a .elements .now) (a .d) (a .n) (a .v) (a .h) (blank (at .seen)) (at .k) (at .i) (at .inv .same) (l .loop-test .left) (c .if3 .taken));
+      told = no-first _ _ (pass-short (a .elements .now) (a .d) (a .n) (a .v) (a .h) (blankWords (at .seen)) (at .k) (at .i) (at .inv .same) (l .loop-test .left) (c .if3 .taken));
       indexed = λ t. absurd (false≢true t);
       read = at .inv .joins
           ∙ ap (λ (m : ℕ). withRows (a .elements .now) m (a .index .now)) (sym (read-end (a .elements .now) (a .d) (a .n) (a .h) (at .k) (at .i) (at .inv .read) (l .loop-test .left)));
@@ -205,8 +205,8 @@ returns-4 c =
     let e : at .i ≡ a .n = omega (arith, inv .within, over) in
     record {
       told = both _ _
-          (c .blank-words .ensures ∙ whole-room blank 0 32 (at .seen) (inv .places)
-          ∙ pass-end (a .elements .now) (a .d) (a .n) (a .v) (a .h) (blank (at .seen)) (at .k) (at .i) (inv .same) over (c .before .before .if3 .left))
+          (c .blank-words .ensures ∙ whole-room blankWords 0 32 (at .seen) (inv .places)
+          ∙ pass-end (a .elements .now) (a .d) (a .n) (a .v) (a .h) (blankWords (at .seen)) (at .k) (at .i) (inv .same) over (c .before .before .if3 .left))
           (sym (apart-is (a .elements .now) (a .n)) ∙ ap (apart (a .elements .now)) (sym e) ∙ inv .distinct);
       indexed = λ t. index-count _ _ _ _ e (inv .indexed);
       read = inv .joins ∙ ap (λ (m : ℕ). withRows (a .elements .now) m (a .index .now)) (sym (read-end (a .elements .now) (a .d) (a .n) (a .h) (at .k) (at .i) (inv .read) over));
