@@ -7,6 +7,7 @@ use rules::ElementId;
 use rules::VertexId;
 use space::chains::INDEX;
 use space::words::AXES;
+use space::words::BOUNDARY;
 use space::words::ELEMENT_WORDS;
 use space::words::ELEMENTS;
 use space::words::HYPERPLANES;
@@ -31,8 +32,8 @@ ghost use Rattle.soundness.specs.Tests.{RowReady, HigherReady, RowTested
 // How many words stand before a boundary: rank, mark, hyperplane, count.
 const HEAD: usize = 4;
 
-// Room for so many numbers in a boundary.
-const BOUNDARY: usize = 32;
+// Entries of the mask: twice the room of a boundary.
+const MASK: usize = 64;
 
 // The dimension and every count fit the room, and the hyperplanes of the space are there.
 fn counts_fit(d: usize, n: usize, v: usize, h: usize) -> bool
@@ -72,11 +73,11 @@ fn blank_words(list: &[u16], from: usize, to: usize) -> bool
 }
 
 // Zeros and then ones: 32 entries of it, from entry 32 - n on, keep of 32 words those past the first n.
-fn past_mask() -> [u16; 64]
+fn past_mask() -> [u16; MASK]
     ensures { λ r. ⌜ Mask r ⌝ }
 {
-    let mut past = [0u16; 64];
-    for k in 32..64 {
+    let mut past = [0u16; MASK];
+    for k in BOUNDARY..MASK {
         past[k] = 65535;
     }
     past
@@ -89,14 +90,19 @@ fn kept(x: u16, mask: u16) -> u16
     x & mask
 }
 
-// What stands past the boundary of a row joins what was seen there in the rows before. All of its room is read, so that the loop
-// has one length and no test, and no mask where the count is a literal; whether anything was seen is asked once, after the last row.
-fn gather_past(elements: &[u16], at: usize, n: usize, past: &[u16; 64], seen: &mut [u16; 32])
+// What stands past a row's boundary joins what was seen before. All its room is read, with one length and no test; whether anything was seen is asked once, after the last row.
+fn gather_past(
+    elements: &[u16],
+    at: usize,
+    n: usize,
+    past: &[u16; MASK],
+    seen: &mut [u16; BOUNDARY],
+)
     requires { ⌜ PastReady (now elements) at n (now past) (now seen) ⌝ }
     ensures { λ _. ⌜ PastSeen (take 36 (drop at (now (elements .entry)))) (now (seen .entry)) (now (seen .exit)) ⌝ }
 {
-    for j in 0..32 {
-        seen[j] = seen[j] | kept(elements[at + HEAD + j], past[32 - n + j]);
+    for j in 0..BOUNDARY {
+        seen[j] = seen[j] | kept(elements[at + HEAD + j], past[BOUNDARY - n + j]);
     }
 }
 
@@ -127,8 +133,8 @@ fn corner_sound(
     elements: &[u16],
     at: usize,
     k: VertexId,
-    past: &[u16; 64],
-    seen: &mut [u16; 32],
+    past: &[u16; MASK],
+    seen: &mut [u16; BOUNDARY],
 ) -> bool
     requires { ⌜ CornerReady (now elements) at (now past) (now seen) ⌝ }
     ensures { λ r. ⌜ CornerTested (now (elements .entry)) at (k .0) r (now (seen .entry)) (now (seen .exit)) ⌝ }
@@ -147,7 +153,12 @@ fn corner_sound(
 }
 
 // The boundary of an edge: with the count as a literal the loop is two tests and no loop.
-fn edge_sound(elements: &[u16], e: ElementId, past: &[u16; 64], seen: &mut [u16; 32]) -> bool
+fn edge_sound(
+    elements: &[u16],
+    e: ElementId,
+    past: &[u16; MASK],
+    seen: &mut [u16; BOUNDARY],
+) -> bool
     requires { ⌜ RowThere (now elements) (e .0) (now past) (now seen) ⌝ }
     ensures { λ r. ⌜ EdgeTested (now (elements .entry)) (e .0) r (now (seen .entry)) (now (seen .exit)) ⌝ }
 {
@@ -165,9 +176,9 @@ fn higher_sound(
     e: ElementId,
     d: usize,
     rank: usize,
-    met: &mut [u32; 512],
-    past: &[u16; 64],
-    seen: &mut [u16; 32],
+    met: &mut [u32; ELEMENTS],
+    past: &[u16; MASK],
+    seen: &mut [u16; BOUNDARY],
 ) -> bool
     requires { ⌜ HigherReady (now elements) (e .0) rank (now met) (now past) (now seen) ⌝ }
     ensures { λ r. ⌜ RowTested (polytopeWords desk (now (elements .entry)) d (e .0) rank (rowAt (now (elements .entry)) (e .0))) (now (elements .entry)) (e .0) r (now (met .exit)) (now (seen .entry)) (now (seen .exit)) ⌝ }
@@ -187,9 +198,9 @@ fn polytope_sound(
     e: ElementId,
     d: usize,
     rank: usize,
-    met: &mut [u32; 512],
-    past: &[u16; 64],
-    seen: &mut [u16; 32],
+    met: &mut [u32; ELEMENTS],
+    past: &[u16; MASK],
+    seen: &mut [u16; BOUNDARY],
 ) -> bool
     requires { ⌜ RowReady (now elements) (e .0) (now met) (now past) (now seen) ⌝ }
     ensures { λ r. ⌜ RowTested (polytopeWords desk (now (elements .entry)) d (e .0) rank (rowAt (now (elements .entry)) (e .0))) (now (elements .entry)) (e .0) r (now (met .exit)) (now (seen .entry)) (now (seen .exit)) ⌝ }
@@ -207,9 +218,9 @@ fn row_sound(
     d: usize,
     h: usize,
     k: VertexId,
-    met: &mut [u32; 512],
-    past: &[u16; 64],
-    seen: &mut [u16; 32],
+    met: &mut [u32; ELEMENTS],
+    past: &[u16; MASK],
+    seen: &mut [u16; BOUNDARY],
 ) -> bool
     requires { ⌜ RowReady (now elements) (e .0) (now met) (now past) (now seen) ⌝ }
     ensures { λ r. ⌜ RowTested (rowSound desk (now (elements .entry)) d h (k .0) (e .0) (rowAt (now (elements .entry)) (e .0))) (now (elements .entry)) (e .0) r (now (met .exit)) (now (seen .entry)) (now (seen .exit)) ⌝ }
@@ -239,23 +250,15 @@ fn rows_in_use(elements: &[u16], d: usize, n: usize, v: usize, h: usize, index: 
     ensures { λ r. ⌜ RowsTested (rowsInUse desk d n v h (now (elements .entry)) && rowsDistinct desk n (now (elements .entry))) (now (elements .entry)) d n h (now (index .entry)) r (now (index .exit)) ⌝ }
 {
     let past = past_mask();
-    let mut met = [0u32; 512];
-    let mut seen = [0u16; 32];
+    let mut met = [0u32; ELEMENTS];
+    let mut seen = [0u16; BOUNDARY];
     let mut k = 0usize;
     for i in 0..n {
-        if !row_sound(
-            elements,
-            ElementId(i),
-            d,
-            h,
-            VertexId(k),
-            &mut met,
-            &past,
-            &mut seen,
-        ) {
+        let e = ElementId(i);
+        if !row_sound(elements, e, d, h, VertexId(k), &mut met, &past, &mut seen) {
             return false;
         }
-        if !row_new(elements, ElementId(i), index) {
+        if !row_new(elements, e, index) {
             return false;
         }
         k = k + one_if_corner(elements, i * WIDTH);
@@ -263,7 +266,7 @@ fn rows_in_use(elements: &[u16], d: usize, n: usize, v: usize, h: usize, index: 
     if k != v {
         return false;
     }
-    blank_words(&seen, 0, 32)
+    blank_words(&seen, 0, BOUNDARY)
 }
 
 // The slice of elements: the rows in use, and zeros past them.
@@ -291,7 +294,7 @@ fn rows_sound(elements: &[u16], d: usize, n: usize, v: usize, h: usize, index: &
     rows_along(elements, d, n, v, h, index)
 }
 
-// Lengths and counts come first: the other tests rely on them. The rows of a sound memory are in the index then.
+// Lengths and counts come first: the other tests rely on them. The rows that were read are in the index then: all in use where the memory is sound.
 pub fn memory_indexed(
     counts: &[u16],
     points: &[f64],
