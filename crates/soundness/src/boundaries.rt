@@ -12,7 +12,7 @@ ghost use mathlib.Core.Bool.{true};
 ghost use lib.ListN.{length, take, drop};
 ghost use Rattle.rules.specs.Limits.{desk};
 ghost use Rattle.space.specs.Closed.{Unmet};
-ghost use Rattle.soundness.specs.Words.{numberFits, numbersFit, fewWords, faceWords, stampOf, boundaryWords, EdgesLow};
+ghost use Rattle.soundness.specs.Words.{numberFits, numbersFit, fewWords, faceWords, stampOf, boundarySound, EdgesLow};
 
 // An element's stamp is above every word that was written for the elements before it: the words of one face are 513 at most above its own.
 fn stamp_of(e: usize) -> u32
@@ -111,7 +111,7 @@ pub fn boundary_sound(
     met: &mut [u32; 512],
 ) -> bool
     requires { ⌜ (length (now elements) ≡ 18432) × (at + n ≤ 18432) × (n ≤ 32) × (e < 512) × (rank ≡ 1 → ⊥) × EdgesLow (now elements) e × Unmet (stampOf e) (now met) ⌝ }
-    ensures { λ r. ⌜ (r ≡ boundaryWords desk (now (elements .entry)) d e rank (drop at (take (at + n) (now (elements .entry))))) × (r ≡ true → Unmet (stampOf (e + 1)) (now (met .exit))) ⌝ }
+    ensures { λ r. ⌜ (r ≡ boundarySound desk (now (elements .entry)) d e rank (drop at (take (at + n) (now (elements .entry))))) × (r ≡ true → Unmet (stampOf (e + 1)) (now (met .exit))) ⌝ }
 {
     if n <= rank {
         return false;

@@ -31,12 +31,12 @@ same-length-4 c = search needs
 returns : tie.Need-returns
 returns c =
     let four = sym (length-map (c .before .before .before .before .before .before .before .before .before .before .before .before .args .divider .normal) _) ∙ c .before .before .before .before .before .before .before .before .before .before .before .before .good .1 .1 .1 .1 .0 .1 .1 .0 .1 .0 .1 in
-    unsound (c .before .before .before .before .before .before .before .before .before .before .before .before .args .divider) _ _ _ _ _ _ _ four (sym (c .before .before .memory-indexed .ensures .0) ∙ not-true _ (c .if1 .taken))
+    unsound (c .before .before .before .before .before .before .before .before .before .before .before .before .args .divider) _ _ _ _ _ _ _ four (sym (c .before .before .memory-indexed .ensures .told) ∙ not-true _ (c .if1 .taken))
 
 slice-read-wide : tie.Need-slice-read-wide
 slice-read-wide c =
     let four = sym (length-map (c .before .before .before .before .before .before .before .before .before .before .before .before .before .args .divider .normal) _) ∙ c .before .before .before .before .before .before .before .before .before .before .before .before .before .good .1 .1 .1 .1 .0 .1 .1 .0 .1 .0 .1 in
-    omega (arith, counts-four (c .before .before .before .before .before .before .before .before .before .before .before .before .before .args .divider) true true 0 _ _ _ _ four (sym (c .before .before .before .memory-indexed .ensures .0) ∙ not-false _ (c .before .if1 .left)))
+    omega (arith, counts-four (c .before .before .before .before .before .before .before .before .before .before .before .before .before .args .divider) true true 0 _ _ _ _ four (sym (c .before .before .before .memory-indexed .ensures .told) ∙ not-false _ (c .before .if1 .left)))
 
 wide-requires : tie.Need-wide-requires
 wide-requires c κs = search needs
@@ -56,12 +56,12 @@ same-length-8 c = search needs
 returns-2 : tie.Need-returns-2
 returns-2 c =
     let four = sym (length-map (c .before .before .before .before .before .before .before .before .before .before .before .before .before .before .before .before .args .divider .normal) _) ∙ c .before .before .before .before .before .before .before .before .before .before .before .before .before .before .before .before .good .1 .1 .1 .1 .0 .1 .1 .0 .1 .0 .1 in
-    unused (c .before .before .before .before .before .before .before .before .before .before .before .before .before .before .before .before .args .divider) _ _ _ _ _ _ _ four (sym (c .before .before .before .before .before .before .memory-indexed .ensures .0) ∙ not-false _ (c .before .before .before .before .if1 .left)) _ (c .before .before .wide .ensures .0) (c .if2 .taken)
+    unused (c .before .before .before .before .before .before .before .before .before .before .before .before .before .before .before .before .args .divider) _ _ _ _ _ _ _ four (sym (c .before .before .before .before .before .before .memory-indexed .ensures .told) ∙ not-false _ (c .before .before .before .before .if1 .left)) _ (c .before .before .wide .ensures .0) (c .if2 .taken)
 
 slice-read-wide-2 : tie.Need-slice-read-wide-2
 slice-read-wide-2 c =
     let four = sym (length-map (c .before .before .before .before .before .before .before .before .before .before .before .before .before .before .before .before .before .before .args .divider .normal) _) ∙ c .before .before .before .before .before .before .before .before .before .before .before .before .before .before .before .before .before .before .good .1 .1 .1 .1 .0 .1 .1 .0 .1 .0 .1 in
-    omega (arith, counts-four (c .before .before .before .before .before .before .before .before .before .before .before .before .before .before .before .before .before .before .args .divider) true true 0 _ _ _ _ four (sym (c .before .before .before .before .before .before .before .before .memory-indexed .ensures .0) ∙ not-false _ (c .before .before .before .before .before .before .if1 .left)))
+    omega (arith, counts-four (c .before .before .before .before .before .before .before .before .before .before .before .before .before .before .before .before .before .before .args .divider) true true 0 _ _ _ _ four (sym (c .before .before .before .before .before .before .before .before .memory-indexed .ensures .told) ∙ not-false _ (c .before .before .before .before .before .before .if1 .left)))
 
 wide-requires-2 : tie.Need-wide-requires-2
 wide-requires-2 c κs = search needs
@@ -84,7 +84,7 @@ same-length-12 c = search needs
 returns-3 : tie.Need-returns-3
 returns-3 c =
     let four = sym (length-map (c .before .before .before .before .before .before .before .before .before .before .before .before .before .before .before .before .before .before .before .before .before .args .divider .normal) _) ∙ c .before .before .before .before .before .before .before .before .before .before .before .before .before .before .before .before .before .before .before .before .before .good .1 .1 .1 .1 .0 .1 .1 .0 .1 .0 .1 in
-    not-unit (c .before .before .before .before .before .before .before .before .before .before .before .before .before .before .before .before .before .before .before .before .before .args .divider) _ _ _ _ _ _ _ four (sym (c .before .before .before .before .before .before .before .before .before .before .before .memory-indexed .ensures .0) ∙ not-false _ (c .before .before .before .before .before .before .before .before .before .if1 .left)) _ (c .before .before .before .before .before .before .before .wide .ensures .0) (c .before .before .before .before .before .if2 .left) _ (c .before .before .wide2 .ensures .0) (sym (c .before .is-unit .ensures) ∙ not-true _ (c .if3 .taken))
+    not-unit (c .before .before .before .before .before .before .before .before .before .before .before .before .before .before .before .before .before .before .before .before .before .args .divider) _ _ _ _ _ _ _ four (sym (c .before .before .before .before .before .before .before .before .before .before .before .memory-indexed .ensures .told) ∙ not-false _ (c .before .before .before .before .before .before .before .before .before .if1 .left)) _ (c .before .before .before .before .before .before .before .wide .ensures .0) (c .before .before .before .before .before .if2 .left) _ (c .before .before .wide2 .ensures .0) (sym (c .before .is-unit .ensures) ∙ not-true _ (c .if3 .taken))
 
 distance-kind-requires : tie.Need-distance-kind-requires
 distance-kind-requires c κs = search needs
@@ -113,7 +113,7 @@ slice-aggregate-cut-finite c = search needs
 cut-finite-requires : tie.Need-cut-finite-requires
 cut-finite-requires c κs =
     let four = sym (length-map (c .before .before .before .before .before .before .before .before .before .before .before .before .before .before .before .before .before .before .before .before .before .before .before .before .before .before .before .before .before .before .before .args .divider .normal) _) ∙ c .before .before .before .before .before .before .before .before .before .before .before .before .before .before .before .before .before .before .before .before .before .before .before .before .before .before .before .before .before .before .before .good .1 .1 .1 .1 .0 .1 .1 .0 .1 .0 .1 in
-    (cut-ready (c .before .before .before .before .before .before .before .before .before .before .before .before .before .before .before .before .before .before .before .before .before .before .before .before .before .before .before .before .before .before .before .args .divider) true true _ _ _ _ _ four (sym (c .before .before .before .before .before .before .before .before .before .before .before .before .before .before .before .before .before .before .before .before .before .memory-indexed .ensures .0) ∙ not-false _ (c .before .before .before .before .before .before .before .before .before .before .before .before .before .before .before .before .before .before .before .if1 .left)) _ (c .before .before .before .before .before .before .before .before .before .before .before .before .before .before .before .before .before .wide .ensures .0) (c .before .before .before .before .before .before .before .before .before .before .before .before .before .before .before .if2 .left) _ (c .before .before .before .before .before .before .before .before .before .before .before .before .wide2 .ensures .0) (sym (c .before .before .before .before .before .before .before .before .before .before .before .is-unit .ensures) ∙ not-false _ (c .before .before .before .before .before .before .before .before .before .before .if3 .left)) (sym (c .before .before .before .before .before .before .before .before .before .distance-kind .ensures) ∙ c .before .before .before .before .before .before .before .enum-told4 .given .1), c .before .before .before .before .before .before .before .before .before .before .before .before .before .before .before .before .before .before .before .before .before .memory-indexed .ensures .1 (not-false _ (c .before .before .before .before .before .before .before .before .before .before .before .before .before .before .before .before .before .before .before .if1 .left)))
+    (cut-ready (c .before .before .before .before .before .before .before .before .before .before .before .before .before .before .before .before .before .before .before .before .before .before .before .before .before .before .before .before .before .before .before .args .divider) true true _ _ _ _ _ four (sym (c .before .before .before .before .before .before .before .before .before .before .before .before .before .before .before .before .before .before .before .before .before .memory-indexed .ensures .told) ∙ not-false _ (c .before .before .before .before .before .before .before .before .before .before .before .before .before .before .before .before .before .before .before .if1 .left)) _ (c .before .before .before .before .before .before .before .before .before .before .before .before .before .before .before .before .before .wide .ensures .0) (c .before .before .before .before .before .before .before .before .before .before .before .before .before .before .before .if2 .left) _ (c .before .before .before .before .before .before .before .before .before .before .before .before .wide2 .ensures .0) (sym (c .before .before .before .before .before .before .before .before .before .before .before .is-unit .ensures) ∙ not-false _ (c .before .before .before .before .before .before .before .before .before .before .if3 .left)) (sym (c .before .before .before .before .before .before .before .before .before .distance-kind .ensures) ∙ c .before .before .before .before .before .before .before .enum-told4 .given .1), c .before .before .before .before .before .before .before .before .before .before .before .before .before .before .before .before .before .before .before .before .before .memory-indexed .ensures .indexed (not-false _ (c .before .before .before .before .before .before .before .before .before .before .before .before .before .before .before .before .before .before .before .if1 .left)))
 
 same-length-13 : tie.Need-same-length-13
 same-length-13 c = search needs
@@ -130,7 +130,7 @@ same-length-16 c = search needs
 returns-4 : tie.Need-returns-4
 returns-4 c =
     let four = sym (length-map (c .before .before .before .before .before .before .before .before .before .before .before .before .before .before .before .before .before .before .before .before .before .before .before .before .args .divider .normal) _) ∙ c .before .before .before .before .before .before .before .before .before .before .before .before .before .before .before .before .before .before .before .before .before .before .before .before .good .1 .1 .1 .1 .0 .1 .1 .0 .1 .0 .1 in
-    unfit (c .before .before .before .before .before .before .before .before .before .before .before .before .before .before .before .before .before .before .before .before .before .before .before .before .args .divider) _ _ _ _ _ _ _ four (sym (c .before .before .before .before .before .before .before .before .before .before .before .before .before .before .memory-indexed .ensures .0) ∙ not-false _ (c .before .before .before .before .before .before .before .before .before .before .before .before .if1 .left)) _ (c .before .before .before .before .before .before .before .before .before .before .wide .ensures .0) (c .before .before .before .before .before .before .before .before .if2 .left) _ (c .before .before .before .before .before .wide2 .ensures .0) (sym (c .before .before .before .before .is-unit .ensures) ∙ not-false _ (c .before .before .before .if3 .left)) (sym (c .before .before .distance-kind .ensures) ∙ c .enum-told .given .1)
+    unfit (c .before .before .before .before .before .before .before .before .before .before .before .before .before .before .before .before .before .before .before .before .before .before .before .before .args .divider) _ _ _ _ _ _ _ four (sym (c .before .before .before .before .before .before .before .before .before .before .before .before .before .before .memory-indexed .ensures .told) ∙ not-false _ (c .before .before .before .before .before .before .before .before .before .before .before .before .if1 .left)) _ (c .before .before .before .before .before .before .before .before .before .before .wide .ensures .0) (c .before .before .before .before .before .before .before .before .if2 .left) _ (c .before .before .before .before .before .wide2 .ensures .0) (sym (c .before .before .before .before .is-unit .ensures) ∙ not-false _ (c .before .before .before .if3 .left)) (sym (c .before .before .distance-kind .ensures) ∙ c .enum-told .given .1)
 
 same-length-17 : tie.Need-same-length-17
 same-length-17 c = search needs
@@ -147,7 +147,7 @@ same-length-20 c = search needs
 returns-5 : tie.Need-returns-5
 returns-5 c =
     let four = sym (length-map (c .before .before .before .before .before .before .before .before .before .before .before .before .before .before .before .before .before .before .before .before .before .before .before .before .args .divider .normal) _) ∙ c .before .before .before .before .before .before .before .before .before .before .before .before .before .before .before .before .before .before .before .before .before .before .before .before .good .1 .1 .1 .1 .0 .1 .1 .0 .1 .0 .1 in
-    all-inside (c .before .before .before .before .before .before .before .before .before .before .before .before .before .before .before .before .before .before .before .before .before .before .before .before .args .divider) _ _ _ _ _ _ _ four (sym (c .before .before .before .before .before .before .before .before .before .before .before .before .before .before .memory-indexed .ensures .0) ∙ not-false _ (c .before .before .before .before .before .before .before .before .before .before .before .before .if1 .left)) _ (c .before .before .before .before .before .before .before .before .before .before .wide .ensures .0) (c .before .before .before .before .before .before .before .before .if2 .left) _ (c .before .before .before .before .before .wide2 .ensures .0) (sym (c .before .before .before .before .is-unit .ensures) ∙ not-false _ (c .before .before .before .if3 .left)) (sym (c .before .before .distance-kind .ensures) ∙ c .enum-told2 .given .1)
+    all-inside (c .before .before .before .before .before .before .before .before .before .before .before .before .before .before .before .before .before .before .before .before .before .before .before .before .args .divider) _ _ _ _ _ _ _ four (sym (c .before .before .before .before .before .before .before .before .before .before .before .before .before .before .memory-indexed .ensures .told) ∙ not-false _ (c .before .before .before .before .before .before .before .before .before .before .before .before .if1 .left)) _ (c .before .before .before .before .before .before .before .before .before .before .wide .ensures .0) (c .before .before .before .before .before .before .before .before .if2 .left) _ (c .before .before .before .before .before .wide2 .ensures .0) (sym (c .before .before .before .before .is-unit .ensures) ∙ not-false _ (c .before .before .before .if3 .left)) (sym (c .before .before .distance-kind .ensures) ∙ c .enum-told2 .given .1)
 
 same-length-21 : tie.Need-same-length-21
 same-length-21 c = search needs
@@ -164,7 +164,7 @@ same-length-24 c = search needs
 returns-6 : tie.Need-returns-6
 returns-6 c =
     let four = sym (length-map (c .before .before .before .before .before .before .before .before .before .before .before .before .before .before .before .before .before .before .before .before .before .before .before .before .args .divider .normal) _) ∙ c .before .before .before .before .before .before .before .before .before .before .before .before .before .before .before .before .before .before .before .before .before .before .before .before .good .1 .1 .1 .1 .0 .1 .1 .0 .1 .0 .1 in
-    all-outside (c .before .before .before .before .before .before .before .before .before .before .before .before .before .before .before .before .before .before .before .before .before .before .before .before .args .divider) _ _ _ _ _ _ _ four (sym (c .before .before .before .before .before .before .before .before .before .before .before .before .before .before .memory-indexed .ensures .0) ∙ not-false _ (c .before .before .before .before .before .before .before .before .before .before .before .before .if1 .left)) _ (c .before .before .before .before .before .before .before .before .before .before .wide .ensures .0) (c .before .before .before .before .before .before .before .before .if2 .left) _ (c .before .before .before .before .before .wide2 .ensures .0) (sym (c .before .before .before .before .is-unit .ensures) ∙ not-false _ (c .before .before .before .if3 .left)) (sym (c .before .before .distance-kind .ensures) ∙ c .enum-told3 .given .1)
+    all-outside (c .before .before .before .before .before .before .before .before .before .before .before .before .before .before .before .before .before .before .before .before .before .before .before .before .args .divider) _ _ _ _ _ _ _ four (sym (c .before .before .before .before .before .before .before .before .before .before .before .before .before .before .memory-indexed .ensures .told) ∙ not-false _ (c .before .before .before .before .before .before .before .before .before .before .before .before .if1 .left)) _ (c .before .before .before .before .before .before .before .before .before .before .wide .ensures .0) (c .before .before .before .before .before .before .before .before .if2 .left) _ (c .before .before .before .before .before .wide2 .ensures .0) (sym (c .before .before .before .before .is-unit .ensures) ∙ not-false _ (c .before .before .before .if3 .left)) (sym (c .before .before .distance-kind .ensures) ∙ c .enum-told3 .given .1)
 
 same-length-25 : tie.Need-same-length-25
 same-length-25 c = search needs
@@ -181,7 +181,7 @@ same-length-28 c = search needs
 returns-7 : tie.Need-returns-7
 returns-7 c =
     let four = sym (length-map (c .before .before .before .before .before .before .before .before .before .before .before .before .before .before .before .before .before .before .before .before .before .before .before .before .before .before .before .before .before .before .before .before .before .before .before .before .before .before .before .before .before .args .divider .normal) _) ∙ c .before .before .before .before .before .before .before .before .before .before .before .before .before .before .before .before .before .before .before .before .before .before .before .before .before .before .before .before .before .before .before .before .before .before .before .before .before .before .before .before .before .good .1 .1 .1 .1 .0 .1 .1 .0 .1 .0 .1 in
-    replied-as (c .before .before .before .before .before .before .before .before .before .before .before .before .before .before .before .before .before .before .before .before .before .before .before .before .before .before .before .before .before .before .before .before .before .before .before .before .before .before .before .before .before .args .divider) _ _ _ _ _ _ _ four (sym (c .before .before .before .before .before .before .before .before .before .before .before .before .before .before .before .before .before .before .before .before .before .before .before .before .before .before .before .before .before .before .before .memory-indexed .ensures .0) ∙ not-false _ (c .before .before .before .before .before .before .before .before .before .before .before .before .before .before .before .before .before .before .before .before .before .before .before .before .before .before .before .before .before .if1 .left)) _ (c .before .before .before .before .before .before .before .before .before .before .before .before .before .before .before .before .before .before .before .before .before .before .before .before .before .before .before .wide .ensures .0) (c .before .before .before .before .before .before .before .before .before .before .before .before .before .before .before .before .before .before .before .before .before .before .before .before .before .if2 .left) _ (c .before .before .before .before .before .before .before .before .before .before .before .before .before .before .before .before .before .before .before .before .before .before .wide2 .ensures .0) (sym (c .before .before .before .before .before .before .before .before .before .before .before .before .before .before .before .before .before .before .before .before .before .is-unit .ensures) ∙ not-false _ (c .before .before .before .before .before .before .before .before .before .before .before .before .before .before .before .before .before .before .before .before .if3 .left)) (sym (c .before .before .before .before .before .before .before .before .before .before .before .before .before .before .before .before .before .before .before .distance-kind .ensures) ∙ c .before .before .before .before .before .before .before .before .before .before .before .before .before .before .before .before .before .enum-told4 .given .1) (c .before .before .before .before .before .before .before .before .before .before .before .before .before .before .before .before .is-kept .ensures) (c .before .before .before .before .before .before .before .before .before .before .before .before .before .before .before .is-kept2 .ensures) (c .before .before .before .before .before .before .before .before .before .cut-finite .ensures)
+    replied-as (c .before .before .before .before .before .before .before .before .before .before .before .before .before .before .before .before .before .before .before .before .before .before .before .before .before .before .before .before .before .before .before .before .before .before .before .before .before .before .before .before .before .args .divider) _ _ _ _ _ _ _ four (sym (c .before .before .before .before .before .before .before .before .before .before .before .before .before .before .before .before .before .before .before .before .before .before .before .before .before .before .before .before .before .before .before .memory-indexed .ensures .told) ∙ not-false _ (c .before .before .before .before .before .before .before .before .before .before .before .before .before .before .before .before .before .before .before .before .before .before .before .before .before .before .before .before .before .if1 .left)) _ (c .before .before .before .before .before .before .before .before .before .before .before .before .before .before .before .before .before .before .before .before .before .before .before .before .before .before .before .wide .ensures .0) (c .before .before .before .before .before .before .before .before .before .before .before .before .before .before .before .before .before .before .before .before .before .before .before .before .before .if2 .left) _ (c .before .before .before .before .before .before .before .before .before .before .before .before .before .before .before .before .before .before .before .before .before .before .wide2 .ensures .0) (sym (c .before .before .before .before .before .before .before .before .before .before .before .before .before .before .before .before .before .before .before .before .before .is-unit .ensures) ∙ not-false _ (c .before .before .before .before .before .before .before .before .before .before .before .before .before .before .before .before .before .before .before .before .if3 .left)) (sym (c .before .before .before .before .before .before .before .before .before .before .before .before .before .before .before .before .before .before .before .distance-kind .ensures) ∙ c .before .before .before .before .before .before .before .before .before .before .before .before .before .before .before .before .before .enum-told4 .given .1) (c .before .before .before .before .before .before .before .before .before .before .before .before .before .before .before .before .is-kept .ensures) (c .before .before .before .before .before .before .before .before .before .before .before .before .before .before .before .is-kept2 .ensures) (c .before .before .before .before .before .before .before .before .before .cut-finite .ensures)
 
 pub cut-spec : {M : Type 1} → statement M
 cut-spec =
