@@ -10,6 +10,7 @@ use Rattle.rules.specs.Held.{memoryOf}
 use Rattle.rules.specs.Limits.{desk}
 use Rattle.rules.specs.Lists.{if_then_else_}
 use Rattle.rules.specs.Memory.{soundMemory, rightSize}
+use Rattle.space.specs.Numbers.{rowWidth, elementSlice}
 use Rattle.space.specs.Chains.{rowAt, keyOf, joined, Indexed}
 use Rattle.space.specs.Closed.{Unmet}
 use Rattle.soundness.specs.Words.{Mask, PastSeen, countsFit, headWords, cornerNamed, polytopeWords, stampOf, EdgesLow, rowSound, rowNew, floatsSound}
@@ -29,32 +30,64 @@ pub record MovesOn (row : List ℕ) (reply : ℕ) : Type 0 where
   pub corner : reply ≡ cond (eqb (getD row 0 0) 0) 1 0
   pub most : reply ≤ 1
 
+-- ---- boundaries: es are the words of elements, e the element whose boundary it is
+
+-- a part of the elements, for an element in the room or the next one
+pub record NumbersReady (es : List ℕ) (from to e : ℕ) : Type 0 where
+  pub part : PartOf from to (length es)
+  pub long : length es ≡ elementSlice
+  pub room : e ≤ desk .elements
+
+-- the edges of a face: each edge before it has its ends in order, and no corner counts as met
+pub record EdgesReady (es : List ℕ) (from to e : ℕ) (met : List ℕ) : Type 0 where
+  pub part : PartOf from to (length es)
+  pub size : to ≤ from + desk .boundary
+  pub long : length es ≡ elementSlice
+  pub inRoom : e < desk .elements
+  pub edges : EdgesLow es e
+  pub unmet : Unmet (stampOf e) met
+
+-- n numbers from word `at` on, of a face or a body
+pub record NumbersThere (es : List ℕ) (at n e rank : ℕ) (met : List ℕ) : Type 0 where
+  pub long : length es ≡ elementSlice
+  pub end : at + n ≤ elementSlice
+  pub size : n ≤ desk .boundary
+  pub inRoom : e < desk .elements
+  pub no-edge : rank ≡ 1 → ⊥
+  pub edges : EdgesLow es e
+  pub unmet : Unmet (stampOf e) met
+
+-- the answer of a test, and how the next element finds the corners met
+pub record BoundaryTested (test : Bool) (e : ℕ) (reply : Bool) (met′ : List ℕ) : Type 0 where
+  pub told : reply ≡ test
+  pub unmet : reply ≡ true → Unmet (stampOf (e + 1)) met′
+
 -- ---- one row: es are the words of elements, seen is what stood past the boundaries so far
 
 -- a row from word `at` on, with a count that fits
 pub record PastReady (es : List ℕ) (at n : ℕ) (past seen : List ℕ) : Type 0 where
-  pub row : at + 36 ≤ length es
+  pub row : at + rowWidth ≤ length es
   pub count : n ≡ getD es (at + 3) 0
-  pub fits : n ≤ 32
+  pub fits : n ≤ desk .boundary
   pub mask : Mask past
   pub places : length seen ≡ 32
 
 -- the row of a vertex element from word `at` on
 pub record CornerReady (es : List ℕ) (at : ℕ) (past seen : List ℕ) : Type 0 where
-  pub row : at + 36 ≤ length es
+  pub row : at + rowWidth ≤ length es
   pub corner : getD es at 0 ≡ 0
   pub mask : Mask past
   pub places : length seen ≡ 32
 
 -- it is tested as such, and names vertex k
 pub record CornerTested (es : List ℕ) (at k : ℕ) (reply : Bool) (seen seen′ : List ℕ) : Type 0 where
-  pub told : reply ≡ (headWords desk (take 36 (drop at es)) && cornerNamed k (take 36 (drop at es)))
-  pub past : reply ≡ true → PastSeen (take 36 (drop at es)) seen seen′
+  pub told : reply ≡ (headWords desk (take rowWidth (drop at es)) && cornerNamed k (take rowWidth (drop at es)))
+  pub past : reply ≡ true → PastSeen (take rowWidth (drop at es)) seen seen′
 
 -- the row of element e is there
 pub record RowThere (es : List ℕ) (e : ℕ) (past seen : List ℕ) : Type 0 where
-  pub long : length es ≡ 18432
-  pub inRoom : e < 512
+  pub long : length es ≡ elementSlice
+  pub inRoom : e < desk .elements
   pub mask : Mask past
   pub places : length seen ≡ 32
 
@@ -84,14 +117,14 @@ pub record RowTested (test : Bool) (es : List ℕ) (e : ℕ) (reply : Bool) (met
 
 -- the first n rows are there, and the index is empty
 pub record RowsReady (es : List ℕ) (n : ℕ) (index : List ℕ) : Type 0 where
-  pub long : length es ≡ 18432
-  pub fits : n ≤ 512
+  pub long : length es ≡ elementSlice
+  pub fits : n ≤ desk .elements
   pub empty : Indexed es 0 index
 
 -- row i is there, and the rows before it are in the index
 pub record NewReady (es : List ℕ) (i : ℕ) (index : List ℕ) : Type 0 where
-  pub long : length es ≡ 18432
-  pub inRoom : i < 512
+  pub long : length es ≡ elementSlice
+  pub inRoom : i < desk .elements
   pub earlier : Indexed es i index
 
 -- a new row joins the index, and any other leaves it as it is

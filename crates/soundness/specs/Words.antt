@@ -13,7 +13,7 @@ use Rattle.rules.specs.Memory.{planeWidth, elementWidth, rightSize}
 use Rattle.rules.specs.Held.{memoryOf}
 use Rattle.rules.specs.Table.{primordials}
 use Rattle.space.specs.Chains.{storedRow}
-use Rattle.space.specs.Closed.{closedRaw, metTwice, ringRaw, EndsLow}
+use Rattle.space.specs.Closed.{closedRaw, metTwice, ringRaw, inside, EndsLow}
 
 abbrev pub blankWords : List ℕ → Bool
 blankWords = all (eqb 0)
@@ -100,7 +100,7 @@ faceWords L es e b = numbersFit L es e 2 b && ringRaw es b
 
 -- the stamp of an element, above every word that was written for the elements before it
 abbrev pub stampOf : ℕ → ℕ
-stampOf e = 513 * e + 1
+stampOf e = suc inside * e + 1
 
 unfoldable pub facetWords : ℕ → ℕ → ℕ → ℕ → ℕ → Bool
 facetWords d h r plane mark = if eqb (suc r) d then ltb plane h else (eqb plane noPlane && not (eqb mark 1))

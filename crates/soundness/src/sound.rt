@@ -167,7 +167,7 @@ fn edge_sound(
         return false;
     }
     gather_past(elements, at, 2, past, seen);
-    numbers_fit(elements, at + HEAD, at + HEAD + 2, e.0, 1)
+    numbers_fit(elements, at + HEAD, at + HEAD + 2, e, 1)
 }
 
 // The boundary of a face or a body: it is read only once its count is known to fit.
@@ -189,7 +189,7 @@ fn higher_sound(
         return false;
     }
     gather_past(elements, at, n, past, seen);
-    boundary_sound(elements, at + HEAD, n, e.0, d, rank, met)
+    boundary_sound(elements, at + HEAD, n, e, d, rank, met)
 }
 
 // The boundary of a polytope, by its rank.

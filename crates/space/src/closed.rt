@@ -13,7 +13,7 @@ ghost use Rattle.space.specs.Closed.{few, metNext, meeting, isSecond, me
 ghost use Rattle.space.specs.Closed.{EdgeReady, EndsMet, EndsJoined, FaceReady, BoundaryReady};
 
 // What a corner's word is above the stamp once it is met twice: no path ends there.
-const INSIDE: usize = ELEMENTS;
+pub const INSIDE: usize = ELEMENTS;
 
 // What `join_ends` answers in place of a count.
 pub const CLOSES: usize = 3;

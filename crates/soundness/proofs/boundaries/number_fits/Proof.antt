@@ -1,3 +1,4 @@
+-- The answer is read off the tests that were taken.
 use Rattle.soundness.proofs.BoundaryFits.{number-is}
 use borrow.Author.Tests.{le-leb, lt-leb, le-ltb, lt-ltb}
 use lib.Dec.{eqb}
@@ -6,7 +7,6 @@ use native.Mathlib.Numerals.{add-one}
 use mathlib.Core.Bool.{true, false}
 use mathlib.Core.Path.{sym, ap, refl, _∙_}
 use Prim.Native.Nat.{ℕ, _+_}
--- The answer is read off the tests that were taken.
 use borrow.Author.Needs.{needs}
 use Rattle.soundness.proofs.boundaries.number_fits.Statement.{statement}
 use Rattle.soundness.proofs.boundaries.number_fits.Tie as tie
@@ -14,12 +14,12 @@ use Rattle.soundness.proofs.boundaries.number_fits.Tie as tie
 returns : tie.Need-returns
 returns c =
     let a = c .before .before .args in
-    number-is (a .elements .now) (a .e) (a .rank) (a .low) (a .x) false _ _ (lt-leb _ _ (c .if1 .taken)) refl refl
+    number-is (a .elements .now) (a .e .0) (a .rank) (a .low) (a .x) false _ _ (lt-leb _ _ (c .if1 .taken)) refl refl
 
 returns-2 : tie.Need-returns-2
 returns-2 c =
     let a = c .before .before .before .args in
-    number-is (a .elements .now) (a .e) (a .rank) (a .low) (a .x) true false _ (le-leb _ _ (c .before .if1 .left)) (le-ltb _ _ (c .if2 .taken)) refl
+    number-is (a .elements .now) (a .e .0) (a .rank) (a .low) (a .x) true false _ (le-leb _ _ (c .before .if1 .left)) (le-ltb _ _ (c .if2 .taken)) refl
 
 mul-wide : tie.Need-mul-wide
 mul-wide c = search needs
@@ -42,7 +42,7 @@ add-result c = search needs
 returns-3 : tie.Need-returns-3
 returns-3 c =
     let a = c .before .before .before .before .before .args in
-    number-is (a .elements .now) (a .e) (a .rank) (a .low) (a .x) true true _ (le-leb _ _ (c .before .before .before .if1 .left)) (lt-ltb _ _ (c .before .before .if2 .left))
+    number-is (a .elements .now) (a .e .0) (a .rank) (a .low) (a .x) true true _ (le-leb _ _ (c .before .before .before .if1 .left)) (lt-ltb _ _ (c .before .before .if2 .left))
     (ap (λ (y : ℕ). eqb y (a .rank)) (sym (ap (λ (y : ℕ). y + 1) (c .wide .ensures .0) ∙ add-one _)))
 
 pub number-fits-spec : {M : Type 1} → statement M

@@ -52,7 +52,7 @@ add-numbers-fit-3 c = search needs
 numbers-fit-requires : tie.Need-numbers-fit-requires
 numbers-fit-requires c κs =
     let p = start (two c) .pre in
-    (omega arith, omega (arith, p .long, p .inRoom), p .long, omega (arith, p .inRoom))
+    record { part = record { order = omega arith; end = omega (arith, p .long, p .inRoom) }; long = p .long; room = omega (arith, p .inRoom) }
 
 returns-2 : tie.Need-returns-2
 returns-2 c =

@@ -52,7 +52,15 @@ boundary-sound-requires c κs =
     let f = counted (c .before) in
     let p = start f .pre in
     let r = p .ready in
-    (r .there .long, omega (arith, r .there .inRoom, f .if1 .left), f .if1 .left, r .there .inRoom, p .no-edge, r .edges, r .unmet)
+    record {
+      long = r .there .long;
+      end = omega (arith, r .there .inRoom, f .if1 .left);
+      size = f .if1 .left;
+      inRoom = r .there .inRoom;
+      no-edge = p .no-edge;
+      edges = r .edges;
+      unmet = r .unmet;
+    }
 
 returns-2 : tie.Need-returns-2
 returns-2 c =
@@ -60,8 +68,8 @@ returns-2 c =
     let f = counted g in
     let a = start f .args in
     record {
-      told = polytope-few (a .elements .now) (a .d) (a .e .0) _ (f .before .wide .ensures .0) (a .rank) (f .if1 .left) (c .boundary-sound .ensures .0);
-      unmet = c .boundary-sound .ensures .1;
+      told = polytope-few (a .elements .now) (a .d) (a .e .0) _ (f .before .wide .ensures .0) (a .rank) (f .if1 .left) (c .boundary-sound .ensures .told);
+      unmet = c .boundary-sound .ensures .unmet;
       past = λ t. g .gather-past .ensures;
     }
 
