@@ -7,7 +7,6 @@ use mathlib.Core.Path.{_≡_, ap, sym, _∙_, refl, subst, ap₂}
 use native.Mathlib.Nat.{not-suc-le-zero, zero-mul, le-of-suc-le-suc, suc-mul, add-zero, le-trans}
 use native.Mathlib.Omega.{arith}
 use lib.Dec.{eqb, lit≤, ltb, leb}
-use lib.Ieee.{le}
 use lib.ListN.{getD, take, drop, length, length-drop, length-map}
 use lib.Seq.{drop-drop, getD-take, getD-drop, length-take-le}
 use Rattle.rules.specs.Limits.{desk, noPlane}

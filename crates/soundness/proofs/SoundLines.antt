@@ -7,10 +7,10 @@ use mathlib.Core.Path.{_≡_, ap, _∙_, refl, ap₂, sym, subst}
 use native.Mathlib.Nat.{le-trans, le-of-eq}
 use native.Mathlib.Omega.{arith}
 use lib.Dec.{eqb, leb}
-use lib.Ieee.{Float, lt}
+use lib.Ieee.{Float}
 use lib.ListN.{length, drop, take, length-append, getD, drop-of-length-le, replicate, length-drop}
 use lib.Seq.{length-take-le, drop-cons, take-take, take-all}
-use Rattle.rules.specs.Floats.{one, sameBits, plusZero, within, farthest, unit, farthestPlane}
+use Rattle.rules.specs.Floats.{sameBits, plusZero, within, farthest, unit, farthestPlane}
 use Rattle.rules.specs.Held.{elementWords, Wide}
 use Rattle.rules.specs.Limits.{Limits, noPlane}
 use Rattle.rules.specs.Lists.{rows, alike, pad, joined, all, if_then_else_, keep, upFrom, distinct, any}
