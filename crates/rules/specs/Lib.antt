@@ -15,6 +15,7 @@ pub mod Replies
 pub mod Session
 pub mod Marked
 pub mod Examples
+pub mod Sessions
 pub mod Calls
 pub mod Rooms
 pub mod Promises
