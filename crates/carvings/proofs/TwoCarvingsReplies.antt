@@ -8,7 +8,6 @@ use native.Mathlib.Nat.{le-trans}
 use lib.ListN.{length, set}
 use Rattle.rules.specs.Limits.{Limits, Readable}
 use Rattle.rules.specs.Table.{Plane, Table, elementCount, rank}
-use Rattle.rules.specs.Sound.{sound}
 use Rattle.rules.specs.Memory.{Memory, encode, decode}
 use Rattle.rules.specs.Cut.{done, cut}
 use Rattle.rules.specs.Replies.{cutNumber, outputValues, elementValue, cutReply, dividerFits, dividerOf, written}

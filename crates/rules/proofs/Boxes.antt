@@ -1,6 +1,6 @@
 -- A crossing lies in the box of its edge, axis by axis, by the law of the clamp; and the ends of an edge of a sound table are points without a NaN.
 use Prim.Native.Nat.{ℕ, _<_, suc, zero, suc-le-suc}
-use mathlib.Core.Bool.{Bool, true, false, not, _&&_, false≢true}
+use mathlib.Core.Bool.{true, not, false≢true}
 use mathlib.Core.List.{List, [], _∷_}
 use mathlib.Core.Path.{_≡_, refl, ap, sym, subst, _∙_}
 use native.Mathlib.Nat.{not-suc-le-zero, le-of-suc-le-suc, suc-ne-zero, suc-inj, zero-lt-suc, le-trans, le-of-lt}
@@ -10,9 +10,9 @@ use lib.ListN.{length, getD}
 use Rattle.rules.specs.Limits.{Limits}
 use Rattle.rules.specs.Lists.{all}
 use Rattle.rules.specs.Floats.{plusZero, within, farthest, crossingPoint}
-use Rattle.rules.specs.Table.{Table, rank, boundary, elementCount, pointAt}
+use Rattle.rules.specs.Table.{Table, rank, boundary, elementCount}
 use Rattle.rules.specs.Sound.{sound, soundPoint}
-use Rattle.rules.specs.Promises.{Between, InBox, EndsOfEdge, InTheBox, border, endAt}
+use Rattle.rules.specs.Promises.{Between, EndsOfEdge, InTheBox, border, endAt}
 use Rattle.rules.proofs.Borders.{sound-bordered}
 use Rattle.rules.proofs.Clamp.{clamp-between}
 use Rattle.rules.proofs.Good.{sound-good}

@@ -129,7 +129,8 @@ module _ (L : Limits) (R : Readable L) where
       ∙ (λ j. (sym (a .1) j, later))
 
   -- what is answered with three values
-  three : (r : CutReply) (i o x : Option ℕ) → cutValues r ≡ i ∷ o ∷ x ∷ [] → (a : ElementOrNone) × (b : ElementOrNone) × (c : ElementOrNone) × (r ≡ Answered (NonFlush a b c)) × (elementValue a ≡ i) × (elementValue b ≡ o) × (elementValue c ≡ x)
+  three : (r : CutReply) (i o x : Option ℕ) → cutValues r ≡ i ∷ o ∷ x ∷ []
+      → (a : ElementOrNone) × (b : ElementOrNone) × (c : ElementOrNone) × (r ≡ Answered (NonFlush a b c)) × (elementValue a ≡ i) × (elementValue b ≡ o) × (elementValue c ≡ x)
   three (Refused n) i o x e = absurd (let z : _≡_ {A = ℕ} 0 1 = cc in suc-ne-zero 0 (sym z))
   three (Answered Flush) i o x e = absurd (let z : _≡_ {A = ℕ} 0 1 = cc in suc-ne-zero 0 (sym z))
   three (Answered (NonFlush a b c)) i o x e = (a, b, c, refl, cc, cc, cc)

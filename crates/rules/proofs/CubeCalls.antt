@@ -2,7 +2,7 @@
 -- So any calls, cubes too, leave a sound memory sound, and a table without matching vertices without them.
 use Prim.Native.Nat.{ℕ, suc, zero, _<_}
 use mathlib.Core.Bool.{true, _&&_, Bool, false}
-use mathlib.Core.List.{List, [], _∷_}
+use mathlib.Core.List.{[], _∷_}
 use mathlib.Core.Path.{_≡_, refl, ap, sym, _∙_, subst}
 use native.Mathlib.Nat.{suc-ne-zero, zero-lt-suc}
 use lib.Dec.{leb}

@@ -48,6 +48,11 @@ pub and-right : (a b : Bool) → (a && b) ≡ true → b ≡ true
 and-right true b h = h
 and-right false b h = absurd (false≢true h)
 
+-- the second is asked only where the first holds
+pub and-when : (a b c : Bool) → (a ≡ true → b ≡ c) → (a && b) ≡ (a && c)
+and-when true b c h = h refl
+and-when false b c h = refl
+
 pub or-left : (a b : Bool) → a ≡ true → (a || b) ≡ true
 or-left true b h = refl
 or-left false b h = absurd (false≢true h)

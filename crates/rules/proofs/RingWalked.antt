@@ -13,8 +13,8 @@ use Rattle.rules.specs.Limits.{Limits}
 use Rattle.rules.specs.Lists.{if_then_else_, all, keep, member, occurrences, rises}
 use Rattle.rules.specs.Table.{Table, boundary, rank, elementCount}
 use Rattle.rules.specs.Walk.{endsOf, otherEnd, otherEdge, walk, startOf, around, eachOnce, eachTwice}
-use Rattle.rules.specs.Sound.{sound, closed}
-use Rattle.rules.specs.Questions.{answer, pairs, edgesInOrder}
+use Rattle.rules.specs.Sound.{closed}
+use Rattle.rules.specs.Questions.{pairs, edgesInOrder}
 use Rattle.rules.specs.Rings.{HangTogether, Ring, RuleIsOneRing, FaceIsOneRing, FaceIsWalked}
 use Rattle.rules.proofs.Common.{kept-member}
 use Rattle.rules.proofs.FaceEdges.{of-all, Two, On, Face, startEdge, Linked, is-face, start-on, edge-two, linked, takes-all}

@@ -15,7 +15,9 @@ use Rattle.rules.specs.Lists.{if_then_else_, find, findFrom, all}
 use Rattle.rules.specs.Floats.{pointMatches, crossingPoint, edgeTest}
 use Rattle.rules.specs.Table.{Table, element, Element, elementCount, sameElement, polytope, corner, Plane, primordials, rank, rankOf, planeOf, isPrimordial, boundaryOf, pointAt}
 use Rattle.rules.specs.Sound.{closed, sound}
-use Rattle.rules.specs.Cut.{Outcome, refused, done, next, Step, shareElement, addElement, addPolytope, shareVertex, withPoint, addVertex, sharePlane, addPlane, planeMatches, sideOfCut, including, rule7, Cutting, Gathered, rule6, newIntersection, planeOfIntersection, given, crossEdge, cutEdge, cut, cutEnds, distanceOf, cutBoundary, gathering, cutElement, cutCorner, cutHigher, nothingYet, cutFinite, cutAtDistance}
+use Rattle.rules.specs.Cut.{Outcome, refused, done, next, Step, shareElement, addElement, addPolytope, shareVertex, withPoint, addVertex, sharePlane, addPlane, planeMatches}
+use Rattle.rules.specs.Cut.{sideOfCut, including, rule7, Cutting, Gathered, rule6, newIntersection, planeOfIntersection, given, crossEdge, cutEdge, cut, cutEnds, distanceOf}
+use Rattle.rules.specs.Cut.{cutBoundary, gathering, cutElement, cutCorner, cutHigher, nothingYet, cutFinite, cutAtDistance}
 use Rattle.rules.specs.declared.Crossing.{Crossing}
 use Rattle.rules.specs.declared.Crossing.the-variants.{None as NoCrossing, At}
 use Rattle.rules.specs.declared.ElementCutOutput.{ElementCutOutput}

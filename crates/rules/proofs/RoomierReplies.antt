@@ -2,32 +2,32 @@
 use Prim.Native.Nat.{ℕ, _≤_, zero, suc, _-_}
 use mathlib.Core.Bool.{Bool, true, false, not, _&&_, false≢true}
 use mathlib.Core.List.{List, [], _∷_, _++_}
-use mathlib.Core.Path.{_≡_, subst, sym, refl, ap, ap₂, _∙_}
+use mathlib.Core.Path.{_≡_, subst, sym, refl, ap, _∙_}
 use native.Mathlib.Nat.{le-trans, le-of-eq, suc-ne-zero}
 use lib.Dec.{ltb, leb, eqb}
 use lib.Ieee.{Float}
 use lib.ListN.{length, take, drop, replicate}
 use lib.Seq.{take-append-le, drop-append-le}
 use Rattle.rules.specs.Limits.{Limits, Readable, HasCubes, Roomier}
-use Rattle.rules.specs.Lists.{if_then_else_, all, member, pad}
+use Rattle.rules.specs.Lists.{if_then_else_, all, member}
 use Rattle.rules.specs.Floats.{plusZero, sameBits, unit}
 use Rattle.rules.specs.Table.{Table, elementCount}
 use Rattle.rules.specs.Memory.{Memory, encode, decode, rightSize, soundMemory}
 use Rattle.rules.specs.Cube.{cube, radiusFits}
 use Rattle.rules.specs.Cut.{Outcome, refused, done, cut}
 use Rattle.rules.specs.Questions.{Asked, no-answer, answer, subElements, withRank, vertexSet, greatestCommon, edgesInOrder, primordialFacet}
-use Rattle.rules.specs.Replies.{cutNumber, isSoundReply, cubeReply, dividerFits, distanceFits, dividerOf, written, cutReply, asked, listed, inNumbers, facetAnswer}
+use Rattle.rules.specs.Replies.{cutNumber, isSoundReply, cubeReply, dividerFits, distanceFits, dividerOf, cutReply, asked, listed, inNumbers, facetAnswer}
 use Rattle.rules.specs.Replies.{subElementsReply, withRankReply, vertexSetReply, greatestCommonReply, edgesInOrderReply, primordialFacetReply}
 use Rattle.rules.specs.Calls.{ListQuestion, subElementsOf, subElementsWithRank, vertexSetOf, greatestCommonOf, edgesInOrderOf, listReply}
 use Rattle.rules.specs.Rooms.{TablesAlike, RepliesAlike, RoomierAlike, moved, widened}
 use Rattle.rules.specs.declared.CutReply.{CutReply}
-use Rattle.rules.specs.declared.CutReply.the-variants.{Refused, Answered}
+use Rattle.rules.specs.declared.CutReply.the-variants.{Answered}
 use Rattle.rules.specs.declared.ElementCutOutput.{ElementCutOutput}
 use Rattle.rules.specs.declared.Hyperplane.{Hyperplane}
 use Rattle.rules.proofs.Built.{RuleNumber, refused-number}
 use Rattle.rules.proofs.CubeCalls.{cube-done}
 use Rattle.rules.proofs.Good.{sound-good}
-use Rattle.rules.proofs.Laws.{truly, and-true, and-left, and-right, or-case, le-test, test-le, test-eq, eq-test, if-true}
+use Rattle.rules.proofs.Laws.{and-true, and-left, and-right, or-case, le-test, test-le, test-eq, eq-test, if-true}
 use Rattle.rules.proofs.OneCall.{sound-table, replyBy, reply-by, it, memory-table}
 use Rattle.rules.proofs.Refusals.{cubeBy, cube-by}
 use Rattle.rules.proofs.Roomier.{Alike, cut-alike, sound-alike}

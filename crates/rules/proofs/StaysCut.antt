@@ -7,7 +7,7 @@ use mathlib.Core.Path.{_≡_, _∙_, sym, refl, ap, subst}
 use native.Mathlib.Nat.{suc-ne-zero, suc-inj, le-of-lt, le-trans, not-suc-le-zero, le-of-suc-le-suc}
 use native.Mathlib.Omega.{arith}
 use lib.Dec.{eqb, leb}
-use lib.Ieee.{Float, low, fin, inf, nan}
+use lib.Ieee.{Float, fin, inf, nan}
 use lib.IntN.{pos}
 use lib.ListN.{length, getD}
 use Rattle.rules.specs.Limits.{Limits}
@@ -15,7 +15,8 @@ use Rattle.rules.specs.Lists.{all, if_then_else_}
 use Rattle.rules.specs.Floats.{crossingPoint, within, farthest, sideOf, edgeTest}
 use Rattle.rules.specs.Table.{element, rank, Table, Element, rankOf, planeOf, isPrimordial, Plane, corner, pointAt, pointOf, polytope, boundaryOf, elementCount}
 use Rattle.rules.specs.Sound.{soundPoint, soundFacet, namesPlane, namesNone, soundElement, soundPlane}
-use Rattle.rules.specs.Cut.{Cutting, cut, planeOfIntersection, newIntersection, addPolytope, sideOfCut, including, Gathered, rule7, rule6, given, crossEdge, addVertex, cutEnds, distanceOf, gathering, cornerAnswer, nothingYet, cutEdge, Step, cutBoundary, cutHigher, cutElement, Outcome, refused, done, cutCorner, cutFinite, addPlane, cutAtDistance}
+use Rattle.rules.specs.Cut.{Cutting, cut, planeOfIntersection, newIntersection, addPolytope, sideOfCut, including, Gathered, rule7, rule6, given, crossEdge, addVertex, cutEnds, distanceOf}
+use Rattle.rules.specs.Cut.{gathering, cornerAnswer, nothingYet, cutEdge, Step, cutBoundary, cutHigher, cutElement, Outcome, refused, done, cutCorner, cutFinite, addPlane, cutAtDistance}
 use Rattle.rules.specs.Promises.{OneBelow, NamesBelow}
 use Rattle.rules.specs.Held.{Extends, SetOf, SomeOf, Sets, OutputOf, AllOf, Ranked}
 use Rattle.rules.specs.declared.Crossing.{Crossing}

@@ -271,7 +271,7 @@ isCommon t es x = all (λ e. isBelow t e x) es
 -- members are common, of one rank, and all of it; no common element has a higher rank; where there are none, that rank is 0
 pub record Greatest (t : Table) (es xs : List ElementNumber) : Type 0 where
   pub level : ℕ
-  pub members : (x : ElementNumber) → member x xs ≡ true → (x < elementCount t) × (rank t x ≡ level) × (isCommon t es x ≡ true)
+  pub common : (x : ElementNumber) → member x xs ≡ true → (x < elementCount t) × (rank t x ≡ level) × (isCommon t es x ≡ true)
   pub whole : (x : ElementNumber) → x < elementCount t → 0 < rank t x → rank t x ≡ level → isCommon t es x ≡ true → member x xs ≡ true
   pub highest : (x : ElementNumber) → x < elementCount t → level < rank t x → isCommon t es x ≡ true → ⊥
 
