@@ -4,3 +4,4 @@ pub mod Puts
 pub mod Records
 pub mod Turns
 pub mod Enough
+pub mod Promises

@@ -1,0 +1,111 @@
+-- The promises of a record's turn, by cases on its tests: too little room, a cube, a cut, a bad record.
+use Prim.Native.Nat.{ℕ, zero, suc, _+_, _≤_, _<_}
+use mathlib.Core.Bool.{Bool, true, false, _&&_}
+use mathlib.Core.Option.{Option, none, some}
+use mathlib.Core.List.{List, [], _∷_}
+use mathlib.Core.Path.{_≡_, refl, sym, ap, subst, _∙_}
+use native.Mathlib.Nat.{suc-ne-zero}
+use native.Mathlib.Omega.{arith}
+use lib.Dec.{ltb, lit≤}
+use lib.ListN.{length, getD, drop, set}
+use lib.Seq.{sets, length-sets, drop-set-lt}
+use Rattle.rules.specs.Limits.{desk}
+use Rattle.rules.specs.Lists.{if_then_else_}
+use Rattle.rules.specs.Memory.{Memory}
+use Rattle.rules.specs.Session.{Line, text, bad, taken, turn, isCube, isCut, cutLength, cubeLine, refusedLine, cutText, tableCounts, cubeAsked, cutAsked, cubeTurn, cutTurn}
+use Rattle.rules.proofs.Laws.{and-right, le-test, test-le}
+use Rattle.session.specs.declared.TurnReply.{TurnReply}
+use Rattle.session.specs.declared.TurnReply.the-variants.{NoRoom, Bad, Taken}
+use Rattle.session.specs.Written.{lineRoom, turnNumber, turnValues, replyOf, turnReply}
+use Rattle.session.specs.Promises.{TurnNumbered, TurnNumbers, UntakenTurnLeaves, TurnTaken, TakenTurnGoesOn, Promises}
+use Rattle.session.proofs.Turns.{cube-long, cut-long}
+
+none-some : {A B : Type 0} (x : A) → _≡_ {A = Option A} none (some x) → B
+none-some x e = absurd (let z : _≡_ {A = ℕ} 0 1 = cc in suc-ne-zero 0 (sym z))
+
+-- what stands behind a line stays
+drop-sets : (vs l : List ℕ) (i n : ℕ) → i + length vs ≤ n → drop n (sets l i vs) ≡ drop n l
+drop-sets [] l i n h = refl
+drop-sets (a ∷ vs) l i n h = drop-sets vs (set l i a) (suc i) n (omega (arith, h)) ∙ drop-set-lt n l i a (omega (arith, h))
+
+module _ (stands : Bool) (m : Memory) (bs room : List ℕ) where
+  -- all that is promised of one reply, in a room for which there is a line or not
+  record Kept (short : Bool) (x : TurnReply × Memory × List ℕ) : Type 0 where
+    numbered : (short ≡ true → turnNumber (x .0) ≡ some 12) × (turnNumber (x .0) ≡ some 12 → (short ≡ true) × (turnValues (x .0) ≡ none))
+    taken-has : turnNumber (x .0) ≡ some 0 → (v : ℕ × ℕ × Bool) × (turnValues (x .0) ≡ some v)
+    bad-has : turnNumber (x .0) ≡ none → turnValues (x .0) ≡ none
+    untaken : turnValues (x .0) ≡ none → (x .1 ≡ m) × (x .2 ≡ room)
+    goes-on : (k n : ℕ) (later : Bool) → turnValues (x .0) ≡ some (k, n, later) → TurnTaken stands bs room (x .2) k n later
+
+  -- a turn that is taken
+  of-taken : (k : ℕ) (line : Line) (later : Bool) (after : Memory) → 0 < k → k ≤ length bs → (stands ≡ true → later ≡ true)
+      → Kept false (replyOf m room (taken k line later after))
+  of-taken k line later after p l t = record {
+    numbered = (λ e. none-some 0 (let z : _≡_ {A = Option ℕ} none (some 0) = cc in z), λ e. none-some 0 (let z : _≡_ {A = Option ℕ} none (some 0) = cc in z));
+    taken-has = λ e. ((k, length (text line), later), refl);
+    bad-has = λ e. none-some 0 (sym e);
+    untaken = λ e. none-some _ (sym e);
+    goes-on = λ j n w e. subst (λ (v : ℕ × ℕ × Bool). TurnTaken stands bs room (sets room 0 (text line)) (v .0) (v .1) (v .2)) (ap (valueOr (k, length (text line), later)) e) (record {
+      some-bytes = p;
+      in-bytes = l;
+      size = length-sets room 0 (text line);
+      rest = drop-sets (text line) room 0 (length (text line)) (omega arith);
+      table = t;
+    });
+  }
+    where
+      valueOr : ℕ × ℕ × Bool → Option (ℕ × ℕ × Bool) → ℕ × ℕ × Bool
+      valueOr v none = v
+      valueOr v (some w) = w
+
+  of-cube : (x : ℕ × Memory) → isCube bs ≡ true → Kept false (replyOf m room (cubeTurn stands x))
+  of-cube (zero, after) e = of-taken 11 (cubeLine (tableCounts after)) true after (lit≤ tt) (cube-long bs e) (λ h. refl)
+  of-cube (suc n, after) e = of-taken 11 (refusedLine (suc n)) stands after (lit≤ tt) (cube-long bs e) (λ h. h)
+
+  of-turn : Kept false (replyOf m room (turn desk stands m bs))
+  unfolding turn
+  of-turn = go (isCube bs) (stands && isCut (getD (m .counts) 0 0) bs) refl refl
+    where
+      go : (c t : Bool) → isCube bs ≡ c → (stands && isCut (getD (m .counts) 0 0) bs) ≡ t
+          → Kept false (replyOf m room (if c then cubeTurn stands (cubeAsked desk m bs) else if t then cutTurn (getD (m .counts) 0 0) (cutAsked desk m bs) else bad))
+      go true t e f = of-cube (cubeAsked desk m bs) e
+      go false true e f =
+          let r = cutAsked desk m bs in
+          of-taken (cutLength (getD (m .counts) 0 0)) (cutText (r .0) (tableCounts (r .1))) true (r .1) (omega arith)
+          (cut-long bs (getD (m .counts) 0 0) (and-right stands (isCut (getD (m .counts) 0 0) bs) f)) (λ h. refl)
+      go false false e f = record {
+        numbered = (λ q. none-some 0 (let z : _≡_ {A = Option ℕ} none (some 0) = cc in z), λ q. none-some 12 q);
+        taken-has = λ q. none-some 0 q;
+        bad-has = λ q. refl;
+        untaken = λ q. (refl, refl);
+        goes-on = λ k n later q. none-some _ q;
+      }
+
+  kept : Kept (ltb (length room) lineRoom) (turnReply stands m bs room)
+  unfolding turnReply
+  kept = go (ltb (length room) lineRoom)
+    where
+      go : (b : Bool) → Kept b (if b then (NoRoom, m, room) else replyOf m room (turn desk stands m bs))
+      go true = record {
+        numbered = (λ q. refl, λ q. (refl, refl));
+        taken-has = λ q. none-some 0 (let z : _≡_ {A = Option ℕ} none (some 0) = cc in z);
+        bad-has = λ q. refl;
+        untaken = λ q. (refl, refl);
+        goes-on = λ k n later q. none-some _ q;
+      }
+      go false = of-turn
+
+  turn-numbered : TurnNumbered room (turnReply stands m bs room .0)
+  turn-numbered = record {
+    short = λ h. kept .numbered .0 (test-le (suc (length room)) lineRoom h);
+    refused = λ e. let r = kept .numbered .1 e in (le-test (suc (length room)) lineRoom (r .0), r .1);
+    taken = kept .taken-has;
+    bad = kept .bad-has;
+  }
+
+pub promises : Promises
+promises = record {
+  turn-numbers = turn-numbered;
+  untaken-turn-leaves = λ stands m bs room. kept stands m bs room .untaken;
+  taken-turn-goes-on = λ stands m bs room. kept stands m bs room .goes-on;
+}
