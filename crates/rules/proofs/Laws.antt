@@ -4,7 +4,7 @@ use Prim.Native.Nat.{ℕ, _≤_, _<_}
 use mathlib.Core.Bool.{true, false, Bool, false≢true, not, true≢false, _&&_, _||_, Bool·beq}
 use mathlib.Core.Option.{Option, none, some}
 use mathlib.Core.Path.{_≡_, refl, subst, sym, _∙_}
-use native.Mathlib.Nat.{lt-irrefl, le-trans}
+use native.Mathlib.Nat.{lt-irrefl, le-trans, suc-ne-zero}
 use lib.Dec.{T, leb, leb→le, le→leb, nleb→lt, eqb, eqb-refl, eqb→eq}
 use Rattle.rules.specs.Lists.{if_then_else_}
 
@@ -132,6 +132,10 @@ module _ {A : Type 0} where
   either P false x y p q = q
 
 -- ---- what a search gives
+
+-- none is no some
+pub none-some : {A B : Type 0} (x : A) → _≡_ {A = Option A} none (some x) → B
+none-some x e = absurd (let z : _≡_ {A = ℕ} 0 1 = cc in suc-ne-zero 0 (sym z))
 
 abbrev pub IsSome : Option ℕ → Type 0
 IsSome none = ⊥

@@ -1,9 +1,8 @@
 -- Every promise of specs/Promises holds, in every room that can be read back and has place for its cubes: the record is put together from the files that prove its parts.
 use Prim.Native.Nat.{ℕ, zero, suc, _<_}
 use mathlib.Core.Bool.{true, Bool, false}
-use mathlib.Core.Option.{Option, none, some}
-use mathlib.Core.Path.{_≡_, refl, ap, sym, _∙_, subst}
-use native.Mathlib.Nat.{suc-ne-zero}
+use mathlib.Core.Option.{none, some}
+use mathlib.Core.Path.{_≡_, refl, ap, _∙_, subst}
 use lib.Dec.{lit≤}
 use lib.ListN.{getD}
 use Rattle.rules.specs.Limits.{Limits, HasCubes, Readable, desk, large, Roomier}
@@ -23,7 +22,7 @@ use Rattle.rules.proofs.Boxes.{in-the-box}
 use Rattle.rules.proofs.Calls.{not-infinite, gives, again-later, one-side-later, flush-later, infinite-distance}
 use Rattle.rules.proofs.CubeCalls.{cube-is-sound, stays-sound, enough-boundary, stays-unmatched, one-crossing-one-corner}
 use Rattle.rules.proofs.Good.{sound-good}
-use Rattle.rules.proofs.Laws.{le-test}
+use Rattle.rules.proofs.Laws.{le-test, none-some}
 use Rattle.rules.proofs.Missed.{sideBy, missed-cut}
 use Rattle.rules.proofs.OldRows.{old-entries-stay}
 use Rattle.rules.proofs.OneCall.{sound-table, passed, divider-sound, names-in-use}
@@ -60,21 +59,18 @@ module _ (L : Limits) (R : Readable L) (H : HasCubes L) where
   in-use h i o root m = go (cutReply L h i o root m .0) refl
     where
       one : (n : ℕ) (x : ElementOrNone) (e : ℕ) → OneBelow n x → elementValue x ≡ some e → e < n
-      one n None e b q = absurd (let z : _≡_ {A = ℕ} 0 1 = cc in suc-ne-zero 0 (sym z))
+      one n None e b q = none-some e q
       one n (Some y) e b q = let z : y .0 ≡ e = cc in subst (λ (k : ℕ). k < n) z b
 
-      no : (n e : ℕ) → _≡_ {A = Option ℕ} none (some e) → e < n
-      no n e q = absurd (let z : _≡_ {A = ℕ} 0 1 = cc in suc-ne-zero 0 (sym z))
-
       places : (n : ℕ) (a : ElementCutOutput) → NamesBelow n a → (k e : ℕ) → getD (outputValues a) k none ≡ some e → e < n
-      places n Flush b k e q = no n e q
+      places n Flush b k e q = none-some e q
       places n (NonFlush x y z) b zero e q = one n x e (b .0) q
       places n (NonFlush x y z) b (suc zero) e q = one n y e (b .1) q
       places n (NonFlush x y z) b (suc (suc zero)) e q = one n z e (b .2) q
-      places n (NonFlush x y z) b (suc (suc (suc k))) e q = no n e q
+      places n (NonFlush x y z) b (suc (suc (suc k))) e q = none-some e q
 
       go : (r : CutReply) → cutReply L h i o root m .0 ≡ r → (k e : ℕ) → getD (cutValues r) k none ≡ some e → e < getD (cutReply L h i o root m .1 .counts) 1 0
-      go (Refused n) w k e q = no _ e q
+      go (Refused n) w k e q = none-some e q
       go (Answered a) w k e q = places _ a (names-in-use L R h i o root m a (cutReply L h i o root m .1) (λ j. (w j, cutReply L h i o root m .1))) k e q
 
   -- ---- all of them

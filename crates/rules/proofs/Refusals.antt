@@ -2,7 +2,7 @@
 use Prim.Native.Nat.{ℕ, suc, _<_}
 use mathlib.Core.Bool.{Bool, false, true, _||_, not, _&&_, true≢false}
 use mathlib.Core.List.{List, _∷_, [], _++_}
-use mathlib.Core.Option.{Option, none, some}
+use mathlib.Core.Option.{some}
 use mathlib.Core.Path.{_≡_, sym, _∙_, ap, refl, subst}
 use native.Mathlib.Nat.{suc-ne-zero, lt-irrefl}
 use lib.Dec.{ltb, eqb, leb}
@@ -29,7 +29,7 @@ use Rattle.rules.specs.declared.Hyperplane.{Hyperplane}
 use Rattle.rules.specs.declared.ListReply.{ListReply}
 use Rattle.rules.specs.declared.ListReply.the-variants.{Listed, Refused as ListRefused}
 use Rattle.rules.proofs.Built.{RuleNumber, refused-number}
-use Rattle.rules.proofs.Laws.{holds, and-left, le-test, eq-test, either, if-true, or-right}
+use Rattle.rules.proofs.Laws.{holds, and-left, le-test, eq-test, either, if-true, or-right, none-some}
 use Rattle.rules.proofs.OneCall.{reply-by, replyBy, sound-table}
 use Rattle.rules.proofs.RingWalked.{face-is-walked}
 
@@ -146,12 +146,9 @@ listed-refused (answer xs) room k = go (leb (length xs) (length room)) k
     go true l = absurd (lt-irrefl 0 l)
     go false l = refl
 
-none-some : {A : Type 0} (x : A) → _≡_ {A = Option A} none (some x) → ⊥
-none-some x e = let z : _≡_ {A = ℕ} 0 1 = cc in suc-ne-zero 0 (sym z)
-
 -- a list done fills the front
 pub listed-fills : (a : Asked (List ℕ)) (room : List ℕ) (n : ℕ) → listSize (listed a room .0) ≡ some n → Filled n room (listed a room .1)
-listed-fills (no-answer k) room n e = absurd (none-some n e)
+listed-fills (no-answer k) room n e = none-some n e
 listed-fills (answer xs) room n e = go (leb (length xs) (length room)) refl e
   where
     go : (b : Bool) → leb (length xs) (length room) ≡ b → listSize (listedBy xs room b .0) ≡ some n → Filled n room (listedBy xs room b .1)
@@ -160,7 +157,7 @@ listed-fills (answer xs) room n e = go (leb (length xs) (length room)) refl e
         let k : length xs ≡ n = cc in
         subst (λ (j : ℕ). Filled j room (xs ++ drop (length xs) room)) k
         (record { fits = l; size = length-front room xs (length xs) (sym (length-take-le (length xs) room l)); rest = drop-append-seam xs (drop (length xs) room) })
-    go false t q = absurd (none-some n q)
+    go false t q = none-some n q
 
 -- every such reply is what `listed` makes of an answer
 pub list-answer : Limits → ListQuestion → Memory → Asked (List ℕ)

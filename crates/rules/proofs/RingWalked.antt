@@ -56,7 +56,7 @@ some-entry : (xs : List ℕ) (x : ℕ) → member x xs ≡ true → 0 < length x
 some-entry [] x h = absurd (false≢true h)
 some-entry (y ∷ ys) x h = zero-lt-suc (length ys)
 
-none-there : (x : ℕ) (xs : List ℕ) → member x xs ≡ false → occurrences x xs ≡ 0
+pub none-there : (x : ℕ) (xs : List ℕ) → member x xs ≡ false → occurrences x xs ≡ 0
 none-there x [] h = refl
 none-there x (y ∷ ys) h = go (eqb x y) h (none-there x ys)
   where

@@ -4,7 +4,6 @@ use mathlib.Core.Bool.{Bool, true, false, _&&_}
 use mathlib.Core.Option.{Option, none, some}
 use mathlib.Core.List.{List, [], _∷_}
 use mathlib.Core.Path.{_≡_, refl, sym, ap, subst, _∙_}
-use native.Mathlib.Nat.{suc-ne-zero}
 use native.Mathlib.Omega.{arith}
 use lib.Dec.{ltb, lit≤}
 use lib.ListN.{length, getD, drop, set}
@@ -13,15 +12,12 @@ use Rattle.rules.specs.Limits.{desk}
 use Rattle.rules.specs.Lists.{if_then_else_}
 use Rattle.rules.specs.Memory.{Memory}
 use Rattle.rules.specs.Session.{Line, text, bad, taken, turn, isCube, isCut, cutLength, cubeLine, refusedLine, cutText, tableCounts, cubeAsked, cutAsked, cubeTurn, cutTurn}
-use Rattle.rules.proofs.Laws.{and-right, le-test, test-le}
+use Rattle.rules.proofs.Laws.{and-right, le-test, test-le, none-some}
 use Rattle.session.specs.declared.TurnReply.{TurnReply}
 use Rattle.session.specs.declared.TurnReply.the-variants.{NoRoom, Bad, Taken}
 use Rattle.session.specs.Written.{lineRoom, turnNumber, turnValues, replyOf, turnReply}
 use Rattle.session.specs.Promises.{TurnNumbered, TurnNumbers, UntakenTurnLeaves, TurnTaken, TakenTurnGoesOn, Promises}
 use Rattle.session.proofs.Turns.{cube-long, cut-long}
-
-none-some : {A B : Type 0} (x : A) → _≡_ {A = Option A} none (some x) → B
-none-some x e = absurd (let z : _≡_ {A = ℕ} 0 1 = cc in suc-ne-zero 0 (sym z))
 
 -- what stands behind a line stays
 drop-sets : (vs l : List ℕ) (i n : ℕ) → i + length vs ≤ n → drop n (sets l i vs) ≡ drop n l
