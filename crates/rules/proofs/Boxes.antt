@@ -78,7 +78,8 @@ module _ (L : Limits) (t : Table) (s : sound L t ≡ true) (e : ℕ) (used : e <
       }
 
 pub in-the-box : (L : Limits) → InTheBox L
-in-the-box L = (
-  λ p q w t. record { axes = crossing-long t p q (w .axes); between = crossing-between t p q (w .axes) (w .first) (w .second) },
-  edge-ends L,
-)
+in-the-box L = record {
+  crossing = λ p q w t. record { axes = crossing-long t p q (w .axes); between = crossing-between t p q (w .axes) (w .first) (w .second) };
+  edge = edge-ends L;
+  coordinate = λ a b x na nb. clamp-between a b na nb x;
+}

@@ -10,7 +10,7 @@ use lib.ListN.{length, getD, take, drop}
 use lib.Ieee.{Float, inf, le, isNan}
 use Rattle.rules.specs.Limits.{Limits}
 use Rattle.rules.specs.Lists.{all, any, member, occurrences, rises}
-use Rattle.rules.specs.Floats.{plusZero, sideOf, signedDistance, crossingPoint, pointMatches}
+use Rattle.rules.specs.Floats.{plusZero, sideOf, signedDistance, clamp, crossingPoint, pointMatches}
 use Rattle.rules.specs.Table.{ElementNumber, VertexNumber, HyperplaneNumber, Plane, Table, vertexOf, element, rank, boundary, elementCount, pointAt}
 use Rattle.rules.specs.Sound.{sound}
 use Rattle.rules.specs.Memory.{Memory, elementWidth, planeWidth, encode, decode, soundMemory}
@@ -216,7 +216,7 @@ pub record InBox (p q x : List Float) : Type 0 where
   pub axes : length x ≡ length p
   pub between : (k : ℕ) → k < length p → Between (getD p k plusZero) (getD q k plusZero) (getD x k plusZero)
 
--- a crossing, whatever its t, never lies outside the box of its edge: of any two ends without a NaN
+-- two points of one dimension, with no NaN: the ends of an edge
 pub record EndsOfEdge (p q : List Float) : Type 0 where
   pub axes : length q ≡ length p
   pub first : all (λ x. not (isNan x)) p ≡ true
@@ -226,10 +226,11 @@ pub record EndsOfEdge (p q : List Float) : Type 0 where
 abbrev pub endAt : Table → ElementNumber → ℕ → List Float
 endAt t e n = pointAt t (border t e n)
 
--- and every edge of a sound table has such ends
-abbrev pub InTheBox : Limits → Type 0
-InTheBox L = ((p q : List Float) → EndsOfEdge p q → (t : Float) → InBox p q (crossingPoint t p q))
-    × ((t : Table) → sound L t ≡ true → (e : ElementNumber) → e < elementCount t → rank t e ≡ 1 → EndsOfEdge (endAt t e 0) (endAt t e 1))
+-- a crossing never lies outside the box of its edge, whatever its t; an edge of a sound table has ends of which this holds; and whatever is clamped lies between
+pub record InTheBox (L : Limits) : Type 0 where
+  pub crossing : (p q : List Float) → EndsOfEdge p q → (t : Float) → InBox p q (crossingPoint t p q)
+  pub edge : (t : Table) → sound L t ≡ true → (e : ElementNumber) → e < elementCount t → rank t e ≡ 1 → EndsOfEdge (endAt t e 0) (endAt t e 1)
+  pub coordinate : (a b x : Float) → isNan a ≡ false → isNan b ≡ false → Between a b (clamp a b x)
 
 -- x is e, or is reached from a boundary element of e
 pub data Reaches (t : Table) : ElementNumber → ElementNumber → Type 0 where
