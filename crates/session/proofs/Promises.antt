@@ -1,9 +1,10 @@
 -- The promises of a record's turn, by cases on its tests: too little room, a cube, a cut, a bad record.
 use Prim.Native.Nat.{ℕ, zero, suc, _+_, _≤_, _<_}
-use mathlib.Core.Bool.{Bool, true, false, _&&_}
+use mathlib.Core.Bool.{Bool, true, false, _&&_, false≢true}
 use mathlib.Core.Option.{Option, none, some}
 use mathlib.Core.List.{List, [], _∷_}
 use mathlib.Core.Path.{_≡_, refl, sym, ap, subst, _∙_}
+use native.Mathlib.Nat.{suc-ne-zero}
 use native.Mathlib.Omega.{arith}
 use lib.Dec.{ltb, lit≤}
 use lib.ListN.{length, getD, drop, set}
@@ -12,12 +13,16 @@ use Rattle.rules.specs.Limits.{desk}
 use Rattle.rules.specs.Lists.{if_then_else_}
 use Rattle.rules.specs.Memory.{Memory}
 use Rattle.rules.specs.Session.{Line, text, bad, taken, turn, isCube, isCut, cutLength, cubeLine, refusedLine, cutText, tableCounts, cubeAsked, cutAsked, cubeTurn, cutTurn}
+use Rattle.rules.specs.declared.CutReply.{CutReply}
 use Rattle.rules.proofs.Laws.{and-right, le-test, test-le, none-some}
 use Rattle.session.specs.declared.TurnReply.{TurnReply}
 use Rattle.session.specs.declared.TurnReply.the-variants.{NoRoom, Bad, Taken}
 use Rattle.session.specs.Written.{lineRoom, turnNumber, turnValues, replyOf, turnReply}
-use Rattle.session.specs.Promises.{TurnNumbered, TurnNumbers, UntakenTurnLeaves, TurnTaken, TakenTurnGoesOn, Promises}
+use Rattle.session.specs.Promises.{TurnNumbered, TurnTaken, Promises}
 use Rattle.session.proofs.Turns.{cube-long, cut-long}
+
+not-twelve : _≡_ {A = Option ℕ} (some 0) (some 12) → ⊥
+not-twelve e = let z : _≡_ {A = ℕ} 0 12 = cc in suc-ne-zero 11 (sym z)
 
 -- what stands behind a line stays
 drop-sets : (vs l : List ℕ) (i n : ℕ) → i + length vs ≤ n → drop n (sets l i vs) ≡ drop n l
@@ -37,9 +42,9 @@ module _ (stands : Bool) (m : Memory) (bs room : List ℕ) where
   of-taken : (k : ℕ) (line : Line) (later : Bool) (after : Memory) → 0 < k → k ≤ length bs → (stands ≡ true → later ≡ true)
       → Kept false (replyOf m room (taken k line later after))
   of-taken k line later after p l t = record {
-    numbered = (λ e. none-some 0 (let z : _≡_ {A = Option ℕ} none (some 0) = cc in z), λ e. none-some 0 (let z : _≡_ {A = Option ℕ} none (some 0) = cc in z));
+    numbered = (λ e. absurd (false≢true e), λ e. absurd (not-twelve e));
     taken-has = λ e. ((k, length (text line), later), refl);
-    bad-has = λ e. none-some 0 (sym e);
+    bad-has = λ e. none-some {A = ℕ} 0 (sym e);
     untaken = λ e. none-some _ (sym e);
     goes-on = λ j n w e. subst (λ (v : ℕ × ℕ × Bool). TurnTaken stands bs room (sets room 0 (text line)) (v .0) (v .1) (v .2)) (ap (valueOr (k, length (text line), later)) e) (record {
       some-bytes = p;
@@ -58,6 +63,11 @@ module _ (stands : Bool) (m : Memory) (bs room : List ℕ) where
   of-cube (zero, after) e = of-taken 11 (cubeLine (tableCounts after)) true after (lit≤ tt) (cube-long bs e) (λ h. refl)
   of-cube (suc n, after) e = of-taken 11 (refusedLine (suc n)) stands after (lit≤ tt) (cube-long bs e) (λ h. h)
 
+  of-cut : (x : CutReply × Memory) → isCut (getD (m .counts) 0 0) bs ≡ true → Kept false (replyOf m room (cutTurn (getD (m .counts) 0 0) x))
+  of-cut (r, after) e =
+      let d = getD (m .counts) 0 0 in
+      of-taken (cutLength d) (cutText r (tableCounts after)) true after (let q : 0 < cutLength d = omega arith in q) (cut-long bs d e) (λ h. refl)
+
   of-turn : Kept false (replyOf m room (turn desk stands m bs))
   unfolding turn
   of-turn = go (isCube bs) (stands && isCut (getD (m .counts) 0 0) bs) refl refl
@@ -65,13 +75,10 @@ module _ (stands : Bool) (m : Memory) (bs room : List ℕ) where
       go : (c t : Bool) → isCube bs ≡ c → (stands && isCut (getD (m .counts) 0 0) bs) ≡ t
           → Kept false (replyOf m room (if c then cubeTurn stands (cubeAsked desk m bs) else if t then cutTurn (getD (m .counts) 0 0) (cutAsked desk m bs) else bad))
       go true t e f = of-cube (cubeAsked desk m bs) e
-      go false true e f =
-          let r = cutAsked desk m bs in
-          of-taken (cutLength (getD (m .counts) 0 0)) (cutText (r .0) (tableCounts (r .1))) true (r .1) (omega arith)
-          (cut-long bs (getD (m .counts) 0 0) (and-right stands (isCut (getD (m .counts) 0 0) bs) f)) (λ h. refl)
+      go false true e f = of-cut (cutAsked desk m bs) (and-right stands (isCut (getD (m .counts) 0 0) bs) f)
       go false false e f = record {
-        numbered = (λ q. none-some 0 (let z : _≡_ {A = Option ℕ} none (some 0) = cc in z), λ q. none-some 12 q);
-        taken-has = λ q. none-some 0 q;
+        numbered = (λ q. absurd (false≢true q), λ q. none-some {A = ℕ} 12 q);
+        taken-has = λ q. none-some {A = ℕ} 0 q;
         bad-has = λ q. refl;
         untaken = λ q. (refl, refl);
         goes-on = λ k n later q. none-some _ q;
@@ -84,7 +91,7 @@ module _ (stands : Bool) (m : Memory) (bs room : List ℕ) where
       go : (b : Bool) → Kept b (if b then (NoRoom, m, room) else replyOf m room (turn desk stands m bs))
       go true = record {
         numbered = (λ q. refl, λ q. (refl, refl));
-        taken-has = λ q. none-some 0 (let z : _≡_ {A = Option ℕ} none (some 0) = cc in z);
+        taken-has = λ q. absurd (not-twelve (sym q));
         bad-has = λ q. refl;
         untaken = λ q. (refl, refl);
         goes-on = λ k n later q. none-some _ q;
