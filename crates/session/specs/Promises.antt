@@ -24,10 +24,11 @@ abbrev pub UntakenTurnLeaves : Type 0
 UntakenTurnLeaves = (stands : Bool) (m : Memory) (bytes room : List ℕ) → turnValues (turnReply stands m bytes room .0) ≡ none
     → (turnReply stands m bytes room .1 ≡ m) × (turnReply stands m bytes room .2 ≡ room)
 
--- a record of k bytes is taken, and a line of n: the record is there, the line leaves what is behind it, and a table that stood stands
+-- a record of k bytes is taken, and a line of n: the record is there, the line fits its room and leaves what is behind it, and a table that stood stands
 pub record TurnTaken (stands : Bool) (bytes room after : List ℕ) (k n : ℕ) (later : Bool) : Type 0 where
   pub some-bytes : 0 < k
   pub in-bytes : k ≤ length bytes
+  pub in-room : n ≤ length room
   pub size : length after ≡ length room
   pub rest : drop n after ≡ drop n room
   pub table : stands ≡ true → later ≡ true
