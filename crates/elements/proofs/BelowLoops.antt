@@ -16,6 +16,7 @@ use Rattle.rules.specs.Promises.{Reaches, itself, lower, border, Bordered}
 use Rattle.rules.proofs.Borders.{sound-bordered}
 use Rattle.rules.proofs.Good.{above-zero, sound-good}
 use Rattle.rules.proofs.Growing.{all-get}
+use Rattle.rules.proofs.FaceEdges.{member-at}
 use Rattle.rules.proofs.Laws.{or-case, or-left, or-right, eq-test, test-le, le-test, not-le, and-true, refute, eqb-self, unlike-eq, both-ways}
 use Rattle.rules.proofs.Reach.{some-at, is-below}
 use Rattle.space.proofs.Room.{elements-size, sizeOf, listOf, rank-word, size-word, list-word}
@@ -139,11 +140,6 @@ all-reached : {t : Table} (ws : List ℕ) {r x : ℕ} → ((y n : ℕ) → isMar
     → Reaches t r x → isMarked ws r ≡ true → isMarked ws x ≡ true
 all-reached ws c (itself e) m = m
 all-reached ws c (lower e n x l h) m = all-reached ws c h (c e n m l)
-
-member-at : (b : List ℕ) (n : ℕ) → n < length b → member (getD b n 0) b ≡ true
-member-at [] n l = absurd (not-suc-le-zero l)
-member-at (y ∷ ys) zero l = or-left (eqb y y) (member y ys) (eqb-self y)
-member-at (y ∷ ys) (suc n) l = or-right (eqb (getD ys n 0) y) (member (getD ys n 0) ys) (member-at ys n (omega (arith, l)))
 
 each-at : (p : ℕ → Bool) (b : List ℕ) → ((n : ℕ) → n < length b → p (getD b n 0) ≡ true) → all p b ≡ true
 each-at p [] h = refl

@@ -14,7 +14,7 @@ use Rattle.rules.specs.Lists.{all}
 use Rattle.rules.specs.Table.{Table, elementCount, rank}
 use Rattle.rules.specs.Questions.{no-answer, answer, isBelow, commonWithRank, someOr, greatestFrom, greatestCommon}
 use Rattle.rules.proofs.Borders.{at-each}
-use Rattle.rules.proofs.Laws.{eq-test, unlike-eq, and-left, and-right, eqb-self, le-test, not-le, if-true, if-false}
+use Rattle.rules.proofs.Laws.{eq-test, unlike-eq, and-left, and-right, and-when, eqb-self, le-test, not-le, if-true, if-false}
 use Rattle.soundness.proofs.ReadBack.{and-assoc, and-one}
 use Rattle.elements.specs.Marks.{bit, isMarked, members, NoneMarked, Both}
 use Rattle.elements.specs.Below.{Lent, Used, Below}
@@ -22,7 +22,6 @@ use Rattle.elements.specs.Ranks.{OfRank, AllUsed, Common, Greatest}
 use Rattle.elements.proofs.MarkLaws.{marked-high}
 use Rattle.elements.proofs.MemberLaws.{members-are, true-below}
 use Rattle.elements.proofs.BelowLoops.{in-room, lent-rank, none-below}
-use Rattle.elements.proofs.RankLoops.{and-when}
 
 -- ---- two sets, word by word
 

@@ -12,7 +12,7 @@ use Rattle.rules.specs.Table.{Table, Element, corner, polytope, element, elemen
 use Rattle.rules.specs.Held.{elementsOf}
 use Rattle.rules.specs.Questions.{isBelow, subElements, withRank, vertexSet}
 use Rattle.rules.proofs.Good.{above-zero, sound-good}
-use Rattle.rules.proofs.Laws.{eqb-self, eq-test, test-eq, unlike-eq, not-eq, and-left, and-right, le-test, not-le}
+use Rattle.rules.proofs.Laws.{eqb-self, eq-test, test-eq, unlike-eq, not-eq, and-left, and-right, and-when, le-test, not-le}
 use Rattle.space.proofs.Room.{listOf, list-word}
 use Rattle.elements.specs.Marks.{isMarked, marking, members, NoneMarked, DownTo}
 use Rattle.elements.specs.Below.{Lent, Below}
@@ -111,10 +111,6 @@ module _ (es ws : List ℕ) (rank : ℕ) (out : List ℕ) (y : ℕ) (r : Ranking
   ranking-end z = record { of = λ x. r .done x (omega (arith, z)) }
 
 -- ---- sub-elements of a rank
-
-pub and-when : (a b c : Bool) → (a ≡ true → b ≡ c) → (a && b) ≡ (a && c)
-and-when true b c h = h refl
-and-when false b c h = refl
 
 keep-keep : (p q : ℕ → Bool) (xs : List ℕ) → keep (λ x. p x && q x) xs ≡ keep q (keep p xs)
 keep-keep p q [] = refl

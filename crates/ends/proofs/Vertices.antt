@@ -67,7 +67,7 @@ module _ {cs : List ℕ} {ps hs : List Float} {es : List ℕ} {e : ℕ} {k : Cut
   )
 
   pub point-sound : soundPoint (t .dimension) (pointAt t e) ≡ true
-  point-sound = point-at-sound desk (cutOf (t .dimension) k) t e good (F .used, ap suc (F .ranked))
+  point-sound = point-at-sound desk t e good (F .used, ap suc (F .ranked))
 
   float-is : (j : ℕ) → j < 4 → getD (pointsOf desk t) (found .0 * 4 + j) nan ≡ getD (pad plusZero 4 (pointAt t e)) j nan
   float-is j l =
