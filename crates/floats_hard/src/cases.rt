@@ -1,6 +1,7 @@
 // A loop for each table, and what is printed for each of its cases. A case stands at `at` in the words of its table.
 use crate::print;
 use crate::read;
+use rules::HyperplaneId;
 ghost use Prim.Native.Nat.{_+_, _<_, _≤_};
 ghost use lib.ListN.{length};
 
@@ -138,13 +139,13 @@ fn plane_pair(words: &[u64], at: usize)
 
 pub fn rows(planes: &[f64; 40]) {
     for k in 0..8 {
-        row(planes, k);
+        row(planes, HyperplaneId(k));
     }
 }
 
 // A row of the hyperplanes, as it is read.
-fn row(planes: &[f64; 40], k: usize)
-    requires { ⌜ k < 8 ⌝ }
+fn row(planes: &[f64; 40], k: HyperplaneId)
+    requires { ⌜ k .0 < 8 ⌝ }
 {
     print::name(b"row");
     print::hyperplane(hypermath::hyperplane_at(planes, k));
@@ -180,7 +181,7 @@ fn hyperplane(planes: &[f64; 40], words: &[u64], at: usize)
     requires { ⌜ at + 8 ≤ length (now words) ⌝ }
 {
     let d = read::number(words, at);
-    let first = read::number(words, at + 1);
+    let first = HyperplaneId(read::number(words, at + 1));
     let n = read::count(words, at + 2, 8);
     let wanted = read::hyperplane(words, at + 4, at + 3);
     print::name(b"hyperplane");

@@ -306,11 +306,11 @@ pub fn hyperplanes_match(d: usize, earlier: Hyperplane, later: Hyperplane) -> bo
 }
 
 // A row of the lent hyperplanes.
-pub fn hyperplane_at(planes: &[f64], k: usize) -> Hyperplane
-    requires { ⌜ k * (1 + axes) + (1 + axes) ≤ length (now planes) ⌝ }
-    ensures { λ r. ⌜ r ≡ rowHyperplane (now (planes .entry)) k ⌝ }
+pub fn hyperplane_at(planes: &[f64], k: HyperplaneId) -> Hyperplane
+    requires { ⌜ k .0 * (1 + axes) + (1 + axes) ≤ length (now planes) ⌝ }
+    ensures { λ r. ⌜ r ≡ rowHyperplane (now (planes .entry)) (k .0) ⌝ }
 {
-    let at = k * (1 + AXES);
+    let at = k.0 * (1 + AXES);
     let mut normal = [0.0; 4];
     for axis in 0..AXES {
         normal[axis] = planes[at + axis];
@@ -357,20 +357,20 @@ pub fn find_vertex(d: usize, points: &[f64], n: usize, p: [f64; 4]) -> FoundVert
     search_vertices(d, points, n, p)
 }
 
-// The lowest hyperplane, of those numbered from first up to n, that matches.
+// The lowest hyperplane that matches, of n, from the first that is asked on.
 pub fn find_hyperplane(
     d: usize,
     planes: &[f64],
-    first: usize,
+    first: HyperplaneId,
     n: usize,
     h: Hyperplane,
 ) -> FoundHyperplane
     requires { ⌜ n * (1 + axes) ≤ length (now planes) ⌝ }
-    ensures { λ r. ⌜ hyperplaneNumber r ≡ findFrom first (λ g. planeMatches g (dividerOf d h)) (drop first (planesIn d n (now (planes .entry)))) ⌝ }
+    ensures { λ r. ⌜ hyperplaneNumber r ≡ findFrom (first .0) (λ g. planeMatches g (dividerOf d h)) (drop (first .0) (planesIn d n (now (planes .entry)))) ⌝ }
 {
-    let mut k = first;
+    let mut k = first.0;
     while k < n {
-        let g = hyperplane_at(planes, k);
+        let g = hyperplane_at(planes, HyperplaneId(k));
         if hyperplanes_match(d, g, h) {
             return FoundHyperplane::At(HyperplaneId(k));
         }

@@ -13,10 +13,10 @@ use Rattle.hypermath.proofs.hyperplane_at.Statement.{statement}
 use Rattle.hypermath.proofs.hyperplane_at.Tie as tie
 
 abbrev Inv-loop : tie.InvT-loop
-Inv-loop planes k at normal₀ axis₀ normal axis = (axis ≤ axes) × (at ≡ k * (1 + axes)) × (length normal ≡ axes) × (normal ≡ copied (take (1 + axes) (drop (k * (1 + axes)) planes)) axes axis)
+Inv-loop planes at normal₀ axis₀ normal axis = (axis ≤ axes) × (length normal ≡ axes) × (normal ≡ copied (take (1 + axes) (drop at planes)) axes axis)
 
 abbrev μ-loop : tie.MeasureT-loop
-μ-loop planes k at normal₀ axis₀ normal axis = axes - axis
+μ-loop planes at normal₀ axis₀ normal axis = axes - axis
 
 add-at : tie.Need-add-at Inv-loop μ-loop
 add-at c = search needs
@@ -26,7 +26,7 @@ mul-at c = search needs
 
 loop-holds : tie.Need-loop-holds Inv-loop μ-loop
 unfolding lib.Ieee.ofBits
-loop-holds c = (search needs, search needs, search needs, refl)
+loop-holds c = (search needs, search needs, refl)
 
 add-normal : tie.Need-add-normal Inv-loop μ-loop
 add-normal c = search needs
@@ -52,8 +52,9 @@ loop-less c = search needs
 loop-again : tie.Need-loop-again Inv-loop μ-loop
 loop-again c =
     let at = c .before .before .loop in
-    let t = c .before .before .before .args in
-    (search needs, search needs, search needs, copy-row (1 + axes) (t .k) _ (t .planes .now) axes (at .axis) (omega arith) (c .before .before .before .pre) (at .inv .1) (at .inv .3) (c .before .loop-test .taken))
+    let f = c .before .before .before .before in
+    let t = f .args in
+    (search needs, search needs, copy-row (1 + axes) (t .k .0) _ (t .planes .now) axes (at .axis) (omega arith) (f .pre) refl (at .inv .2) (c .before .loop-test .taken))
 
 add-t6 : tie.Need-add-t6 Inv-loop μ-loop
 add-t6 c = search needs
@@ -67,8 +68,9 @@ shared-slice-read-t18 c = search needs
 returns : tie.Need-returns Inv-loop μ-loop
 returns c =
     let at = c .before .before .loop in
-    let t = c .before .before .before .args in
-    let r = row-is (1 + axes) (t .k) _ (t .planes .now) axes (at .axis) (omega arith) (c .before .before .before .pre) (at .inv .1) (at .inv .3) (omega arith) in
+    let f = c .before .before .before .before in
+    let t = f .args in
+    let r = row-is (1 + axes) (t .k .0) _ (t .planes .now) axes (at .axis) (omega arith) (f .pre) refl (at .inv .2) (omega arith) in
     λ i. record { normal = r .0 i; distance = r .1 i }
 
 pub hyperplane-at-spec : {M : Type 1} → statement M
