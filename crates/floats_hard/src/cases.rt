@@ -1,6 +1,7 @@
 // A loop for each table, and what is printed for each of its cases. A case stands at `at` in the words of its table.
 use crate::print;
 use crate::read;
+use rules::Hyperplane;
 use rules::HyperplaneId;
 ghost use Prim.Native.Nat.{_+_, _<_, _≤_};
 ghost use lib.ListN.{length};
@@ -29,7 +30,7 @@ pub fn pairs(words: &[u64]) {
     }
 }
 
-// Two floats: a bound and x, two coordinates, two signed distances.
+// Two floats: a bound and x, two coordinates, and the ends of an edge on the first axis, whose signed distances they are.
 fn pair(words: &[u64], at: usize)
     requires { ⌜ at + 2 ≤ length (now words) ⌝ }
 {
@@ -39,7 +40,12 @@ fn pair(words: &[u64], at: usize)
     print::test(hypermath::is_within(a, b));
     print::test(hypermath::same_bits(a, b));
     print::test(hypermath::coordinates_match(a, b));
-    print::crossing(hypermath::crossing_between(a, b));
+    let normal = read::on_first_axis(1.0);
+    let distance = 0.0;
+    let h = Hyperplane { normal, distance };
+    let p = read::on_first_axis(a);
+    let q = read::on_first_axis(b);
+    print::crossing(hypermath::edge_test(1, h, [p, q]));
     print::line_end();
 }
 
