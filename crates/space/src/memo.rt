@@ -184,7 +184,7 @@ pub fn add_hyperplane(counts: &mut [u16], planes: &mut [f64], h: Hyperplane) -> 
     ensures { λ r. ⌜ HyperplaneAdded (now (counts .entry)) (now (planes .entry)) h r (now (counts .exit)) (now (planes .exit)) ⌝ }
 {
     let d = wide(counts[0]);
-    let first = primordials(d);
+    let first = HyperplaneId(primordials(d));
     let n = wide(counts[3]);
     let m = hypermath::find_hyperplane(d, planes, first, n, h);
     let row = hyperplane_row(h);

@@ -210,10 +210,10 @@ cut-element-returns : (t : ℕ) → cut-element-lts.Need-returns (cut-element-cl
 cut-element-returns t c = (known-asked _ (ask-low (c .before .before .before .before .before .before .before .pre .1 .0)) (c .before .is-known .ensures) (c .if1 .taken), c .before .before .before .before .before .before .before .pre .1 .1)
 
 cut-element-cut-low-requires : (t : ℕ) → cut-element-lts.Need-cut-low-requires (cut-element-claims t) (cut-element-at t) cut-element.Post
-cut-element-cut-low-requires t c κs = (ask-ready (c .before .before .before .before .before .before .before .before .before .before .before .before .pre .1 .0), c .before .before .before .before .if2 .taken, c .before .before .before .before .before .before .before .before .before .before .before .before .pre .1 .1)
+cut-element-cut-low-requires t c κs = record { ready = ask-ready (c .before .before .before .before .before .before .before .before .before .before .before .before .pre .1 .0); low = c .before .before .before .before .if2 .taken; indexed = c .before .before .before .before .before .before .before .before .before .before .before .before .pre .1 .1 }
 
 cut-element-keep-requires : (t : ℕ) → cut-element-lts.Need-keep-requires (cut-element-claims t) (cut-element-at t) cut-element.Post
-cut-element-keep-requires t c κs = (ask-words (c .before .before .before .before .before .before .before .before .before .before .before .before .before .before .before .before .before .before .before .before .before .before .pre .1 .0), ask-low (c .before .before .before .before .before .before .before .before .before .before .before .before .before .before .before .before .before .before .before .before .before .before .pre .1 .0), low-room (c .before .before .before .before .before .before .before .before .before .cut-low .ensures .0) (c .before .before .before .before .before .before .before .before .before .before .before .before .before .before .before .before .before .before .before .before .before .before .pre .1 .0))
+cut-element-keep-requires t c κs = (ask-words (c .before .before .before .before .before .before .before .before .before .before .before .before .before .before .before .before .before .before .before .before .before .before .pre .1 .0), ask-low (c .before .before .before .before .before .before .before .before .before .before .before .before .before .before .before .before .before .before .before .before .before .before .pre .1 .0), low-room (c .before .before .before .before .before .before .before .before .before .cut-low .ensures .cut) (c .before .before .before .before .before .before .before .before .before .before .before .before .before .before .before .before .before .before .before .before .before .before .pre .1 .0))
 
 cut-element-same-length : (t : ℕ) → cut-element-lts.Need-same-length (cut-element-claims t) (cut-element-at t) cut-element.Post
 cut-element-same-length t c = c .before .before .before .before .before .before .before .before .before .before .cut-low .kept .0
@@ -228,7 +228,7 @@ cut-element-same-length-4 : (t : ℕ) → cut-element-lts.Need-same-length-4 (cu
 cut-element-same-length-4 t c = c .before .before .before .before .before .before .before .before .before .before .cut-low .kept .1 .1 .1 .0
 
 cut-element-returns-2 : (t : ℕ) → cut-element-lts.Need-returns-2 (cut-element-claims t) (cut-element-at t) cut-element.Post
-cut-element-returns-2 t c = (low-asked (c .before .before .before .before .before .before .before .before .before .before .cut-low .ensures .0) (c .keep .ensures .0) (c .keep .ensures .1), c .before .before .before .before .before .before .before .before .before .before .cut-low .ensures .1)
+cut-element-returns-2 t c = (low-asked (c .before .before .before .before .before .before .before .before .before .before .cut-low .ensures .cut) (c .keep .ensures .0) (c .keep .ensures .1), c .before .before .before .before .before .before .before .before .before .before .cut-low .ensures .indexed)
 
 cut-element-cut-boundary-requires : (t : ℕ) → cut-element-lts.Need-cut-boundary-requires (cut-element-claims t) (cut-element-at t) cut-element.Post
 cut-element-cut-boundary-requires t c κs = (omega (arith, c .before .before .before .before .before .before .before .before .before .before .before .before .before .before .before .before .before .pre .0), (c .before .before .before .before .before .before .before .before .before .before .before .before .before .before .before .before .before .pre .1 .0, omega (arith, c .before .before .before .before .before .before .before .before .before .if2 .left), nothing-gathered, c .before .before .before .before .before .before .before .before .before .before .before .before .before .before .before .before .before .pre .1 .1))
