@@ -22,6 +22,7 @@ use Rattle.rules.proofs.Good.{Good, all-below, sound-at, whole}
 use Rattle.rules.proofs.Laws.{le-test, eq-test, or-case}
 use Rattle.rules.proofs.Ranked.{set-under}
 use Rattle.rules.proofs.StaysCut.{Owner, facts}
+use Rattle.space.specs.Chains.{Indexed}
 use Rattle.space.specs.Closed.{Low, LowEnds, EndsLow, EachEdge, Edges, Untwinned}
 use Rattle.space.proofs.Room.{listOf, list-word}
 use Rattle.gathered.specs.Sets.{sizeIn, members, InRoom}
@@ -114,6 +115,12 @@ module _ (t : Table) (F : Fits desk t) (g : Good desk t) where
       ranked k h =
           let m = length-take-le (sizeIn s) s l in
           subst (Ranked t 2) (getD-take (sizeIn s) s k 0 h) (at (members s) k a (let q : k < length (members s) = omega (arith, m, h) in q))
+
+-- what a call of rule 8 asks of the words that it is given
+abbrev pub PolytopeAsks : (cs es ix : List ℕ) (r : ℕ) (list : List ℕ) (n : ℕ) → Type 0
+PolytopeAsks cs es ix r list n =
+    (length cs ≡ 4) × (length es ≡ 18432) × (getD cs 1 0 ≤ 512) × (length list ≡ 34) × (n ≤ 33) × (r < 65536) × Low list n × (r ≡ 2 → LowEnds es list n)
+    × Indexed es (getD cs 1 0) ix
 
 -- ---- the element that is cut
 

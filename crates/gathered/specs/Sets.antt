@@ -70,6 +70,11 @@ pub record Place (s : List ℕ) (x r : ℕ) : Type 0 where
   pub within : r ≤ sizeIn s
   pub stop : r < sizeIn s → x ≤ getD s r 0
 
+-- a set with room for one more, and a place in it
+pub record PutReady (s : List ℕ) (at : ℕ) : Type 0 where
+  pub sized : SizedSet s 32
+  pub within : at ≤ sizeIn s
+
 -- the words with x stored at a place, and behind it j of the members that stood there
 abbrev pub shifted : List ℕ → ℕ → ℕ → ℕ → List ℕ
 shifted s x at j = sets (set s at x) (at + 1) (take j (drop at (members s)))
@@ -78,17 +83,22 @@ shifted s x at j = sets (set s at x) (at + 1) (take j (drop at (members s)))
 abbrev pub putAt : List ℕ → ℕ → ℕ → List ℕ
 putAt s x at = set (shifted s x at (sizeIn s - at)) 33 (sizeIn s + 1)
 
+-- an element's number is within the room
+abbrev pub InRoom : ElementOrNone → Type 0
+InRoom None = Unit {0}
+InRoom (Some e) = e .0 < 512
+
+-- a set with room for one more, and the element that goes to it
+pub record IncludeReady (s : List ℕ) (p : ElementOrNone) : Type 0 where
+  pub sized : SizedSet s 32
+  pub room : InRoom p
+
 -- the set with the element in it, if there is one
 pub record Included (s : List ℕ) (p : ElementOrNone) (r : List ℕ) : Type 0 where
   pub of : members r ≡ including p (members s)
   pub sized : (m : ℕ) → SizedSet s m → SizedSet r (m + 1)
 
 -- ---- an answer gathered
-
--- an element's number is within the room
-abbrev pub InRoom : ElementOrNone → Type 0
-InRoom None = Unit {0}
-InRoom (Some e) = e .0 < 512
 
 -- all elements of an answer are within the room
 abbrev pub OutputInRoom : ElementCutOutput → Type 0

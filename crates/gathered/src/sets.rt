@@ -5,9 +5,9 @@ use rules::ElementOrNone;
 use space::words::SET;
 use space::words::SIZE;
 use space::words::wide;
-ghost use Prim.Native.Nat.{_≤_, _<_};
+ghost use Prim.Native.Nat.{_<_};
 ghost use mathlib.Core.Path.{_≡_};
-ghost use Rattle.gathered.specs.Sets.{sizeIn, SizedSet, Sized, answersIn, Place, putAt, InRoom, OutputInRoom, Included, GatheredIn};
+ghost use Rattle.gathered.specs.Sets.{SizedSet, Sized, answersIn, Place, PutReady, putAt, OutputInRoom, IncludeReady, Included, GatheredIn};
 
 // The words of the flush answers: how many there were, and the last such element.
 pub const FLUSH: usize = 2;
@@ -30,7 +30,7 @@ fn place(s: &[u16; SET], x: u16) -> usize
 
 // A number more, at a place; those from there on move up by one.
 fn put_at(s: &mut [u16; SET], x: u16, at: usize)
-    requires { ⌜ SizedSet (now s) 32 × (at ≤ sizeIn (now s)) ⌝ }
+    requires { ⌜ PutReady (now s) at ⌝ }
     ensures { λ r. ⌜ now (s .exit) ≡ putAt (now (s .entry)) x at ⌝ }
 {
     let n = wide(s[SIZE]);
@@ -62,7 +62,7 @@ fn insert(s: &mut [u16; SET], x: u16)
 }
 
 pub fn include(s: &mut [u16; SET], p: ElementOrNone)
-    requires { ⌜ SizedSet (now s) 32 × InRoom p ⌝ }
+    requires { ⌜ IncludeReady (now s) p ⌝ }
     ensures { λ r. ⌜ Included (now (s .entry)) p (now (s .exit)) ⌝ }
 {
     if let ElementOrNone::Some(e) = p {
@@ -80,7 +80,8 @@ pub fn gather_in(
     a: ElementCutOutput,
 )
     requires { ⌜ Sized (answersIn (now flush) (now inside) (now outside) (now intersections)) 31 × (b .0 < 512) × OutputInRoom a ⌝ }
-    ensures { λ r. ⌜ GatheredIn (answersIn (now (flush .entry)) (now (inside .entry)) (now (outside .entry)) (now (intersections .entry))) (b .0) a (answersIn (now (flush .exit)) (now (inside .exit)) (now (outside .exit)) (now (intersections .exit))) ⌝ }
+    ensures { λ r. ⌜ GatheredIn (answersIn (now (flush .entry)) (now (inside .entry)) (now (outside .entry)) (now (intersections .entry))) (b .0) a
+        (answersIn (now (flush .exit)) (now (inside .exit)) (now (outside .exit)) (now (intersections .exit))) ⌝ }
 {
     match a {
         ElementCutOutput::Flush => {

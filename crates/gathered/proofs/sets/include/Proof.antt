@@ -11,7 +11,7 @@ enum-known-p c = search needs
 cast-insert : tie.Need-cast-insert
 cast-insert c =
     let told = c .before .before .before in
-    let h = some-room _ (told .p .given .1) (told .before .before .pre .1) in
+    let h = some-room _ (told .p .given .1) (told .before .before .pre .room) in
     search needs
 
 insert-requires : tie.Need-insert-requires
