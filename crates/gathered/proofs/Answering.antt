@@ -25,7 +25,7 @@ use Rattle.rules.proofs.StaysCut.{new-intersection-stays, side-stays}
 use Rattle.space.specs.Chains.{Indexed}
 use Rattle.space.specs.declared.memo.Added.{Added}
 use Rattle.space.specs.declared.memo.Added.the-variants as added
-use Rattle.gathered.specs.Sets.{members, SizedSet, Answers}
+use Rattle.gathered.specs.Sets.{numbersIn, SizedSet, Answers}
 use Rattle.gathered.specs.Cutting.{cutOf, Fit, IntersectionFit, IntersectionReady, IntersectionMade, SideFit, SideReady, SideMade, Rule6Fit, Rule6Ready, Rule6Done, SideSet, Rule7Fit, Rule7Ready, Rule7Done}
 use Rattle.gathered.specs.declared.answer.Cutter.{Cutter}
 use Rattle.gathered.proofs.Fitting.{rank-before, owner-of, rank-low}
@@ -61,7 +61,7 @@ module _ {cs es : List ℕ} {r e : ℕ} {k : Cutter} {ps hs : List Float} {t : T
 
     -- a side of the element may be added
     module _ (x : ElementOrNone) (h : SomeOf r x t) {set xs : List ℕ} (S : SideSet r t set xs) where
-      set-now : SetOf u r (members set)
+      set-now : SetOf u r (numbersIn set)
       set-now = subst (λ (l : List ℕ). SetOf u r l) (sym (S .held)) (set-later xs (U .extends) (S .sets))
 
       side-fit : SideFit cs₁ ps hs es₁ r e set x u
@@ -76,7 +76,7 @@ module _ {cs es : List ℕ} {r e : ℕ} {k : Cutter} {ps hs : List Float} {t : T
         intersection = some-later r x (U .extends) h;
       }
 
-      same-step : (keep : Bool) → sideOfCut desk keep (element u e) x (members set) u ≡ sideOfCut desk keep (element t e) x xs u
+      same-step : (keep : Bool) → sideOfCut desk keep (element u e) x (numbersIn set) u ≡ sideOfCut desk keep (element t e) x xs u
       same-step keep = ap₂ (λ (y : Element) (l : List ℕ). sideOfCut desk keep y x l u) (element-same t u e (U .extends) (F .used)) (S .held)
 
       side-came : {cs₂ es₂ ix₂ : List ℕ} {keep : Bool} {y : Added} → SideMade cs₁ es₁ r e keep set x y cs₂ es₂ ix₂
@@ -89,8 +89,8 @@ module _ {cs es : List ℕ} {r e : ℕ} {k : Cutter} {ps hs : List Float} {t : T
           let n = rank-before r some in
           let f = fit-later in
           subst (Stays desk (SomeOf (suc (suc (r - 1)))) u) (same-step keep)
-          (side-stays desk (cutOf (u .dimension) k) u (r - 1) keep (element u e) x (members set) (U .good) (owner-of u e r (U .good) (f .used) (f .ranked) some)
-          (subst (λ (q : ℕ). SomeOf q x u) n (some-later r x (U .extends) h)) (subst (λ (q : ℕ). SetOf u q (members set)) n set-now))
+          (side-stays desk (cutOf (u .dimension) k) u (r - 1) keep (element u e) x (numbersIn set) (U .good) (owner-of u e r (U .good) (f .used) (f .ranked) some)
+          (subst (λ (q : ℕ). SomeOf q x u) n (some-later r x (U .extends) h)) (subst (λ (q : ℕ). SetOf u q (numbersIn set)) n set-now))
 
       -- the table after a side that was not refused
       side-after : {cs₂ es₂ ix₂ : List ℕ} {keep : Bool} {y : Added} → SideMade cs₁ es₁ r e keep set x y cs₂ es₂ ix₂ → (i : ElementOrNone) → y ≡ added.Made i
@@ -182,7 +182,7 @@ intersected k e t g = newIntersection desk (cutOf (t .dimension) k) (rankOf (ele
 
 -- from what rule 6 has: its sets for rule 7, and its intersection
 module _ {cs es : List ℕ} {r e : ℕ} {k : Cutter} {s : Answers} {ps hs : List Float} {t : Table} {g : Gathered} (F : Rule6Fit cs ps hs es r e k s t g) where
-  side-set : {set xs : List ℕ} → members set ≡ xs → SizedSet set 32 → SetOf t (suc (r - 1)) xs → SideSet r t set xs
+  side-set : {set xs : List ℕ} → numbersIn set ≡ xs → SizedSet set 32 → SetOf t (suc (r - 1)) xs → SideSet r t set xs
   side-set {xs = xs} h z q = record { held = h; sized = z; sets = subst (λ (n : ℕ). SetOf t n xs) (sym (rank-before r (F .some))) q }
 
   rule7-fit : {cs₁ es₁ : List ℕ} {u : Table} (U : Later cs₁ ps hs es₁ t u) (x : ElementOrNone) → SomeOf r x u → Rule7Fit cs₁ ps hs es₁ r e k (s .inside) (s .outside) x u g
@@ -205,12 +205,12 @@ module _ {cs es : List ℕ} {r e : ℕ} {k : Cutter} {s : Answers} {ps hs : List
     sets = subst (SetOf t (r - 1)) (sym (F .gathers .intersections)) (F .sets .intersections);
   }
 
-  intersection-keeps : Stays desk (SomeOf r) t (newIntersection desk (cutOf (t .dimension) k) r (members (s .intersections)) t)
+  intersection-keeps : Stays desk (SomeOf r) t (newIntersection desk (cutOf (t .dimension) k) r (numbersIn (s .intersections)) t)
   intersection-keeps =
       let n = rank-before r (F .some) in
       let f = intersection-fit in
-      subst (λ (q : ℕ). Stays desk (SomeOf q) t (newIntersection desk (cutOf (t .dimension) k) q (members (s .intersections)) t)) (sym n)
-      (new-intersection-stays desk (cutOf (t .dimension) k) t (r - 1) (members (s .intersections)) (good (F .fit) (F .some)) (f .plane)
+      subst (λ (q : ℕ). Stays desk (SomeOf q) t (newIntersection desk (cutOf (t .dimension) k) q (numbersIn (s .intersections)) t)) (sym n)
+      (new-intersection-stays desk (cutOf (t .dimension) k) t (r - 1) (numbersIn (s .intersections)) (good (F .fit) (F .some)) (f .plane)
       (test-le (suc (r - 1)) (t .dimension) (subst (λ (q : ℕ). q ≤ t .dimension) n (f .low))) (f .sets))
 
 module _ {cs es : List ℕ} {r e : ℕ} {k : Cutter} {s : Answers} where
@@ -251,7 +251,7 @@ module _ {cs es : List ℕ} {r e : ℕ} {k : Cutter} {s : Answers} where
         let q = F .gathers .flushes in sym (no-flush (g .flush) (subst (λ (m : ℕ). m ≤ 1) q h) (subst (λ (m : ℕ). m ≡ 1 → ⊥) q n))
 
     same-intersection : {ps hs : List Float} {t : Table} {g : Gathered} → Rule6Fit cs ps hs es r e k s t g
-        → newIntersection desk (cutOf (t .dimension) k) r (members (s .intersections)) t ≡ intersected k e t g
+        → newIntersection desk (cutOf (t .dimension) k) r (numbersIn (s .intersections)) t ≡ intersected k e t g
     same-intersection {t = t} F = ap₂ (λ (m : ℕ) (l : List ℕ). newIntersection desk (cutOf (t .dimension) k) m l t) (sym (F .fit .ranked)) (F .gathers .intersections)
 
     middle : {ps hs : List Float} {t : Table} {g : Gathered} → Rule6Fit cs ps hs es r e k s t g → Came added.Made added.Refused (Holds desk cs₁ ps hs es₁) t (intersected k e t g) y

@@ -26,7 +26,7 @@ use Rattle.space.specs.declared.memo.Added.{Added}
 use Rattle.space.specs.declared.memo.Added.the-variants as added
 use Rattle.space.proofs.VertexMemo.{dimension-is}
 use Rattle.space.proofs.Slices.{slices}
-use Rattle.gathered.specs.Sets.{sizeIn, members}
+use Rattle.gathered.specs.Sets.{sizeIn, numbersIn}
 use Rattle.gathered.specs.Cutting.{cutOf, IntersectionFit, IntersectionReady, IntersectionMade}
 use Rattle.gathered.specs.declared.answer.Cutter.{Cutter}
 use Rattle.gathered.proofs.Fitting.{low-of, edges-of, ends-low, PolytopeAsks}
@@ -60,7 +60,7 @@ module _ {cs es : List ℕ} {r : ℕ} {k : Cutter} {set : List ℕ} where
         (λ two.
             subst (LowEnds es set) (sym size)
             (ends-low t (F .holds .fits) (sound-good desk t (F .sound)) es (F .holds .elements) set (let q : sizeIn set ≤ length set = omega (arith, most, long) in q) (F .sets .rising)
-            (subst (λ (m : ℕ). AllOf (Ranked t m) (members set)) two (F .sets .ranked)))),
+            (subst (λ (m : ℕ). AllOf (Ranked t m) (numbersIn set)) two (F .sets .ranked)))),
         R .indexed,
       )
 
@@ -75,8 +75,8 @@ module _ {cs es : List ℕ} {r : ℕ} {k : Cutter} {set : List ℕ} where
       → PolytopeAdded cs es (r - 1) (take n set) plane false y cs′ es′ → Indexed es′ (getD cs′ 1 0) ix′ → IntersectionMade cs es r k set y cs′ es′ ix′
   intersection-made {y} {cs′} {es′} plane n size p A indexed = record {
     of = λ ps hs t F.
-        subst (λ (h : Option ℕ). Came added.Made added.Refused (Holds desk cs′ ps hs es′) t (addPolytope desk (r - 1) (members set) h false t) y) (plane-is plane p F)
-        (subst (λ (m : ℕ). PolytopeAdded cs es (r - 1) (take m set) plane false y cs′ es′) size A .of ps hs t (F .holds) (λ l. le-test 1 (r - 1) (rank-above t (r - 1) (members set) (F .sets) (lt-leb (length (members set)) (r - 1) l)))
-        (λ two. edges-of t (sound-good desk t (F .sound)) (members set) (F .sets .rising) (subst (λ (n : ℕ). AllOf (Ranked t n) (members set)) two (F .sets .ranked))));
+        subst (λ (h : Option ℕ). Came added.Made added.Refused (Holds desk cs′ ps hs es′) t (addPolytope desk (r - 1) (numbersIn set) h false t) y) (plane-is plane p F)
+        (subst (λ (m : ℕ). PolytopeAdded cs es (r - 1) (take m set) plane false y cs′ es′) size A .of ps hs t (F .holds) (λ l. le-test 1 (r - 1) (rank-above t (r - 1) (numbersIn set) (F .sets) (lt-leb (length (numbersIn set)) (r - 1) l)))
+        (λ two. edges-of t (sound-good desk t (F .sound)) (numbersIn set) (F .sets .rising) (subst (λ (n : ℕ). AllOf (Ranked t n) (numbersIn set)) two (F .sets .ranked))));
     indexed = indexed;
   }

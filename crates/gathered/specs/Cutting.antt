@@ -16,7 +16,7 @@ use Rattle.rules.specs.declared.CutReply.the-variants as reply
 use Rattle.space.specs.Chains.{Indexed}
 use Rattle.space.specs.declared.memo.Added.{Added}
 use Rattle.space.specs.declared.memo.Added.the-variants as added
-use Rattle.gathered.specs.Sets.{members, SizedSet, Answers, Sized, Gathers}
+use Rattle.gathered.specs.Sets.{numbersIn, SizedSet, Answers, Sized, Gathers}
 use Rattle.gathered.specs.declared.answer.Cutter.{Cutter}
 
 -- ---- the cut of one element
@@ -48,7 +48,7 @@ pub record IntersectionFit (cs : List ℕ) (ps hs : List Float) (es : List ℕ) 
   pub some : 1 ≤ r
   pub low : r ≤ t .dimension
   pub sized : SizedSet set 32
-  pub sets : SetOf t (r - 1) (members set)
+  pub sets : SetOf t (r - 1) (numbersIn set)
 
 -- there is such a table, and the index leads to its rows
 pub record IntersectionReady (cs es ix : List ℕ) (r : ℕ) (k : Cutter) (set : List ℕ) : Type 0 where
@@ -61,7 +61,7 @@ pub record IntersectionReady (cs es ix : List ℕ) (r : ℕ) (k : Cutter) (set :
 -- whatever such table the memory holds: the intersection's step; and the index leads to the rows of after
 pub record IntersectionMade (cs es : List ℕ) (r : ℕ) (k : Cutter) (set : List ℕ) (y : Added) (cs′ es′ ix′ : List ℕ) : Type 0 where
   pub of : (ps hs : List Float) (t : Table) → IntersectionFit cs ps hs es r k set t
-      → Came added.Made added.Refused (Holds desk cs′ ps hs es′) t (newIntersection desk (cutOf (t .dimension) k) r (members set) t) y
+      → Came added.Made added.Refused (Holds desk cs′ ps hs es′) t (newIntersection desk (cutOf (t .dimension) k) r (numbersIn set) t) y
   pub indexed : Indexed es′ (getD cs′ 1 0) ix′
 
 -- ---- a side
@@ -74,7 +74,7 @@ pub record SideFit (cs : List ℕ) (ps hs : List Float) (es : List ℕ) (r e : �
   pub ranked : rank t e ≡ r
   pub some : 1 ≤ r
   pub sized : SizedSet set 32
-  pub sets : SetOf t r (members set)
+  pub sets : SetOf t r (numbersIn set)
   pub intersection : SomeOf r x t
 
 -- there is such a table, and the index leads to its rows
@@ -104,7 +104,7 @@ pub record OwnTold (es : List ℕ) (e : ℕ) (list : List ℕ) (n : ℕ) (r : Bo
 -- whatever such table the memory holds: the side's step; and the index leads to the rows of after
 pub record SideMade (cs es : List ℕ) (r e : ℕ) (keep : Bool) (set : List ℕ) (x : ElementOrNone) (y : Added) (cs′ es′ ix′ : List ℕ) : Type 0 where
   pub of : (ps hs : List Float) (t : Table) → SideFit cs ps hs es r e set x t
-      → Came added.Made added.Refused (Holds desk cs′ ps hs es′) t (sideOfCut desk keep (element t e) x (members set) t) y
+      → Came added.Made added.Refused (Holds desk cs′ ps hs es′) t (sideOfCut desk keep (element t e) x (numbersIn set) t) y
   pub indexed : Indexed es′ (getD cs′ 1 0) ix′
 
 -- ---- rule 6
@@ -134,7 +134,7 @@ pub record Rule6Done (cs es : List ℕ) (r e : ℕ) (k : Cutter) (s : Answers) (
 
 -- the words of a side's set, of elements in use and of the rank below r
 pub record SideSet (r : ℕ) (t : Table) (set xs : List ℕ) : Type 0 where
-  pub held : members set ≡ xs
+  pub held : numbersIn set ≡ xs
   pub sized : SizedSet set 32
   pub sets : SetOf t r xs
 

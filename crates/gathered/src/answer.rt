@@ -1,6 +1,6 @@
 // Rules 6 to 8: what a cut adds for an element whose boundary has answered, and the element's own answer.
+use crate::including::include;
 use crate::sets::FLUSH;
-use crate::sets::include;
 use rules::CutReply;
 use rules::ElementCutOutput;
 use rules::ElementId;

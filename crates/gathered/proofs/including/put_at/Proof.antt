@@ -5,8 +5,8 @@ use mathlib.Core.List.{List}
 use lib.ListN.{set}
 use Rattle.gathered.proofs.Inserting.{Moving, moving-start, moving-more, moving-end}
 use borrow.Author.Needs.{needs}
-use Rattle.gathered.proofs.sets.put_at.Statement.{statement}
-use Rattle.gathered.proofs.sets.put_at.Tie as tie
+use Rattle.gathered.proofs.including.put_at.Statement.{statement}
+use Rattle.gathered.proofs.including.put_at.Tie as tie
 
 record MovingUp (s : List ℕ) (x at m j : ℕ) (words : List ℕ) (next : ℕ) : Type 0 where
   pub within : j ≤ m

@@ -3,16 +3,16 @@ use Prim.Native.Nat.{ℕ, _≤_, _-_}
 use mathlib.Core.List.{List}
 use mathlib.Core.Path.{_≡_}
 use native.Mathlib.Omega.{arith}
-use Rattle.gathered.specs.Sets.{sizeIn, members, Passed}
+use Rattle.gathered.specs.Sets.{sizeIn, numbersIn, Passed}
 use Rattle.gathered.proofs.Inserting.{passed-none, passed-next}
 use borrow.Author.Needs.{needs}
-use Rattle.gathered.proofs.sets.place.Statement.{statement}
-use Rattle.gathered.proofs.sets.place.Tie as tie
+use Rattle.gathered.proofs.including.place.Statement.{statement}
+use Rattle.gathered.proofs.including.place.Tie as tie
 
 record Searching (s : List ℕ) (x n at : ℕ) : Type 0 where
   pub within : at ≤ n
   pub size : n ≡ sizeIn s
-  pub passed : Passed x (members s) at
+  pub passed : Passed x (numbersIn s) at
 
 abbrev Inv-loop : tie.InvT-loop
 Inv-loop s x n at₀ at = Searching s x n at
