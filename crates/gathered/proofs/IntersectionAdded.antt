@@ -76,7 +76,8 @@ module _ {cs es : List ℕ} {r : ℕ} {k : Cutter} {set : List ℕ} where
   intersection-made {y} {cs′} {es′} plane n size p A indexed = record {
     of = λ ps hs t F.
         subst (λ (h : Option ℕ). Came added.Made added.Refused (Holds desk cs′ ps hs es′) t (addPolytope desk (r - 1) (numbersIn set) h false t) y) (plane-is plane p F)
-        (subst (λ (m : ℕ). PolytopeAdded cs es (r - 1) (take m set) plane false y cs′ es′) size A .of ps hs t (F .holds) (λ l. le-test 1 (r - 1) (rank-above t (r - 1) (numbersIn set) (F .sets) (lt-leb (length (numbersIn set)) (r - 1) l)))
+        (subst (λ (m : ℕ). PolytopeAdded cs es (r - 1) (take m set) plane false y cs′ es′) size A .of ps hs t (F .holds)
+        (λ l. le-test 1 (r - 1) (rank-above t (r - 1) (numbersIn set) (F .sets) (lt-leb (length (numbersIn set)) (r - 1) l)))
         (λ two. edges-of t (sound-good desk t (F .sound)) (numbersIn set) (F .sets .rising) (subst (λ (n : ℕ). AllOf (Ranked t n) (numbersIn set)) two (F .sets .ranked))));
     indexed = indexed;
   }

@@ -55,6 +55,7 @@ fn insert(s: &mut [u16; SET], x: u16)
     put_at(s, x, at);
 }
 
+// None leaves the set as it is.
 pub fn include(s: &mut [u16; SET], p: ElementOrNone)
     requires { ⌜ IncludeReady (now s) p ⌝ }
     ensures { λ r. ⌜ Included (now (s .entry)) p (now (s .exit)) ⌝ }
