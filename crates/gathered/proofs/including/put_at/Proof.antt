@@ -1,14 +1,19 @@
 -- The invariant: x is stored at its place, behind it the first j of those that move up, and the next of them is at hand.
 -- Where the loop begins, the words of before are s₀ with what stood at the place put back.
-use Prim.Native.Nat.{_≤_, _-_}
+use Prim.Native.Nat.{ℕ, _≤_, _-_}
+use mathlib.Core.List.{List}
 use lib.ListN.{set}
 use Rattle.gathered.proofs.Inserting.{Moving, moving-start, moving-more, moving-end}
 use borrow.Author.Needs.{needs}
-use Rattle.gathered.proofs.sets.put_at.Statement.{statement}
-use Rattle.gathered.proofs.sets.put_at.Tie as tie
+use Rattle.gathered.proofs.including.put_at.Statement.{statement}
+use Rattle.gathered.proofs.including.put_at.Tie as tie
+
+record MovingUp (s : List ℕ) (x at m j : ℕ) (words : List ℕ) (next : ℕ) : Type 0 where
+  pub within : j ≤ m
+  pub moving : Moving s x at j words next
 
 abbrev Inv-loop : tie.InvT-loop
-Inv-loop s₀ x at n m moved₀ j₀ s moved j = (j ≤ m) × Moving (set s₀ at moved₀) x at j s moved
+Inv-loop s₀ x at n m moved₀ j₀ s moved j = MovingUp (set s₀ at moved₀) x at m j s moved
 
 abbrev μ-loop : tie.MeasureT-loop
 μ-loop s₀ x at n m moved₀ j₀ s moved j = m - j
@@ -38,7 +43,7 @@ loop-holds : tie.Need-loop-holds Inv-loop μ-loop
 loop-holds c =
     let start = c .before .before .before in
     let a = start .args in
-    (search needs, moving-start (a .s .now) (a .x) (start .pre .0) (a .at) (start .pre .1))
+    record { within = search needs; moving = moving-start (a .s .now) (a .x) (start .pre .sized) (a .at) (start .pre .within) }
 
 add-above : tie.Need-add-above Inv-loop μ-loop
 add-above c = search needs
@@ -75,7 +80,11 @@ loop-again c =
     let round = c .before .before in
     let start = round .before .before .before .before in
     let a = start .args in
-    (search needs, moving-more (a .s .now) (a .x) (start .pre .0) (a .at) (start .pre .1) (round .loop .j) (search needs) (round .loop .inv .1))
+    let at = round .loop in
+    record {
+      within = search needs;
+      moving = moving-more (a .s .now) (a .x) (start .pre .sized) (a .at) (start .pre .within) (at .j) (search needs) (at .inv .moving);
+    }
 
 add-s-3 : tie.Need-add-s-3 Inv-loop μ-loop
 add-s-3 c = search needs
@@ -91,7 +100,8 @@ returns c =
     let round = c .before in
     let start = round .before .before .before .before in
     let a = start .args in
-    moving-end (a .s .now) (a .x) (start .pre .0) (a .at) (start .pre .1) (round .loop .j) _ (search needs) (search needs) (round .loop .inv .1)
+    let at = round .loop in
+    moving-end (a .s .now) (a .x) (start .pre .sized) (a .at) (start .pre .within) (at .j) _ (search needs) (search needs) (at .inv .moving)
 
 pub put-at-spec : {M : Type 1} → statement M
 put-at-spec =

@@ -2,8 +2,8 @@
 use Rattle.gathered.proofs.Inserting.{included-is, include-none}
 use Rattle.gathered.proofs.Gathering.{some-room}
 use borrow.Author.Needs.{needs}
-use Rattle.gathered.proofs.sets.include.Statement.{statement}
-use Rattle.gathered.proofs.sets.include.Tie as tie
+use Rattle.gathered.proofs.including.include.Statement.{statement}
+use Rattle.gathered.proofs.including.include.Tie as tie
 
 enum-known-p : tie.Need-enum-known-p
 enum-known-p c = search needs
@@ -11,7 +11,7 @@ enum-known-p c = search needs
 cast-insert : tie.Need-cast-insert
 cast-insert c =
     let told = c .before .before .before in
-    let h = some-room _ (told .p .given .1) (told .before .before .pre .1) in
+    let h = some-room _ (told .p .given .1) (told .before .before .pre .room) in
     search needs
 
 insert-requires : tie.Need-insert-requires

@@ -1,8 +1,8 @@
 -- At its place x is new at the end, there already, or new before a higher number.
 use Rattle.gathered.proofs.Inserting.{included-as, insert-end, insert-same, insert-mid}
 use borrow.Author.Needs.{needs}
-use Rattle.gathered.proofs.sets.insert.Statement.{statement}
-use Rattle.gathered.proofs.sets.insert.Tie as tie
+use Rattle.gathered.proofs.including.insert.Statement.{statement}
+use Rattle.gathered.proofs.including.insert.Tie as tie
 
 place-requires : tie.Need-place-requires
 place-requires c κs = search needs
