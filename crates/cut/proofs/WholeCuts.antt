@@ -28,6 +28,7 @@ use Rattle.space.specs.Shared.{HyperplaneAdded, hyperplaneAt}
 use Rattle.space.specs.Restored.{Restored}
 use Rattle.space.specs.declared.memo.PlacedHyperplane.{PlacedHyperplane}
 use Rattle.space.specs.declared.memo.PlacedHyperplane.the-variants as hyperplane
+use Rattle.space.proofs.Indexing.{index-count}
 use Rattle.space.proofs.Lent.{holds-memory}
 use Rattle.space.proofs.Room.{rank-word}
 use Rattle.space.proofs.RowAdds.{readable-desk}
@@ -71,14 +72,20 @@ abbrev cutter : Hyperplane → HyperplaneId → Bool → Bool → Cutter
 cutter h v i o = record { divider = h; number = v; «keep_inside» = i; «keep_outside» = o }
 
 module _ {cs : List ℕ} {ps hs : List Float} {es : List ℕ} {h : Hyperplane} {root : ℕ} where
-  pub counts-ready : CutReady cs ps hs es h root → length cs ≡ 4
+  pub counts-ready : {ix : List ℕ} → CutReady cs ps hs es ix h root → length cs ≡ 4
   counts-ready R = slices (R .fit .holds) .counts
 
-  pub plane-asked : CutReady cs ps hs es h root → (length cs ≡ 4) × (length hs ≡ 320) × (getD cs 0 0 ≤ 4) × (getD cs 3 0 ≤ 64)
+  pub plane-asked : {ix : List ℕ} → CutReady cs ps hs es ix h root → (length cs ≡ 4) × (length hs ≡ 320) × (getD cs 0 0 ≤ 4) × (getD cs 3 0 ≤ 64)
   plane-asked R =
       let s = slices (R .fit .holds) in
       let g = sound-good desk (R .table) (R .fit .sound) in
       (s .counts, s .planes, le-trans (le-of-eq (s .dimension)) (le-test (R .table .dimension) 4 (g .high)), s .planesFit)
+
+  pub root-low : {ix : List ℕ} → CutReady cs ps hs es ix h root → root < 512
+  root-low R = le-trans (R .fit .used) (R .fit .holds .fits .elementRoom)
+
+  pub rank-asked : {ix : List ℕ} → CutReady cs ps hs es ix h root → (length es ≡ 18432) × (root < 512)
+  rank-asked R = (slices (R .fit .holds) .elements, root-low R)
 
   module _ {x : PlacedHyperplane} {cs₁ : List ℕ} {hs₁ : List Float} (P : HyperplaneAdded cs hs h x cs₁ hs₁) where
     added : {t : Table} → CutFit cs ps hs es h root t → Added ps es h x cs₁ hs₁ t
@@ -110,9 +117,6 @@ module _ {cs : List ℕ} {ps hs : List Float} {es : List ℕ} {h : Hyperplane} {
               subst (Stays desk (λ (n : ℕ) (s : Table). n < length (s .planes)) t) m′ (plane-stays desk t (sound-good desk t (F .sound)) (dividerOf (t .dimension) h) (F .plane)) in
               record { table = u; ended = m′; extends = K .extends; good = K .good; numbered = K .value; holds = H }
 
-      pub rank-asked : CutReady cs ps hs es h root → (length es ≡ 18432) × (root < 512)
-      rank-asked R = (slices (R .fit .holds) .elements, le-trans (R .fit .used) (R .fit .holds .fits .elementRoom))
-
       module _ (r : ℕ) (read : r ≡ getD es (root * 36) 0) (i o : Bool) where
         root-fit : {t : Table} → (F : CutFit cs ps hs es h root t) → Fit cs₁ ps hs₁ es r root (cutter h v i o) (named F .table)
         root-fit F =
@@ -126,18 +130,26 @@ module _ {cs : List ℕ} {ps hs : List Float} {es : List ℕ} {h : Hyperplane} {
               ranked = sym (read ∙ ap (λ (l : List ℕ). getD l (root * 36) 0) (A .holds .elements) ∙ rank-word desk (A .table) (A .holds .fits) root used);
             }
 
-        pub count-same : CutReady cs ps hs es h root → getD cs 1 0 ≡ getD cs₁ 1 0
+        -- the index is still of the rows
+        count-same : {ix : List ℕ} → CutReady cs ps hs es ix h root → getD cs 1 0 ≡ getD cs₁ 1 0
         count-same R =
             let A = named (R .fit) in
-            slices (R .fit .holds) .elementCount ∙ sym (plane-count (dividerOf (R .table .dimension) h) (R .table) (A .table) (v .0) (A .ended)) ∙ sym (slices (A .holds) .elementCount)
+            slices (R .fit .holds) .elementCount ∙ sym (plane-count (dividerOf (R .table .dimension) h) (R .table) (A .table) (v .0) (A .ended))
+            ∙ sym (slices (A .holds) .elementCount)
 
         -- nothing is known yet
-        pub root-ready : CutReady cs ps hs es h root → AskReady cs₁ ps es (replicate 1536 0) r root (cutter h v i o)
-        root-ready R = record { planes = hs₁; table = named (R .fit) .table; fit = root-fit (R .fit); knows = knows-nothing (cutter h v i o) (named (R .fit) .table) }
+        pub root-ready : {ix : List ℕ} → CutReady cs ps hs es ix h root → AskReady cs₁ ps es ix (replicate 1536 0) r root (cutter h v i o)
+        root-ready R = record {
+          planes = hs₁;
+          table = named (R .fit) .table;
+          fit = root-fit (R .fit);
+          knows = knows-nothing (cutter h v i o) (named (R .fit) .table);
+          indexed = index-count _ _ _ _ (count-same R) (R .indexed);
+        }
 
-        pub root-cut : {x : Asked} {cs₂ : List ℕ} {ps₂ : List Float} {es₂ ms₂ : List ℕ} → ElementAsked cs₁ ps es (replicate 1536 0) r root (cutter h v i o) x cs₂ ps₂ es₂ ms₂
+        pub root-cut : {x : Asked} {cs₂ : List ℕ} {ps₂ : List Float} {es₂ ix₂ ms₂ : List ℕ} → ElementAsked cs₁ ps es (replicate 1536 0) r root (cutter h v i o) x cs₂ ps₂ es₂ ix₂ ms₂
             → (y : CutReply) → replyOf x ms₂ root ≡ y → CutTried cs ps hs es h i o root y cs₂ ps₂ hs₁ es₂
-        root-cut {x} {cs₂} {ps₂} {es₂} {ms₂} C y told = record { of = λ t F. go t F (C .of hs₁ (named F .table) (root-fit F) (knows-nothing (cutter h v i o) (named F .table))) }
+        root-cut {x} {cs₂} {ps₂} {es₂} {ix₂} {ms₂} C y told = record { of = λ t F. go t F (C .of hs₁ (named F .table) (root-fit F) (knows-nothing (cutter h v i o) (named F .table))) }
           where
             steps : (t : Table) (F : CutFit cs ps hs es h root t)
                 → cutFinite desk (dividerOf (t .dimension) h) i o root t ≡ cutElement desk (cutOf (named F .table .dimension) (cutter h v i o)) r root (named F .table)
@@ -146,7 +158,8 @@ module _ {cs : List ℕ} {ps hs : List Float} {es : List ℕ} {h : Hyperplane} {
                 ∙ ap₂ (λ (d n : ℕ). cutElement desk (cutOf d (cutter h v i o)) n root (named F .table)) (sym (named F .extends .dimension)) (root-fit F .ranked)
 
             go : (t : Table) (F : CutFit cs ps hs es h root t)
-                → Came reply.Answered reply.Refused (HoldsKnown cs₂ ps₂ hs₁ es₂ ms₂ (cutter h v i o)) (named F .table) (cutElement desk (cutOf (named F .table .dimension) (cutter h v i o)) r root (named F .table)) (replyOf x ms₂ root)
+                → Came reply.Answered reply.Refused (HoldsKnown cs₂ ps₂ hs₁ es₂ ms₂ (cutter h v i o)) (named F .table)
+                (cutElement desk (cutOf (named F .table .dimension) (cutter h v i o)) r root (named F .table)) (replyOf x ms₂ root)
                 → Came reply.Answered reply.Refused (Holds desk cs₂ ps₂ hs₁ es₂) t (cutFinite desk (dividerOf (t .dimension) h) i o root t) y
             go t F (held.went a u m w H) = held.went a u (steps t F ∙ m) (sym told ∙ w) (H .holds)
             go t F (held.stopped j u m w z H) = held.stopped j u (steps t F ∙ m) (sym told ∙ w) (extends-trans (named F .extends) z) (H .holds)
@@ -205,7 +218,7 @@ module _ {cs : List ℕ} {ps hs : List Float} {es : List ℕ} {h : Hyperplane} {
       go t (held.went b u m w′ H) = (λ l. ((sym w ∙ w′) l, holds-memory desk readable-desk H l)) ∙ sym (ap (written desk (memoryOf cs ps hs es)) m)
 
   module _ (n : ℕ) (w : y ≡ reply.Refused n) where
-    pub whole-asks : CutReady cs ps hs es h root → RestoreAsks cs cs₁ ps₁ hs₁ es₁
+    pub whole-asks : {ix : List ℕ} → CutReady cs ps hs es ix h root → RestoreAsks cs cs₁ ps₁ hs₁ es₁
     whole-asks R = go (T .of (R .table) (R .fit))
       where
         go : Tried (R .table) → RestoreAsks cs cs₁ ps₁ hs₁ es₁
