@@ -117,7 +117,7 @@ row-is d h l z =
 -- ---- the tests
 
 -- the table is sound, the root is in use, and the normal is a unit normal
-pub record Passed (h : Hyperplane) (root : ℕ) (cs : List ℕ) (ps hs : List Float) (es : List ℕ) : Type 0 where
+pub record TestsPassed (h : Hyperplane) (root : ℕ) (cs : List ℕ) (ps hs : List Float) (es : List ℕ) : Type 0 where
   pub long : length (h .normal) ≡ 4
   pub sound : soundMemory desk (memoryOf cs ps hs es) ≡ true
   pub used : root < getD cs 1 0
@@ -176,7 +176,7 @@ module _ (h : Hyperplane) (i o : Bool) (root : ℕ) (cs : List ℕ) (ps hs : Lis
         by-tests true true false sound (lt-ltb root (elementCount t) (in-use cs ps hs es sound l))
         (divider-is (t .dimension) h long false _ (ap (λ (x : ℕ). unitNormal x (h .normal)) (sym same) ∙ q) refl)
 
-module _ {h : Hyperplane} {root : ℕ} {cs : List ℕ} {ps hs : List Float} {es : List ℕ} (P : Passed h root cs ps hs es) where
+module _ {h : Hyperplane} {root : ℕ} {cs : List ℕ} {ps hs : List Float} {es : List ℕ} (P : TestsPassed h root cs ps hs es) where
   abbrev table : Table
   table = tableOf cs ps hs es
 

@@ -32,7 +32,7 @@ use Rattle.gathered.specs.Sets.{InRoom, OutputInRoom}
 use Rattle.gathered.specs.Cutting.{cutOf, Fit}
 use Rattle.gathered.specs.declared.answer.Cutter.{Cutter}
 use Rattle.ends.specs.Elements.{Ready, ElementCut}
-use Rattle.cut.specs.Known.{knownAt, outputAt, withAnswer, withReply, ReplyInRoom, askedBy, KeepReady, ReplyKept, replyOf, Told, Knows, HoldsKnown}
+use Rattle.cut.specs.Known.{knownAt, outputAt, withAnswer, withReply, ReplyInRoom, askedBy, KeepReady, ReplyKept, replyOf, Repeats, Knows, HoldsKnown}
 use Rattle.cut.specs.Rounds.{AskReady, ElementAsked}
 use Rattle.cut.specs.declared.known.Asked.{Asked}
 use Rattle.cut.specs.declared.known.Asked.the-variants as asked
@@ -40,7 +40,7 @@ use Rattle.cut.proofs.Words.{zeros-unknown, kept-long, kept-same, kept-
 
 -- nothing is known at first
 pub knows-nothing : (k : Cutter) (t : Table) → Knows k (replicate 1536 0) t
-knows-nothing k t = record { long = length-replicate {A = ℕ} 1536 0; of = λ e h p. absurd (true≢false (sym p ∙ zeros-unknown 1536 e)) }
+knows-nothing k t = record { long = length-replicate {A = ℕ} 1536 0; of = λ e h p. absurd (true≢false (sym p ∙ zeros-unknown e h)) }
 
 -- ---- an element that was asked
 
@@ -52,7 +52,7 @@ module _ (k : Cutter) (e : ℕ) (a : ElementCutOutput) {t u : Table} (g : Good d
   asked-extends = replays .extends
 
   -- asked again, in any later table
-  pub asked-again : {v : Table} → Extends u v → Told k v a e
+  pub asked-again : {v : Table} → Extends u v → Repeats k v a e
   asked-again {v} x =
       let y : Extends t v = extends-trans (replays .extends) x in
       record {
@@ -79,12 +79,12 @@ module _ (k : Cutter) (e : ℕ) (a : ElementCutOutput) {t u : Table} (g : Good d
       there : outputAt (withAnswer ms e a) e ≡ a
       there = kept-same ms e a (let long = K .long in omega (arith, low, long))
 
-      go : (j : ℕ) → j < 512 → knownAt (withAnswer ms e a) j ≡ true → (c : Bool) → eqb j e ≡ c → Told k u (outputAt (withAnswer ms e a) j) j
+      go : (j : ℕ) → j < 512 → knownAt (withAnswer ms e a) j ≡ true → (c : Bool) → eqb j e ≡ c → Repeats k u (outputAt (withAnswer ms e a) j) j
       go j h q true p =
-          subst (λ (i : ℕ). Told k u (outputAt (withAnswer ms e a) i) i) (sym (eq-test j e p)) (subst (λ (y : ElementCutOutput). Told k u y e) (sym there) (asked-again (extends-refl u)))
+          subst (λ (i : ℕ). Repeats k u (outputAt (withAnswer ms e a) i) i) (sym (eq-test j e p)) (subst (λ (y : ElementCutOutput). Repeats k u y e) (sym there) (asked-again (extends-refl u)))
       go j h q false p =
           let other : j ≡ e → ⊥ = λ i. true≢false (sym (test-eq j e i) ∙ p) in
-          subst (λ (y : ElementCutOutput). Told k u y j) (sym (kept-other ms e a j other)) (K .of j h (sym (kept-other-known ms e a j other) ∙ q))
+          subst (λ (y : ElementCutOutput). Repeats k u y j) (sym (kept-other ms e a j other)) (K .of j h (sym (kept-other-known ms e a j other) ∙ q))
 
 -- what is known stays known
 pub knows-later : {k : Cutter} {ms : List ℕ} {t u : Table} → Good desk t → Extends t u → Knows k ms t → Knows k ms u

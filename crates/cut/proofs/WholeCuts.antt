@@ -44,14 +44,6 @@ use Rattle.cut.proofs.StaysKnown.{knows-nothing}
 
 -- ---- the hyperplane, then the root
 
-abbrev numberOf : PlacedHyperplane → ℕ
-numberOf (hyperplane.Refused n) = n
-numberOf (hyperplane.At n) = n .0
-
-abbrev isRefused : PlacedHyperplane → ℕ
-isRefused (hyperplane.Refused n) = 1
-isRefused (hyperplane.At n) = 0
-
 -- a hyperplane adds no element
 plane-count : (g : Plane) (t u : Table) (v : ℕ) → addPlane desk g t ≡ done v u → elementCount u ≡ elementCount t
 plane-count g t u v e = ap (λ (es : List Element). length es) (subst (Unmoved t) e (plane-unmoved desk g t) .0)
@@ -96,9 +88,9 @@ module _ {cs : List ℕ} {ps hs : List Float} {es : List ℕ} {h : Hyperplane} {
     plane-refused i o n q = record { of = λ t F. go t (added F) }
       where
         go : (t : Table) → Added ps es h x cs₁ hs₁ t → Came reply.Answered reply.Refused (Holds desk cs₁ ps hs₁ es) t (cutFinite desk (dividerOf (t .dimension) h) i o root t) (reply.Refused n)
-        go t (held.went j u m w H) = let z : _≡_ {A = ℕ} 1 0 = sym (ap isRefused q) ∙ ap isRefused w in absurd (omega (arith, z))
+        go t (held.went j u m w H) = let z : _≡_ {A = ℕ} 0 1 = cc in absurd (omega arith)
         go t (held.stopped j u m w y H) =
-            let z : n ≡ j = sym (ap numberOf q) ∙ ap numberOf w in
+            let z : n ≡ j = cc in
             held.stopped j u
             (ap (λ (p : Outcome ℕ). next p (λ v l. cutElement desk (record { divider = dividerOf (t .dimension) h; number = v; keepInside = i; keepOutside = o }) (rank l root) root l)) m)
             (ap reply.Refused z) y H
@@ -109,9 +101,10 @@ module _ {cs : List ℕ} {ps hs : List Float} {es : List ℕ} {h : Hyperplane} {
       named {t} F = go (added F)
         where
           go : Added ps es h x cs₁ hs₁ t → Named ps es h cs₁ hs₁ (v .0) t
-          go (held.stopped j u m w y H) = let z : _≡_ {A = ℕ} 0 1 = sym (ap isRefused q) ∙ ap isRefused w in absurd (omega (arith, z))
+          go (held.stopped j u m w y H) = let z : _≡_ {A = ℕ} 0 1 = cc in absurd (omega arith)
           go (held.went j u m w H) =
-              let z : j ≡ v .0 = sym (ap numberOf w) ∙ ap numberOf q in
+              let same : _≡_ {A = HyperplaneId} (record { 0 = j }) v = cc in
+              let z : j ≡ v .0 = ap (λ (n : HyperplaneId). n .0) same in
               let m′ : addPlane desk (dividerOf (t .dimension) h) t ≡ done (v .0) u = m ∙ ap (λ (n : ℕ). done n u) z in
               let K : Kept desk (λ (n : ℕ) (s : Table). n < length (s .planes)) t (v .0) u =
               subst (Stays desk (λ (n : ℕ) (s : Table). n < length (s .planes)) t) m′ (plane-stays desk t (sound-good desk t (F .sound)) (dividerOf (t .dimension) h) (F .plane)) in
@@ -173,14 +166,6 @@ root-answered ms root q told = ap (λ (y : Asked). replyOf y ms root) q ∙ ap r
 
 -- ---- the memory given back
 
-abbrev refusal : CutReply → ℕ
-refusal (reply.Refused n) = n
-refusal (reply.Answered a) = 0
-
-abbrev isNo : CutReply → ℕ
-isNo (reply.Refused n) = 1
-isNo (reply.Answered a) = 0
-
 -- what restoring asks
 abbrev RestoreAsks : List ℕ → List ℕ → List Float → List Float → List ℕ → Type 0
 RestoreAsks cs₀ cs ps hs es =
@@ -214,7 +199,7 @@ module _ {cs : List ℕ} {ps hs : List Float} {es : List ℕ} {h : Hyperplane} {
     where
       go : (t : Table) → Tried t
           → _≡_ {A = CutReply × Memory} (reply.Answered a, memoryOf cs₁ ps₁ hs₁ es₁) (written desk (memoryOf cs ps hs es) (cutFinite desk (dividerOf (t .dimension) h) i o root t))
-      go t (held.stopped j u m w′ z H) = let e : _≡_ {A = ℕ} 0 1 = sym (ap isNo w) ∙ ap isNo w′ in absurd (omega (arith, e))
+      go t (held.stopped j u m w′ z H) = let e : _≡_ {A = ℕ} 0 1 = cc in absurd (omega arith)
       go t (held.went b u m w′ H) = (λ l. ((sym w ∙ w′) l, holds-memory desk readable-desk H l)) ∙ sym (ap (written desk (memoryOf cs ps hs es)) m)
 
   module _ (n : ℕ) (w : y ≡ reply.Refused n) where
@@ -222,7 +207,7 @@ module _ {cs : List ℕ} {ps hs : List Float} {es : List ℕ} {h : Hyperplane} {
     whole-asks R = go (T .of (R .table) (R .fit))
       where
         go : Tried (R .table) → RestoreAsks cs cs₁ ps₁ hs₁ es₁
-        go (held.went b u m w′ H) = let e : _≡_ {A = ℕ} 1 0 = sym (ap isNo w) ∙ ap isNo w′ in absurd (omega (arith, e))
+        go (held.went b u m w′ H) = let e : _≡_ {A = ℕ} 0 1 = cc in absurd (omega arith)
         go (held.stopped j u m w′ z H) = restore-asks (R .fit .holds) z H
 
     pub whole-refused : {cs′ : List ℕ} {ps′ hs′ : List Float} {es′ : List ℕ} → Restored cs₁ ps₁ hs₁ es₁ (getD cs 1 0) (getD cs 2 0) (getD cs 3 0) cs′ ps′ hs′ es′
@@ -231,9 +216,9 @@ module _ {cs : List ℕ} {ps hs : List Float} {es : List ℕ} {h : Hyperplane} {
       where
         go : (t : Table) → CutFit cs ps hs es h root t → Tried t
             → _≡_ {A = CutReply × Memory} (reply.Refused n, memoryOf cs′ ps′ hs′ es′) (written desk (memoryOf cs ps hs es) (cutFinite desk (dividerOf (t .dimension) h) i o root t))
-        go t F (held.went b u m w′ H) = let e : _≡_ {A = ℕ} 1 0 = sym (ap isNo w) ∙ ap isNo w′ in absurd (omega (arith, e))
+        go t F (held.went b u m w′ H) = let e : _≡_ {A = ℕ} 0 1 = cc in absurd (omega arith)
         go t F (held.stopped j u m w′ z H) =
-            let e : n ≡ j = sym (ap refusal w) ∙ ap refusal w′ in
+            let e : n ≡ j = cc in
             let s = slices (F .holds) in
             let back : _≡_ {A = Memory} (memoryOf cs′ ps′ hs′ es′) (memoryOf cs ps hs es) =
             holds-memory desk readable-desk (R .of t u z H (s .elementCount) (s .pointCount) (s .planeCount)) ∙ sym (holds-memory desk readable-desk (F .holds)) in

@@ -92,14 +92,14 @@ replyOf asked.Done ms e = reply.Answered (outputAt ms e)
 -- ---- what is known is true
 
 -- asking element e in table t gives answer a, and adds nothing
-pub record Told (k : Cutter) (t : Table) (a : ElementCutOutput) (e : ℕ) : Type 0 where
+pub record Repeats (k : Cutter) (t : Table) (a : ElementCutOutput) (e : ℕ) : Type 0 where
   pub used : e < elementCount t
   pub again : cutElement desk (cutOf (t .dimension) k) (rank t e) e t ≡ done a t
 
--- all that is known is told so by the table as it is now
+-- all that is known is repeated by the table as it is now
 pub record Knows (k : Cutter) (ms : List ℕ) (t : Table) : Type 0 where
   pub long : length ms ≡ 1536
-  pub of : (e : ℕ) → e < 512 → knownAt ms e ≡ true → Told k t (outputAt ms e) e
+  pub of : (e : ℕ) → e < 512 → knownAt ms e ≡ true → Repeats k t (outputAt ms e) e
 
 -- the memory holds the table, and what is known is true of it
 pub record HoldsKnown (cs : List ℕ) (ps hs : List Float) (es ms : List ℕ) (k : Cutter) (t : Table) : Type 0 where

@@ -1,6 +1,6 @@
 -- 3, 4, 5, rule 1 and the rules from 2 on: each way the code goes is a case of the reply.
-use Prim.Native.Nat.{_<_}
-use mathlib.Core.Bool.{true}
+use Prim.Native.Nat.{ℕ, _<_}
+use mathlib.Core.Bool.{Bool, true}
 use mathlib.Core.Path.{_≡_, sym, ap, _∙_}
 use native.Mathlib.Nat.{le-trans, le-of-eq}
 use native.Mathlib.Omega.{arith}
@@ -10,7 +10,7 @@ use Rattle.rules.specs.Memory.{soundMemory}
 use Rattle.rules.specs.Held.{memoryOf}
 use Rattle.hypermath.specs.Answers.{unitNormal}
 use Rattle.space.proofs.Indexing.{index-blank}
-use Rattle.cut.proofs.Replies.{Passed, unsound, counts-four, unused, not-unit, cut-ready, unfit, all-inside, all-outside, replied}
+use Rattle.cut.proofs.Replies.{TestsPassed, unsound, counts-four, unused, not-unit, cut-ready, unfit, all-inside, all-outside, replied}
 use borrow.Author.Tests.{not-true, not-false}
 use borrow.Author.Needs.{needs}
 use Rattle.cut.proofs.cut.Statement.{statement}
@@ -44,34 +44,40 @@ made c = half-known c .before .before .before .before
 four : (c : tie.Start) → length (c .args .divider .normal) ≡ 4
 four c = sym (length-map (c .args .divider .normal) _) ∙ c .good .1 .1 .1 .1 .0 .1 .1 .0 .1 .0 .1
 
--- what the tests before have told
+-- what the tests have told
 module _ (c : tie.Start) where
-  abbrev Sound : Type 0
-  Sound = soundMemory desk (memoryOf (c .args .counts .now) (c .args .points .now) (c .args .planes .now) (c .args .elements .now)) ≡ true
+  abbrev isSound : Bool
+  isSound = soundMemory desk (memoryOf (c .args .counts .now) (c .args .points .now) (c .args .planes .now) (c .args .elements .now))
 
-  abbrev Used : Type 0
-  Used = c .args .root .0 < getD (c .args .counts .now) 1 0
+  abbrev inUse : ℕ
+  inUse = getD (c .args .counts .now) 1 0
 
-  abbrev PassedAll : Type 0
-  PassedAll = Passed (c .args .divider) (c .args .root .0) (c .args .counts .now) (c .args .points .now) (c .args .planes .now) (c .args .elements .now)
+  abbrev isUnit : Bool
+  isUnit = unitNormal (getD (c .args .counts .now) 0 0) (c .args .divider .normal)
 
-is-sound : (c : tie.Else1) → Sound (start (c .before))
-is-sound c = sym (c .before .before .memory-indexed .ensures .0) ∙ not-false _ (c .if1 .left)
+  abbrev Passed : Type 0
+  Passed = TestsPassed (c .args .divider) (c .args .root .0) (c .args .counts .now) (c .args .points .now) (c .args .planes .now) (c .args .elements .now)
 
-is-used : (c : tie.Else2) → Used (start (sound (c .before) .before))
-is-used c = le-trans (c .if2 .left) (le-of-eq (c .before .before .wide .ensures .0))
+sound-told : (c : tie.After-index2) → c .before .memory-indexed .result ≡ isSound (start c)
+sound-told c = c .before .memory-indexed .ensures .0
 
-passed : (c : tie.Else3) → PassedAll (start (sound (used (c .before) .before) .before))
+count-told : (c : tie.After-struct-known) → c .before .wide .result ≡ inUse (start (sound c .before))
+count-told c = c .before .wide .ensures .0
+
+unit-told : (c : tie.After-is-unit) → isUnit (start (sound (used c .before) .before)) ≡ c .is-unit .result
+unit-told c = ap (λ k. unitNormal k (start (sound (used c .before) .before) .args .divider .normal)) (sym (c .before .wide2 .ensures .0)) ∙ sym (c .is-unit .ensures)
+
+is-sound : (c : tie.Else1) → isSound (start (c .before)) ≡ true
+is-sound c = sym (sound-told (c .before)) ∙ not-false _ (c .if1 .left)
+
+is-used : (c : tie.Else2) → start (sound (c .before) .before) .args .root .0 < inUse (start (sound (c .before) .before))
+is-used c = le-trans (c .if2 .left) (le-of-eq (count-told (c .before)))
+
+passed : (c : tie.Else3) → Passed (start (sound (used (c .before) .before) .before))
 passed c =
     let u = used (c .before) in
     let s = sound (u .before) in
-    let a = start (s .before) .args in
-    record {
-      long = four (start (s .before));
-      sound = is-sound s;
-      used = is-used u;
-      isUnit = ap (λ k. unitNormal k (a .divider .normal)) (sym (c .before .before .wide2 .ensures .0)) ∙ sym (c .before .is-unit .ensures) ∙ not-false _ (c .if3 .left);
-    }
+    record { long = four (start (s .before)); sound = is-sound s; used = is-used u; isUnit = unit-told (c .before) ∙ not-false _ (c .if3 .left) }
 
 slice-aggregate-memory-indexed : tie.Need-slice-aggregate-memory-indexed
 slice-aggregate-memory-indexed c = search needs
@@ -92,7 +98,7 @@ same-length-4 : tie.Need-same-length-4
 same-length-4 c = search needs
 
 returns : tie.Need-returns
-returns c = unsound (start (c .before) .args .divider) _ _ _ _ _ _ _ (sym (c .before .before .memory-indexed .ensures .0) ∙ not-true _ (c .if1 .taken))
+returns c = unsound (start (c .before) .args .divider) _ _ _ _ _ _ _ (sym (sound-told (c .before)) ∙ not-true _ (c .if1 .taken))
 
 slice-read-wide : tie.Need-slice-read-wide
 slice-read-wide c = omega (arith, counts-four _ _ _ _ (is-sound (c .before)))
@@ -115,7 +121,7 @@ same-length-8 c = search needs
 returns-2 : tie.Need-returns-2
 returns-2 c =
     let s = sound (c .before) in
-    unused (start (s .before) .args .divider) _ _ _ _ _ _ _ (is-sound s) (le-trans (le-of-eq (sym (c .before .before .wide .ensures .0))) (c .if2 .taken))
+    unused (start (s .before) .args .divider) _ _ _ _ _ _ _ (is-sound s) (le-trans (le-of-eq (sym (count-told (c .before)))) (c .if2 .taken))
 
 slice-read-wide-2 : tie.Need-slice-read-wide-2
 slice-read-wide-2 c = omega (arith, counts-four _ _ _ _ (is-sound (sound (c .before .before .before))))
@@ -142,9 +148,8 @@ returns-3 : tie.Need-returns-3
 returns-3 c =
     let u = used (c .before) in
     let s = sound (u .before) in
-    let a = start (s .before) .args in
-    not-unit (a .divider) _ _ _ _ _ _ _ (is-sound s) (four (start (s .before))) (is-used u)
-    (ap (λ k. unitNormal k (a .divider .normal)) (sym (c .before .before .wide2 .ensures .0)) ∙ sym (c .before .is-unit .ensures) ∙ not-true _ (c .if3 .taken))
+    let b = start (s .before) in
+    not-unit (b .args .divider) _ _ _ _ _ _ _ (is-sound s) (four b) (is-used u) (unit-told (c .before) ∙ not-true _ (c .if3 .taken))
 
 distance-kind-requires : tie.Need-distance-kind-requires
 distance-kind-requires c κs = search needs

@@ -11,7 +11,7 @@ use Rattle.space.specs.Chains.{Indexed}
 use native.Mathlib.Omega.{arith}
 use mathlib.Core.Path.{_≡_, refl, _∙_}
 use borrow.Author.Needs.{needs}
-use Prim.Native.Nat.{ℕ, _+_, _-_, _<_, _≤_}
+use Prim.Native.Nat.{ℕ, _+_, _-_, _*_, _<_, _≤_}
 use borrow.Fn.Kinds.{In, Out}
 use borrow.Fn.PlainCycle.{Measures, is, falls, and}
 use Rattle.cut.proofs.elements.cut_boundary.Reads as cut-boundary
@@ -129,6 +129,11 @@ module _ (t : ℕ) where
   abbrev in-loop : In-round cut-boundary-lts.After-cut-element → In-round cut-boundary-lts.At-loop
   in-loop c = looked-up (read c) .before
 
+  -- the number is the boundary's
+  number : (c : In-round cut-boundary-lts.After-wide)
+      → c .wide .result ≡ getD (looked-up c .before .loop .elements) (round-start (looked-up c .before .before) .args .e .0 * 36 + (4 + looked-up c .before .loop .i)) 0
+  number c = c .wide .ensures .0 ∙ c .before .boundary-at .ensures
+
   -- where its answer was told, and was read from the words
   abbrev told : In-round cut-boundary-lts.After-output-at → In-round cut-boundary-lts.After-enum-told
   told c = c .before .before
@@ -172,7 +177,7 @@ module _ (t : ℕ) where
       let at = l .before .loop .inv in
       let R = round-asked (round-start n) in (
         omega (arith, round-start n .pre),
-        round.next-ready (at .more) (at .going) _ (n .size-of .ensures) (R .ready) (l .loop-test .taken) _ (w .wide .ensures .0 ∙ w .before .boundary-at .ensures) (at .indexed),
+        round.next-ready (at .more) (at .going) _ (n .size-of .ensures) (R .ready) (l .loop-test .taken) _ (number w) (at .indexed),
       )
 
   cut-boundary-same-length : In-round cut-boundary-lts.Need-same-length
@@ -193,7 +198,7 @@ module _ (t : ℕ) where
       let w = read s in
       let l = looked-up w in
       let at = l .before .loop .inv in
-      round.round-refused (at .more) (at .going) _ (l .before .before .size-of .ensures) (l .loop-test .taken) _ (w .wide .ensures .0 ∙ w .before .boundary-at .ensures)
+      round.round-refused (at .more) (at .going) _ (l .before .before .size-of .ensures) (l .loop-test .taken) _ (number w)
       (s .cut-element .ensures) _ _ (c .before .step .given .1)
 
   cut-boundary-output-at-requires : In-round cut-boundary-lts.Need-output-at-requires
@@ -202,7 +207,7 @@ module _ (t : ℕ) where
       let l = looked-up w in
       let n = l .before .before in
       let at = l .before .loop .inv in
-      ask-low (round.next-ready (at .more) (at .going) _ (n .size-of .ensures) (round-asked (round-start n) .ready) (l .loop-test .taken) _ (w .wide .ensures .0 ∙ w .before .boundary-at .ensures) (at .indexed))
+      ask-low (round.next-ready (at .more) (at .going) _ (n .size-of .ensures) (round-asked (round-start n) .ready) (l .loop-test .taken) _ (number w) (at .indexed))
 
   cut-boundary-gather-in-requires : In-round cut-boundary-lts.Need-gather-in-requires
   cut-boundary-gather-in-requires c κs =
@@ -214,11 +219,10 @@ module _ (t : ℕ) where
       let at = l .before .loop in
       let h = l .loop-test .taken in
       let R = round-asked (round-start n) in
-      let m = round.round-most R _ (n .size-of .ensures) in
-      let number = w .wide .ensures .0 ∙ w .before .boundary-at .ensures in (
+      let m = round.round-most R _ (n .size-of .ensures) in (
         sized-more (at .i) 31 (omega (arith, m, h)) (at .inv .sized),
-        ask-low (round.next-ready (at .inv .more) (at .inv .going) _ (n .size-of .ensures) (R .ready) h _ number (at .inv .indexed)),
-        round.answer-room (at .inv .more) (at .inv .going) _ (n .size-of .ensures) h _ number (s .cut-element .ensures) (told a .enum-told .given .1) _ (a .output-at .ensures) (R .ready),
+        ask-low (round.next-ready (at .inv .more) (at .inv .going) _ (n .size-of .ensures) (R .ready) h _ (number w) (at .inv .indexed)),
+        round.answer-room (at .inv .more) (at .inv .going) _ (n .size-of .ensures) h _ (number w) (s .cut-element .ensures) (told a .enum-told .given .1) _ (a .output-at .ensures) (R .ready),
       )
 
   cut-boundary-add-i : In-round cut-boundary-lts.Need-add-i
@@ -247,7 +251,7 @@ module _ (t : ℕ) where
         sized = c .gather-in .ensures .sized (at .i) (at .inv .sized);
         more = at .inv .more;
         going =
-            round.going-on (at .inv .more) (at .inv .going) _ (l .before .before .size-of .ensures) (l .loop-test .taken) _ (w .wide .ensures .0 ∙ w .before .boundary-at .ensures)
+            round.going-on (at .inv .more) (at .inv .going) _ (l .before .before .size-of .ensures) (l .loop-test .taken) _ (number w)
             (s .cut-element .ensures) (told a .enum-told .given .1) _ (a .output-at .ensures) _ (c .gather-in .ensures);
         indexed = s .cut-element .ensures .indexed;
       }

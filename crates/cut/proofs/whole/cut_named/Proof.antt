@@ -17,8 +17,8 @@ added c = c .before .before .before .before
 abbrev numbered : tie.After-rank-of → tie.After-named2
 numbered c = c .before .before .before
 
-abbrev ranked : tie.After-cut-element → tie.After-rank-of
-ranked c = c .before .before .before .before .before .before
+abbrev ranked : tie.After-known → tie.After-rank-of
+ranked c = c .before .before .before .before .before
 
 -- where the root was asked: the lengths of the slices are known again after it
 abbrev half-known : tie.After-slice-known11 → tie.After-slice-known9
@@ -43,7 +43,7 @@ rank-of-requires c κs =
 
 cut-element-requires : tie.Need-cut-element-requires
 cut-element-requires c κs =
-    let r = c .before .before .before .before .before in
+    let r = ranked c in
     let n = numbered r in
     let p = added (n .before .before) in
     let a = start p .args in
@@ -57,7 +57,7 @@ enum-told c = search needs
 
 output-at-requires : tie.Need-output-at-requires
 output-at-requires c κs =
-    let n = numbered (ranked (asked (c .before .before .before))) in
+    let n = numbered (ranked (asked (c .before .before .before) .before)) in
     root-low (start (added (n .before .before)) .pre)
 
 same-length : tie.Need-same-length
@@ -89,7 +89,7 @@ same-length-7 c = search needs
 returns-2 : tie.Need-returns-2
 returns-2 c =
     let s = asked (c .before .before .before) in
-    let r = ranked s in
+    let r = ranked (s .before) in
     let n = numbered r in
     let p = added (n .before .before) in
     root-cut (p .add-hyperplane .ensures) _ (n .named2 .given .1) _ (r .rank-of .ensures) _ _ (s .cut-element .ensures) _ (root-refused _ _ (c .before .asked .given .1))
@@ -113,7 +113,7 @@ returns-3 : tie.Need-returns-3
 returns-3 c =
     let told = c .before .before in
     let s = asked (told .before .before) in
-    let r = ranked s in
+    let r = ranked (s .before) in
     let n = numbered r in
     let p = added (n .before .before) in
     root-cut (p .add-hyperplane .ensures) _ (n .named2 .given .1) _ (r .rank-of .ensures) _ _ (s .cut-element .ensures) _
