@@ -90,14 +90,16 @@ pub fn carve(
     ensures { λ r. ⌜ (r, memoryOf (now (counts .exit)) (now (points .exit)) (now (planes .exit)) (now (elements .exit)))
         ≡ cutReply desk divider true false (root .0) (memoryOf (now (counts .entry)) (now (points .entry)) (now (planes .entry)) (now (elements .entry))) ⌝ }
 {
+    let inside = PolytopeFate::Keep;
+    let outside = PolytopeFate::Remove;
     cut(
         counts,
         points,
         planes,
         elements,
         divider,
-        PolytopeFate::Keep,
-        PolytopeFate::Remove,
+        inside,
+        outside,
         root,
     )
 }
@@ -114,14 +116,6 @@ pub fn slice(
     ensures { λ r. ⌜ (r, memoryOf (now (counts .exit)) (now (points .exit)) (now (planes .exit)) (now (elements .exit)))
         ≡ cutReply desk divider true true (root .0) (memoryOf (now (counts .entry)) (now (points .entry)) (now (planes .entry)) (now (elements .entry))) ⌝ }
 {
-    cut(
-        counts,
-        points,
-        planes,
-        elements,
-        divider,
-        PolytopeFate::Keep,
-        PolytopeFate::Keep,
-        root,
-    )
+    let both = PolytopeFate::Keep;
+    cut(counts, points, planes, elements, divider, both, both, root)
 }
