@@ -13,7 +13,7 @@ use Rattle.rules.specs.Held.{memoryOf}
 use Rattle.rules.specs.Limits.{desk}
 use Rattle.rules.specs.Lists.{if_then_else_}
 use Rattle.rules.specs.Memory.{rightSize}
-use Rattle.space.specs.Chains.{rowAt, keyOf, joined}
+use Rattle.space.specs.Chains.{storedRow, keyOf, newStart}
 use Rattle.soundness.specs.Words.{countsFit, floatsSound, rowSound, rowNew}
 use Rattle.soundness.specs.Tests.{readTo, rowsRead, memoryRead, withRows}
 use Rattle.soundness.proofs.ReadBack.{and-zero}
@@ -25,7 +25,7 @@ module _ (es : List ℕ) (d n h : ℕ) where
 
   -- those after row i, by whether it is read
   abbrev next : ℕ → ℕ → Bool → ℕ
-  next k i b = if b then readTo es d h (n - (i + 1)) (k + cond (eqb (getD (rowAt es i) 0 0) 0) 1 0) (suc i) else i
+  next k i b = if b then readTo es d h (n - (i + 1)) (k + cond (eqb (getD (storedRow es i) 0 0) 0) 1 0) (suc i) else i
 
   pub read-start : rowsRead es d n h ≡ readFrom 0 0
   unfolding rowsRead
@@ -36,21 +36,21 @@ module _ (es : List ℕ) (d n h : ℕ) where
     read-end l = t ∙ ap (λ (m : ℕ). readTo es d h m k i) (let z : n - i ≡ 0 = omega arith in z)
 
     module _ (l : i < n) where
-      on : rowsRead es d n h ≡ next k i (rowSound desk es d h k i (rowAt es i) && rowNew es i)
+      on : rowsRead es d n h ≡ next k i (rowSound desk es d h k i (storedRow es i) && rowNew es i)
       on = t ∙ ap (λ (m : ℕ). readTo es d h m k i) (let z : n - i ≡ suc (n - (i + 1)) = omega arith in z)
 
-      pub read-no : rowSound desk es d h k i (rowAt es i) ≡ false → rowsRead es d n h ≡ i
+      pub read-no : rowSound desk es d h k i (storedRow es i) ≡ false → rowsRead es d n h ≡ i
       read-no s = on ∙ ap (λ (b : Bool). next k i (b && rowNew es i)) s
 
       pub read-known : rowNew es i ≡ false → rowsRead es d n h ≡ i
-      read-known q = on ∙ ap (next k i) (ap (λ (b : Bool). rowSound desk es d h k i (rowAt es i) && b) q ∙ and-zero (rowSound desk es d h k i (rowAt es i)))
+      read-known q = on ∙ ap (next k i) (ap (λ (b : Bool). rowSound desk es d h k i (storedRow es i) && b) q ∙ and-zero (rowSound desk es d h k i (storedRow es i)))
 
-      pub read-go : (o : ℕ) → rowSound desk es d h k i (rowAt es i) ≡ true → rowNew es i ≡ true → o ≡ cond (eqb (getD (rowAt es i) 0 0) 0) 1 0 → rowsRead es d n h ≡ readFrom (k + o) (i + 1)
+      pub read-go : (o : ℕ) → rowSound desk es d h k i (storedRow es i) ≡ true → rowNew es i ≡ true → o ≡ cond (eqb (getD (storedRow es i) 0 0) 0) 1 0 → rowsRead es d n h ≡ readFrom (k + o) (i + 1)
       read-go o s q e = on ∙ (λ j. next k i (s j && q j)) ∙ (λ j. readTo es d h (n - (i + 1)) (k + sym e j) (sym (add-one i) j))
 
 -- the row that is read joins the index
-pub with-go : (es first index index′ : List ℕ) (i : ℕ) → index ≡ withRows es i first → index′ ≡ joined index (keyOf (rowAt es i)) i → index′ ≡ withRows es (i + 1) first
-with-go es first index index′ i t q = q ∙ ap (λ (l : List ℕ). joined l (keyOf (rowAt es i)) i) t ∙ ap (λ (m : ℕ). withRows es m first) (sym (add-one i))
+pub with-go : (es first index index′ : List ℕ) (i : ℕ) → index ≡ withRows es i first → index′ ≡ newStart index (keyOf (storedRow es i)) i → index′ ≡ withRows es (i + 1) first
+with-go es first index index′ i t q = q ∙ ap (λ (l : List ℕ). newStart l (keyOf (storedRow es i)) i) t ∙ ap (λ (m : ℕ). withRows es m first) (sym (add-one i))
 
 -- of a memory, by the tests that come first
 pub memory-read : (cs : List ℕ) (ps hs : List Float) (es : List ℕ) (d n v h : ℕ) (s c f : Bool) → d ≡ getD cs 0 0 → n ≡ getD cs 1 0 → v ≡ getD cs 2 0 → h ≡ getD cs 3 0

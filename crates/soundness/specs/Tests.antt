@@ -11,7 +11,7 @@ use Rattle.rules.specs.Limits.{desk}
 use Rattle.rules.specs.Lists.{if_then_else_}
 use Rattle.rules.specs.Memory.{soundMemory, rightSize}
 use Rattle.space.specs.Numbers.{rowWidth, elementSlice}
-use Rattle.space.specs.Chains.{rowAt, keyOf, joined, Indexed}
+use Rattle.space.specs.Chains.{storedRow, keyOf, newStart, Indexed}
 use Rattle.space.specs.Closed.{Unmet}
 use Rattle.soundness.specs.Words.{Mask, PastSeen, countsFit, headWords, cornerNamed, polytopeWords, stampOf, EdgesLow, rowSound, rowNew, floatsSound}
 
@@ -93,8 +93,8 @@ pub record RowThere (es : List ℕ) (e : ℕ) (past seen : List ℕ) : Type 0 wh
 
 -- it is tested as an edge's, in any dimension
 pub record EdgeTested (es : List ℕ) (e : ℕ) (reply : Bool) (seen seen′ : List ℕ) : Type 0 where
-  pub told : (d : ℕ) → reply ≡ polytopeWords desk es d e 1 (rowAt es e)
-  pub past : reply ≡ true → PastSeen (rowAt es e) seen seen′
+  pub told : (d : ℕ) → reply ≡ polytopeWords desk es d e 1 (storedRow es e)
+  pub past : reply ≡ true → PastSeen (storedRow es e) seen seen′
 
 -- it is there, each edge before it has its ends in order, and no corner counts as met
 pub record RowReady (es : List ℕ) (e : ℕ) (met past seen : List ℕ) : Type 0 where
@@ -111,7 +111,7 @@ pub record HigherReady (es : List ℕ) (e rank : ℕ) (met past seen : List ℕ)
 pub record RowTested (test : Bool) (es : List ℕ) (e : ℕ) (reply : Bool) (met′ seen seen′ : List ℕ) : Type 0 where
   pub told : reply ≡ test
   pub unmet : reply ≡ true → Unmet (stampOf (e + 1)) met′
-  pub past : reply ≡ true → PastSeen (rowAt es e) seen seen′
+  pub past : reply ≡ true → PastSeen (storedRow es e) seen seen′
 
 -- ---- rows in turn, with their index
 
@@ -131,15 +131,15 @@ pub record NewReady (es : List ℕ) (i : ℕ) (index : List ℕ) : Type 0 where
 pub record NewTested (es : List ℕ) (i : ℕ) (index : List ℕ) (reply : Bool) (index′ : List ℕ) : Type 0 where
   pub told : reply ≡ rowNew es i
   pub indexed : reply ≡ true → Indexed es (i + 1) index′
-  pub joins : reply ≡ true → index′ ≡ joined index (keyOf (rowAt es i)) i
+  pub joins : reply ≡ true → index′ ≡ newStart index (keyOf (storedRow es i)) i
   pub stays : reply ≡ false → index′ ≡ index
 
 -- rows are read in turn up to the first that is not sound or not new: its number. Row i comes next, m are left, and vertex k is the next to be named
 abbrev pub readTo : List ℕ → ℕ → ℕ → ℕ → ℕ → ℕ → ℕ
 readTo es d h zero k i = i
 readTo es d h (suc m) k i =
-    let on = readTo es d h m (k + cond (eqb (getD (rowAt es i) 0 0) 0) 1 0) (suc i) in
-    if rowSound desk es d h k i (rowAt es i) && rowNew es i then on else i
+    let on = readTo es d h m (k + cond (eqb (getD (storedRow es i) 0 0) 0) 1 0) (suc i) in
+    if rowSound desk es d h k i (storedRow es i) && rowNew es i then on else i
 
 -- how many of n rows are read before it
 unfoldable pub rowsRead : List ℕ → ℕ → ℕ → ℕ → ℕ
@@ -151,10 +151,10 @@ memoryRead cs ps hs es =
     let d = getD cs 0 0 in let n = getD cs 1 0 in let v = getD cs 2 0 in let h = getD cs 3 0 in
     if rightSize desk (memoryOf cs ps hs es) && countsFit desk d n v h && floatsSound desk d v h ps hs then rowsRead es d n h else 0
 
--- an index that the first m rows have joined
+-- an index that the first m rows have newStart
 abbrev pub withRows : List ℕ → ℕ → List ℕ → List ℕ
 withRows es zero index = index
-withRows es (suc i) index = joined (withRows es i index) (keyOf (rowAt es i)) i
+withRows es (suc i) index = newStart (withRows es i index) (keyOf (storedRow es i)) i
 
 -- the answer of a test of the first n rows: all are in the index where it is true, and those that were read in any case
 pub record RowsTested (test : Bool) (es : List ℕ) (d n h : ℕ) (index : List ℕ) (reply : Bool) (index′ : List ℕ) : Type 0 where

@@ -24,7 +24,7 @@ ghost use Rattle.rules.specs.Limits.{desk};
 ghost use Rattle.rules.specs.Memory.{soundMemory};
 ghost use Rattle.rules.specs.Held.{memoryOf};
 ghost use Rattle.rules.specs.Replies.{isSoundReply};
-ghost use Rattle.space.specs.Chains.{Indexed, rowAt};
+ghost use Rattle.space.specs.Chains.{Indexed, storedRow};
 ghost use Rattle.soundness.specs.Words.{blankWords, countsFit, Mask, PastSeen, facetWords, polytopeWords, rowSound, rowsInUse, rowsDistinct, rowsSound};
 ghost use Rattle.soundness.specs.Tests.{PartOf, Kept, MovesOn, PastReady, CornerReady, CornerTested, RowThere, EdgeTested};
 ghost use Rattle.soundness.specs.Tests.{RowReady, HigherReady, RowTested, RowsReady, RowsTested, MemoryTested};
@@ -181,7 +181,7 @@ fn higher_sound(
     seen: &mut [u16; BOUNDARY],
 ) -> bool
     requires { ⌜ HigherReady (now elements) (e .0) rank (now met) (now past) (now seen) ⌝ }
-    ensures { λ r. ⌜ RowTested (polytopeWords desk (now (elements .entry)) d (e .0) rank (rowAt (now (elements .entry)) (e .0))) (now (elements .entry)) (e .0) r (now (met .exit)) (now (seen .entry)) (now (seen .exit)) ⌝ }
+    ensures { λ r. ⌜ RowTested (polytopeWords desk (now (elements .entry)) d (e .0) rank (storedRow (now (elements .entry)) (e .0))) (now (elements .entry)) (e .0) r (now (met .exit)) (now (seen .entry)) (now (seen .exit)) ⌝ }
 {
     let at = e.0 * WIDTH;
     let n = wide(elements[at + 3]);
@@ -203,7 +203,7 @@ fn polytope_sound(
     seen: &mut [u16; BOUNDARY],
 ) -> bool
     requires { ⌜ RowReady (now elements) (e .0) (now met) (now past) (now seen) ⌝ }
-    ensures { λ r. ⌜ RowTested (polytopeWords desk (now (elements .entry)) d (e .0) rank (rowAt (now (elements .entry)) (e .0))) (now (elements .entry)) (e .0) r (now (met .exit)) (now (seen .entry)) (now (seen .exit)) ⌝ }
+    ensures { λ r. ⌜ RowTested (polytopeWords desk (now (elements .entry)) d (e .0) rank (storedRow (now (elements .entry)) (e .0))) (now (elements .entry)) (e .0) r (now (met .exit)) (now (seen .entry)) (now (seen .exit)) ⌝ }
 {
     if rank == 1 {
         return edge_sound(elements, e, past, seen);
@@ -223,7 +223,7 @@ fn row_sound(
     seen: &mut [u16; BOUNDARY],
 ) -> bool
     requires { ⌜ RowReady (now elements) (e .0) (now met) (now past) (now seen) ⌝ }
-    ensures { λ r. ⌜ RowTested (rowSound desk (now (elements .entry)) d h (k .0) (e .0) (rowAt (now (elements .entry)) (e .0))) (now (elements .entry)) (e .0) r (now (met .exit)) (now (seen .entry)) (now (seen .exit)) ⌝ }
+    ensures { λ r. ⌜ RowTested (rowSound desk (now (elements .entry)) d h (k .0) (e .0) (storedRow (now (elements .entry)) (e .0))) (now (elements .entry)) (e .0) r (now (met .exit)) (now (seen .entry)) (now (seen .exit)) ⌝ }
 {
     let at = e.0 * WIDTH;
     let rank = wide(elements[at]);

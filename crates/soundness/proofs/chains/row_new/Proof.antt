@@ -6,7 +6,7 @@ use mathlib.Core.Bool.{false≢true}
 use native.Mathlib.Omega.{arith}
 use Rattle.space.proofs.Indexing.{index-joined}
 use Rattle.space.specs.Found.{elementNumber}
-use Rattle.space.specs.Chains.{Indexed, joined}
+use Rattle.space.specs.Chains.{Indexed, newStart}
 use Rattle.soundness.proofs.Distinct.{row-met, row-unmet}
 use borrow.Author.Needs.{needs}
 use Rattle.soundness.proofs.chains.row_new.Statement.{statement}
@@ -79,7 +79,7 @@ returns-2 c =
       indexed = λ t.
           subst (λ (l : List ℕ). Indexed (a .elements .now) (a .e .0 + 1) l) (sym after)
           (index-joined (a .elements .now) (a .e .0) (a .index .now) (k .key-of .result) (p .earlier) (key .0) (key .1) (p .inRoom));
-      joins = λ t. after ∙ ap (λ (m : ℕ). joined (a .index .now) m (a .e .0)) (key .0);
+      joins = λ t. after ∙ ap (λ (m : ℕ). newStart (a .index .now) m (a .e .0)) (key .0);
       stays = λ t. absurd (false≢true (sym t));
     }
 

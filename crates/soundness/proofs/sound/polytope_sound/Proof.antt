@@ -2,7 +2,7 @@
 use Prim.Native.Nat.{ℕ}
 use mathlib.Core.Path.{sym, ap, _∙_}
 use Rattle.rules.specs.Limits.{desk}
-use Rattle.space.specs.Chains.{rowAt}
+use Rattle.space.specs.Chains.{storedRow}
 use Rattle.soundness.specs.Words.{polytopeWords}
 use Rattle.soundness.proofs.FaceLoops.{unmet-next}
 use Rattle.soundness.proofs.sound.polytope_sound.Statement.{statement}
@@ -23,7 +23,7 @@ returns c =
     let begun = edge c .before .before in
     let a = begun .args in
     record {
-      told = c .edge-sound .ensures .told (a .d) ∙ ap (λ (r : ℕ). polytopeWords desk (a .elements .now) (a .d) (a .e .0) r (rowAt (a .elements .now) (a .e .0))) (sym (edge c .if1 .taken));
+      told = c .edge-sound .ensures .told (a .d) ∙ ap (λ (r : ℕ). polytopeWords desk (a .elements .now) (a .d) (a .e .0) r (storedRow (a .elements .now) (a .e .0))) (sym (edge c .if1 .taken));
       unmet = λ t. unmet-next (a .e .0) (a .met .now) (begun .pre .unmet);
       past = c .edge-sound .ensures .past;
     }
