@@ -1,6 +1,6 @@
 -- A set of numbers below 512 as eight words of 64 marks. Definitions only.
 use Prim.Native.Nat.{ℕ, zero, suc, _+_, _*_, _/_, _%_, _^_, _<_, _≤_}
-use mathlib.Core.Bool.{Bool, false, _&&_}
+use mathlib.Core.Bool.{Bool, true, false, _&&_}
 use mathlib.Core.Path.{_≡_}
 use mathlib.Core.List.{List, [], _∷_, _++_}
 use lib.Bits.{bitOr}
@@ -32,10 +32,12 @@ pub record NoneMarked (ws : List ℕ) : Type 0 where
 pub record Both (a b out : List ℕ) : Type 0 where
   pub of : (x : ℕ) → isMarked out x ≡ (isMarked a x && isMarked b x)
 
--- from i down to r: what lies between is not in the set
+-- from i down to r: the highest number of the set from i down within i's word, or the word's first number where there is none
 pub record DownTo (ws : List ℕ) (i r : ℕ) : Type 0 where
   pub low : r ≤ i
+  pub within : i / 64 * 64 ≤ r
   pub none : (x : ℕ) → r < x → x ≤ i → isMarked ws x ≡ false
+  pub stops : i / 64 * 64 < r → isMarked ws r ≡ true
 
 -- ---- the numbers of a set, rising
 

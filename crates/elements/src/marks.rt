@@ -72,7 +72,7 @@ fn zeros_above(x: u64) -> usize
     u64::leading_zeros(x) as usize
 }
 
-// From a number down to the next mark, or to its word's first number: what lies between is not marked.
+// From a number down to the highest mark of its word, or to the word's first number where there is none.
 pub fn down_to(words: &[u64; 8], i: usize) -> usize
     requires { ⌜ i < 512 ⌝ }
     ensures { λ r. ⌜ DownTo (now (words .entry)) i r ⌝ }
