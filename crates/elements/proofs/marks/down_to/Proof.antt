@@ -26,10 +26,10 @@ sub-result-2 : tie.Need-sub-result-2
 sub-result-2 c = search needs
 
 returns : tie.Need-returns
-returns c = down-to-mark _ _ _ (c .before .zeros-above .ensures .0) (c .if1 .taken)
+returns c = down-to-mark _ _ _ (c .before .zeros-above .ensures .zeros) (c .if1 .taken)
 
 returns-2 : tie.Need-returns-2
-returns-2 c = down-to-first _ _ _ (c .before .zeros-above .ensures .0) (c .if1 .left)
+returns-2 c = down-to-first _ _ _ (c .before .zeros-above .ensures .zeros) (c .if1 .left)
 
 pub down-to-spec : {M : Type 1} → statement M
 down-to-spec =
