@@ -9,7 +9,7 @@ use native.Mathlib.Omega.{arith}
 use lib.Bits.{bitOr, bitAnd, and-mask, or-shr, or-mod, or-zero-r}
 use lib.Count.{leadingZeros, leading-length, leading-top, leading-of-zero}
 use lib.Dec.{eqb, ltb}
-use lib.ListN.{length, getD, set, length-set, replicate, List·getD-eq-default}
+use lib.ListN.{length, getD, length-set, replicate, List·getD-eq-default}
 use lib.Pow.{pow-pos, pow-mono, pow-lt, pow-add, shr-shr, shl-shr, field, mod-mod-pow}
 use lib.Seq.{getD-set-same, getD-set-other}
 use Rattle.rules.specs.Lists.{all, member}

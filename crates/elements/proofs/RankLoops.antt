@@ -7,7 +7,7 @@ use native.Mathlib.Omega.{arith}
 use lib.Dec.{eqb, leb}
 use lib.ListN.{length, getD}
 use Rattle.rules.specs.Limits.{desk}
-use Rattle.rules.specs.Lists.{if_then_else_, all, keep, upTo}
+use Rattle.rules.specs.Lists.{if_then_else_, keep, upTo}
 use Rattle.rules.specs.Table.{Table, Element, corner, polytope, element, elementCount, rank, vertexOf}
 use Rattle.rules.specs.Held.{elementsOf}
 use Rattle.rules.specs.Questions.{isBelow, subElements, withRank, vertexSet}
