@@ -13,16 +13,23 @@ mul-low : tie.Need-mul-low
 mul-low c = search needs
 
 sub-low : tie.Need-sub-low
-sub-low c = c .before .before .pre .2 (c .before .if1 .left)
+sub-low c = c .before .before .before .pre .spanned (c .before .before .if1 .left)
 
 sub-high : tie.Need-sub-high
-sub-high c = let h = c .before .before .pre .2 (c .before .if1 .left) in omega (arith, h)
+sub-high c =
+    let h = c .before .before .before .before .pre .spanned (c .before .before .before .if1 .left) in omega (arith, h)
+
+cast-list : tie.Need-cast-list
+cast-list c = search needs
 
 mul-list : tie.Need-mul-list
 mul-list c = search needs
 
 array-write-list : tie.Need-array-write-list
 array-write-list c = search needs
+
+cast-list-2 : tie.Need-cast-list-2
+cast-list-2 c = search needs
 
 add-list : tie.Need-add-list
 add-list c = search needs
@@ -33,11 +40,11 @@ mul-list-2 c = search needs
 array-write-list-2 : tie.Need-array-write-list-2
 array-write-list-2 c = search needs
 
-add-t11 : tie.Need-add-t11
-add-t11 c = search needs
+add-t10 : tie.Need-add-t10
+add-t10 c = search needs
 
 returns-2 : tie.Need-returns-2
-returns-2 c = across-two _ _ _ _ (c .before .before .pre .0) (test-eq _ 2 (c .before .if1 .left))
+returns-2 c = across-two _ _ _ _ (c .before .before .before .before .pre .place) (test-eq _ 2 (c .before .before .before .if1 .left))
 
 pub faces-across-spec : {M : Type 1} → statement M
 faces-across-spec =
@@ -47,10 +54,12 @@ faces-across-spec =
     mul-low
     sub-low
     sub-high
+    cast-list
     mul-list
     array-write-list
+    cast-list-2
     add-list
     mul-list-2
     array-write-list-2
-    add-t11
+    add-t10
     returns-2)
