@@ -27,11 +27,11 @@ word-none e q = (sym (ap elementWord q), lit≤ tt)
 pub word-some : (e : ElementOrNone) (id : ElementId) → e ≡ Some id → OneBelow 512 e → (id .0 ≡ elementWord e) × (id .0 < 65536)
 word-some e id q h = (sym (ap elementWord q), (let l : id .0 < 512 = subst (OneBelow 512) q h in let z : id .0 < 65536 = omega (arith, l) in z))
 
-pub kept-none : (byte : ℕ) → byte ≡ 0 → false ≡ keptBy byte
-kept-none byte q = sym (ap not (test-eq byte 0 q))
+pub kept-none : (n : ℕ) → n ≡ 0 → false ≡ keptBy n
+kept-none n q = sym (ap not (test-eq n 0 q))
 
-pub kept-some : (byte : ℕ) → (byte ≡ 0 → ⊥) → true ≡ keptBy byte
-kept-some byte q = sym (ap not (not-eq byte 0 q))
+pub kept-some : (n : ℕ) → (n ≡ 0 → ⊥) → true ≡ keptBy n
+kept-some n q = sym (ap not (not-eq n 0 q))
 
 -- ---- three numbers
 

@@ -2,7 +2,7 @@
 use Prim.Native.Nat.{ℕ, _+_, _*_, _≤_}
 use mathlib.Core.Bool.{Bool, not, cond}
 use mathlib.Core.List.{List, [], _∷_}
-use lib.Dec.{eqb}
+use lib.Dec.{eqb, leb}
 use lib.Ieee.{Float}
 use Rattle.rules.specs.Memory.{Memory}
 use Rattle.rules.specs.declared.Hyperplane.{Hyperplane}
@@ -50,9 +50,13 @@ facetWord (Has b) = cond b 0x100 0
 abbrev pub dividerWith : Float → Float → Float → Float → Float → Hyperplane
 dividerWith n0 n1 n2 n3 distance = record { normal = n0 ∷ n1 ∷ n2 ∷ n3 ∷ []; distance = distance }
 
--- 0 removes a side, and any other byte keeps it
+-- 0 removes a side, and any other number keeps it
 abbrev pub keptBy : ℕ → Bool
-keptBy byte = not (eqb byte 0)
+keptBy n = not (eqb n 0)
+
+-- a rank as a byte; one that no byte holds is 255, which no element has either
+abbrev pub rankByte : ℕ → ℕ
+rankByte k = cond (leb k 255) k 255
 
 -- a list of no more than 512 numbers, or a refusal
 abbrev pub SizeFits : ListReply → Type 0
