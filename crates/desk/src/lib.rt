@@ -38,7 +38,7 @@ fn rank_byte(rank: u32) -> u8
 }
 
 fn element_word(e: ElementOrNone) -> u64
-    requires { ⌜ OneBelow 512 e ⌝ }
+    requires { ⌜ OneBelow (desk .elements) e ⌝ }
     ensures { λ r. ⌜ (r ≡ elementWord e) × (r < 65536) ⌝ }
 {
     match e {
@@ -48,7 +48,7 @@ fn element_word(e: ElementOrNone) -> u64
 }
 
 fn output_word(a: ElementCutOutput) -> u64
-    requires { ⌜ NamesBelow 512 a ⌝ }
+    requires { ⌜ NamesBelow (desk .elements) a ⌝ }
     ensures { λ r. ⌜ r ≡ outputWord a ⌝ }
 {
     match a {
