@@ -1,4 +1,4 @@
--- The number, or the size above its eight bits, which fits since no list has more than 512 numbers.
+-- The number, or the size above its eight bits, which fits since no list has more numbers than there is room for elements.
 use mathlib.Core.Path.{sym, ap}
 use native.Mathlib.Omega.{arith}
 use Rattle.desk.specs.Words.{listNumber}
