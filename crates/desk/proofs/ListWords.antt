@@ -22,7 +22,7 @@ use Rattle.rules.proofs.Growing.{all-get}
 use Rattle.rules.proofs.Laws.{le-test, and-left}
 use Rattle.rules.proofs.OneCall.{sound-table}
 use Rattle.rules.proofs.RingWalked.{kept-length}
-use Rattle.desk.specs.Words.{SizeFits, listNumber, listWord}
+use Rattle.desk.specs.Words.{SizeFits, sizeWord, listWord}
 
 -- no longer than that, where it is answered
 abbrev Short : Asked (List ℕ) → Type 0
@@ -139,7 +139,7 @@ module _ (m : Memory) where
 
 -- ---- the number
 
-pub list-said : {r : ListReply} {room : List ℕ} {w : ListReply × List ℕ} (x : ℕ) → (r, room) ≡ w → x ≡ listNumber r → (x, room) ≡ listWord w
+pub list-said : {r : ListReply} {room : List ℕ} {w : ListReply × List ℕ} (x : ℕ) → (r, room) ≡ w → x ≡ sizeWord r → (x, room) ≡ listWord w
 list-said {room = room} x e q = (λ j. (q j, room)) ∙ ap listWord e
 
 pub fits-as : {r : ListReply} {room : List ℕ} {w : ListReply × List ℕ} → (r, room) ≡ w → SizeFits (w .0) → SizeFits r

@@ -34,13 +34,13 @@ cutWord (Refused n, m) = (n, m)
 cutWord (Answered a, m) = (outputWord a, m)
 
 -- bits 0 to 7 are the reply's number, and above them stands the size of the list
-abbrev pub listNumber : ListReply → ℕ
-listNumber (ListRefused n) = n
-listNumber (Listed n) = n * 0x100
+abbrev pub sizeWord : ListReply → ℕ
+sizeWord (ListRefused n) = n
+sizeWord (Listed n) = n * 0x100
 
 -- beside it, the list room
 abbrev pub listWord : ListReply × List ℕ → ℕ × List ℕ
-listWord (r, room) = (listNumber r, room)
+listWord (r, room) = (sizeWord r, room)
 
 -- bits 0 to 7 are the reply's number, bit 8 the answer
 abbrev pub facetWord : FacetReply → ℕ

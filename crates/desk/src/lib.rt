@@ -15,7 +15,7 @@ ghost use Rattle.rules.specs.Limits.{desk};
 ghost use Rattle.rules.specs.Held.{memoryOf};
 ghost use Rattle.rules.specs.Replies.{isKept, isSoundReply, cubeReply, cutReply, subElementsReply, withRankReply, vertexSetReply, greatestCommonReply, edgesInOrderReply, primordialFacetReply};
 ghost use Rattle.rules.specs.Promises.{OneBelow, NamesBelow};
-ghost use Rattle.desk.specs.Words.{elementWord, outputWord, cutWord, listNumber, SizeFits, listWord, facetWord, dividerWith, keptBy, rankByte};
+ghost use Rattle.desk.specs.Words.{elementWord, outputWord, cutWord, sizeWord, SizeFits, listWord, facetWord, dividerWith, keptBy, rankByte};
 
 // 0 removes a side, and any other number keeps it.
 fn fate(kept: u32) -> PolytopeFate
@@ -69,7 +69,7 @@ fn output_word(a: ElementCutOutput) -> u64
 // The reply's number, or the size of the list above its eight bits.
 fn list_word(r: ListReply) -> u32
     requires { ⌜ SizeFits r ⌝ }
-    ensures { λ w. ⌜ w ≡ listNumber r ⌝ }
+    ensures { λ w. ⌜ w ≡ sizeWord r ⌝ }
 {
     match r {
         ListReply::Refused(no) => no as u32,
