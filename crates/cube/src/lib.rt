@@ -47,12 +47,12 @@ fn cube_size(d: usize) -> usize
 }
 
 // The digits of an element of the cube, axis 0 the lowest, and 0 past the dimension.
-fn digits_of(d: usize, e: ElementId) -> [usize; 4]
-    requires { ⌜ d ≤ 4 ⌝ }
+fn digits_of(d: usize, e: ElementId) -> [u16; 4]
+    requires { ⌜ InCube d (e .0) ⌝ }
     ensures { λ r. ⌜ r ≡ pad 0 4 (digits d (e .0)) ⌝ }
 {
-    let mut ks = [0usize; 4];
-    let mut rest = e.0;
+    let mut ks = [0u16; 4];
+    let mut rest = e.0 as u16;
     for axis in 0..d {
         ks[axis] = rest % 3;
         rest = rest / 3;
@@ -61,7 +61,7 @@ fn digits_of(d: usize, e: ElementId) -> [usize; 4]
 }
 
 // The two faces across an axis that the element spans.
-fn faces_across(f: Faces, k: usize, e: ElementId, step: usize) -> Faces
+fn faces_across(f: Faces, k: u16, e: ElementId, step: u16) -> Faces
     requires { ⌜ AcrossReady f k (e .0) step ⌝ }
     ensures { λ r. ⌜ FacesMore f k (e .0) step r ⌝ }
 {
@@ -70,10 +70,11 @@ fn faces_across(f: Faces, k: usize, e: ElementId, step: usize) -> Faces
     }
     let n = f.n;
     let mut list = f.list;
-    let low = e.0 - 2 * step;
-    let high = e.0 - step;
-    list[n] = low as u16;
-    list[n + 1] = high as u16;
+    let number = e.0 as u16;
+    let low = number - 2 * step;
+    let high = number - step;
+    list[n] = low;
+    list[n + 1] = high;
     Faces { list, n: n + 2 }
 }
 
@@ -87,7 +88,7 @@ fn faces_of(d: usize, e: ElementId) -> Faces
         list: [0u16; SET],
         n: 0,
     };
-    let mut step = cube_size(d);
+    let mut step = cube_size(d) as u16;
     let mut axis = d;
     while 0 < axis {
         axis -= 1;
@@ -143,7 +144,7 @@ fn cube_row(d: usize, e: ElementId, v: VertexId, h: HyperplaneId) -> [u16; 36]
 }
 
 // A corner's coordinate: the digit tells which end.
-fn coordinate_at(k: usize, radius: f64) -> f64
+fn coordinate_at(k: u16, radius: f64) -> f64
     ensures { λ r. ⌜ r ≡ coordinateAt radius k ⌝ }
 {
     if k == 0 {
@@ -153,7 +154,7 @@ fn coordinate_at(k: usize, radius: f64) -> f64
 }
 
 fn corner_point(d: usize, radius: f64, e: ElementId) -> [f64; 4]
-    requires { ⌜ d ≤ 4 ⌝ }
+    requires { ⌜ InCube d (e .0) ⌝ }
     ensures { λ r. ⌜ r ≡ pad plusZero 4 (cubePoint radius (digits d (e .0))) ⌝ }
 {
     let ks = digits_of(d, e);
@@ -165,7 +166,7 @@ fn corner_point(d: usize, radius: f64, e: ElementId) -> [f64; 4]
 }
 
 // A component of a facet's outward normal: its own axis is the one that it does not span.
-fn component_at(k: usize) -> f64
+fn component_at(k: u16) -> f64
     ensures { λ r. ⌜ r ≡ componentAt k ⌝ }
 {
     if k == 2 {
@@ -178,7 +179,7 @@ fn component_at(k: usize) -> f64
 }
 
 fn facet_normal(d: usize, e: ElementId) -> [f64; 4]
-    requires { ⌜ d ≤ 4 ⌝ }
+    requires { ⌜ InCube d (e .0) ⌝ }
     ensures { λ r. ⌜ r ≡ pad plusZero 4 (facetNormal (digits d (e .0))) ⌝ }
 {
     let ks = digits_of(d, e);

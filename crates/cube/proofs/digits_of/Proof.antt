@@ -4,7 +4,7 @@ use Prim.Native.Nat.{ℕ, _≤_, _-_}
 use mathlib.Core.List.{List}
 use native.Mathlib.Omega.{arith}
 use lib.ListN.{length}
-use Rattle.cube.proofs.CubeRows.{Reading, reading-start, reading-next, reading-end}
+use Rattle.cube.proofs.CubeRows.{power-low, Reading, reading-start, reading-next, reading-end}
 use borrow.Author.Needs.{needs}
 use Rattle.cube.proofs.digits_of.Statement.{statement}
 use Rattle.cube.proofs.digits_of.Tie as tie
@@ -20,6 +20,13 @@ Inv-loop d ks₀ e axis₀ ks rest axis = Read d e ks rest axis
 
 abbrev μ-loop : tie.MeasureT-loop
 μ-loop d ks₀ e axis₀ ks rest axis = d - axis
+
+cast-rest : tie.Need-cast-rest Inv-loop μ-loop
+cast-rest c =
+    let p = c .before .pre in
+    let u = p .used in
+    let l = power-low (c .before .args .d) (p .axes) in
+    omega (arith, u, l)
 
 loop-holds : tie.Need-loop-holds Inv-loop μ-loop
 loop-holds c = record { so-far = omega arith; axes = search needs; long = refl; reading = reading-start _ _ }
@@ -50,6 +57,7 @@ digits-of-spec =
     (tie.spec
     Inv-loop
     μ-loop
+    cast-rest
     loop-holds
     mul-ks
     array-write-ks

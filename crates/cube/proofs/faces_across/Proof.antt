@@ -9,6 +9,9 @@ use Rattle.cube.proofs.faces_across.Tie as tie
 returns : tie.Need-returns
 returns c = across-none _ _ _ _ (not-eq _ 2 (c .if1 .taken))
 
+cast-number : tie.Need-cast-number
+cast-number c = search needs
+
 mul-low : tie.Need-mul-low
 mul-low c = search needs
 
@@ -17,19 +20,13 @@ sub-low c = c .before .before .before .pre .spanned (c .before .before .if1 .lef
 
 sub-high : tie.Need-sub-high
 sub-high c =
-    let h = c .before .before .before .before .pre .spanned (c .before .before .before .if1 .left) in omega (arith, h)
-
-cast-list : tie.Need-cast-list
-cast-list c = search needs
+    let h = c .before .before .before .pre .spanned (c .before .before .if1 .left) in omega (arith, h)
 
 mul-list : tie.Need-mul-list
 mul-list c = search needs
 
 array-write-list : tie.Need-array-write-list
 array-write-list c = search needs
-
-cast-list-2 : tie.Need-cast-list-2
-cast-list-2 c = search needs
 
 add-list : tie.Need-add-list
 add-list c = search needs
@@ -40,26 +37,25 @@ mul-list-2 c = search needs
 array-write-list-2 : tie.Need-array-write-list-2
 array-write-list-2 c = search needs
 
-add-t10 : tie.Need-add-t10
-add-t10 c = search needs
+add-t12 : tie.Need-add-t12
+add-t12 c = search needs
 
 returns-2 : tie.Need-returns-2
-returns-2 c = across-two _ _ _ _ (c .before .before .before .before .pre .place) (test-eq _ 2 (c .before .before .before .if1 .left))
+returns-2 c = across-two _ _ _ _ (c .before .before .before .pre .place) (test-eq _ 2 (c .before .before .if1 .left))
 
 pub faces-across-spec : {M : Type 1} → statement M
 faces-across-spec =
     tie.close
     (tie.spec
     returns
+    cast-number
     mul-low
     sub-low
     sub-high
-    cast-list
     mul-list
     array-write-list
-    cast-list-2
     add-list
     mul-list-2
     array-write-list-2
-    add-t10
+    add-t12
     returns-2)

@@ -28,6 +28,9 @@ digits-of-requires c κs = search needs
 cube-size-requires : tie.Need-cube-size-requires Inv-loop μ-loop
 cube-size-requires c κs = search needs
 
+cast-step : tie.Need-cast-step Inv-loop μ-loop
+cast-step c = search needs
+
 loop-holds : tie.Need-loop-holds Inv-loop μ-loop
 loop-holds c =
     record {
@@ -75,6 +78,7 @@ faces-of-spec =
     μ-loop
     digits-of-requires
     cube-size-requires
+    cast-step
     loop-holds
     sub-axis
     mul-faces-across
