@@ -30,7 +30,7 @@ use Rattle.space.proofs.Room.{sizeOf, listOf, size-word, list-word}
 use Rattle.space.proofs.Slices.{slices}
 use Rattle.gathered.specs.Sets.{Answers, Gathers, Sized, NothingYet, GatheredIn, OutputInRoom}
 use Rattle.gathered.specs.Cutting.{cutOf, Fit, Rule6Fit, Rule6Ready, Rule6Done}
-use Rattle.gathered.specs.declared.answer.Cutter.{Cutter}
+use Rattle.rules.specs.declared.Cutter.{Cutter}
 use Rattle.ends.proofs.Edges.{list-bound}
 use Rattle.cut.specs.Known.{Knows, HoldsKnown, ReplyInRoom, KeepReady, ReplyKept, outputAt, replyOf}
 use Rattle.cut.specs.Rounds.{AskReady, RoundReady, ElementAsked, Round, went, stopped, BoundaryCut}

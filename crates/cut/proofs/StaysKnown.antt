@@ -30,7 +30,7 @@ use Rattle.rules.proofs.Repeat.{cut-any, rule6-later}
 use Rattle.space.specs.Chains.{Indexed}
 use Rattle.gathered.specs.Sets.{InRoom, OutputInRoom}
 use Rattle.gathered.specs.Cutting.{cutOf, Fit}
-use Rattle.gathered.specs.declared.answer.Cutter.{Cutter}
+use Rattle.rules.specs.declared.Cutter.{Cutter}
 use Rattle.ends.specs.Elements.{Ready, ElementCut}
 use Rattle.cut.specs.Known.{knownAt, outputAt, withAnswer, withReply, ReplyInRoom, askedBy, KeepReady, ReplyKept, replyOf, Repeats, Knows, HoldsKnown}
 use Rattle.cut.specs.Rounds.{AskReady, ElementAsked}

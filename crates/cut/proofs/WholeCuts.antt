@@ -35,7 +35,7 @@ use Rattle.space.proofs.Room.{rank-word}
 use Rattle.space.proofs.RowAdds.{readable-desk}
 use Rattle.space.proofs.Slices.{slices}
 use Rattle.gathered.specs.Cutting.{Fit, cutOf}
-use Rattle.gathered.specs.declared.answer.Cutter.{Cutter}
+use Rattle.rules.specs.declared.Cutter.{Cutter}
 use Rattle.cut.specs.Known.{HoldsKnown, outputAt, replyOf}
 use Rattle.cut.specs.declared.known.Asked.{Asked}
 use Rattle.cut.specs.declared.known.Asked.the-variants as asked

@@ -12,7 +12,7 @@ use Rattle.rules.specs.declared.CutReply.the-variants as reply
 use Rattle.space.specs.Chains.{Indexed}
 use Rattle.gathered.specs.Sets.{Answers, Gathers, Sized, NothingYet}
 use Rattle.gathered.specs.Cutting.{Fit, cutOf}
-use Rattle.gathered.specs.declared.answer.Cutter.{Cutter}
+use Rattle.rules.specs.declared.Cutter.{Cutter}
 use Rattle.cut.specs.Known.{Knows, HoldsKnown, replyOf}
 use Rattle.cut.specs.declared.known.Asked.{Asked}
 use Rattle.cut.specs.declared.known.Asked.the-variants as asked

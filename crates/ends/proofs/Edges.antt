@@ -38,7 +38,7 @@ use Rattle.space.proofs.VertexMemo.{dimension-is}
 use Rattle.space.proofs.Slices.{slices}
 use Rattle.gathered.specs.Sets.{Answers, answersIn, Gathers, Sized, NothingYet, OutputInRoom, GatheredIn}
 use Rattle.gathered.specs.Cutting.{Fit, cutOf, Rule6Fit, Rule6Ready, Rule6Done}
-use Rattle.gathered.specs.declared.answer.Cutter.{Cutter}
+use Rattle.rules.specs.declared.Cutter.{Cutter}
 use Rattle.gathered.proofs.Gathering.{at-most, said-count, said-last, said-long}
 use Rattle.ends.specs.Ends.{PointAsked, EndsReady, EndsRead, EndsAsked, endsOf, EndsGathered, crossedOf, afterEnds, CrossedFit, CrossedReady, CrossedAsked, CrossedCut}
 use Rattle.ends.specs.declared.EdgeEnds.{EdgeEnds}

@@ -29,7 +29,7 @@ use Rattle.space.proofs.RowAdds.{readable-desk}
 use Rattle.space.proofs.VertexMemo.{four-is, dimension-is}
 use Rattle.space.proofs.Slices.{slices}
 use Rattle.gathered.specs.Cutting.{Fit, cutOf}
-use Rattle.gathered.specs.declared.answer.Cutter.{Cutter}
+use Rattle.rules.specs.declared.Cutter.{Cutter}
 use Rattle.ends.specs.Ends.{PointAsked, CornerCut}
 use Rattle.ends.specs.Elements.{LowAsked, LowLeft}
 

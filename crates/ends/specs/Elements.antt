@@ -11,7 +11,7 @@ use Rattle.rules.specs.declared.CutReply.{CutReply}
 use Rattle.rules.specs.declared.CutReply.the-variants as reply
 use Rattle.space.specs.Chains.{Indexed}
 use Rattle.gathered.specs.Cutting.{Fit, cutOf}
-use Rattle.gathered.specs.declared.answer.Cutter.{Cutter}
+use Rattle.rules.specs.declared.Cutter.{Cutter}
 
 -- there is a table that may be cut, whatever its hyperplanes
 pub record Ready (cs : List ℕ) (ps : List Float) (es : List ℕ) (r e : ℕ) (k : Cutter) : Type 0 where

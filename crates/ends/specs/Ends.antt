@@ -20,7 +20,7 @@ use Rattle.space.specs.Chains.{Indexed}
 use Rattle.space.specs.Shared.{storedPoint}
 use Rattle.gathered.specs.Sets.{Answers, Gathers, Sized, NothingYet}
 use Rattle.gathered.specs.Cutting.{Fit, cutOf}
-use Rattle.gathered.specs.declared.answer.Cutter.{Cutter}
+use Rattle.rules.specs.declared.Cutter.{Cutter}
 use Rattle.ends.specs.declared.EdgeEnds.{EdgeEnds}
 
 -- ---- a vertex

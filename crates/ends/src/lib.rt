@@ -1,10 +1,10 @@
 // Rules 3 and 4: the cut of a vertex, and of an edge by its two ends.
 use gathered::answer;
-use gathered::answer::Cutter;
 use gathered::sets;
 use gathered::sets::FLUSH;
 use rules::Crossing;
 use rules::CutReply;
+use rules::Cutter;
 use rules::ElementCutOutput;
 use rules::ElementId;
 use rules::ElementOrNone;

@@ -27,7 +27,7 @@ use Rattle.space.specs.declared.memo.Added.{Added}
 use Rattle.space.specs.declared.memo.Added.the-variants as added
 use Rattle.gathered.specs.Sets.{numbersIn, SizedSet, Answers}
 use Rattle.gathered.specs.Cutting.{cutOf, Fit, IntersectionFit, IntersectionReady, IntersectionMade, SideFit, SideReady, SideMade, Rule6Fit, Rule6Ready, Rule6Done, SideSet, Rule7Fit, Rule7Ready, Rule7Done}
-use Rattle.gathered.specs.declared.answer.Cutter.{Cutter}
+use Rattle.rules.specs.declared.Cutter.{Cutter}
 use Rattle.gathered.proofs.Fitting.{rank-before, owner-of, rank-low}
 use Rattle.gathered.proofs.Steps.{made-is, came-refused, came-answered, came-next}
 

@@ -29,7 +29,7 @@ use Rattle.space.proofs.VertexMemo.{dimension-is}
 use Rattle.space.proofs.Slices.{slices}
 use Rattle.gathered.specs.Sets.{sizeIn, numbersIn}
 use Rattle.gathered.specs.Cutting.{cutOf, IntersectionFit, IntersectionReady, IntersectionMade}
-use Rattle.gathered.specs.declared.answer.Cutter.{Cutter}
+use Rattle.rules.specs.declared.Cutter.{Cutter}
 use Rattle.gathered.proofs.Fitting.{low-of, edges-of, ends-low}
 
 -- FFFF is no number in use

@@ -17,7 +17,7 @@ use Rattle.space.specs.Chains.{Indexed}
 use Rattle.space.specs.declared.memo.Added.{Added}
 use Rattle.space.specs.declared.memo.Added.the-variants as added
 use Rattle.gathered.specs.Sets.{numbersIn, SizedSet, Answers, Sized, Gathers}
-use Rattle.gathered.specs.declared.answer.Cutter.{Cutter}
+use Rattle.rules.specs.declared.Cutter.{Cutter}
 
 -- ---- the cut of one element
 

@@ -2,10 +2,10 @@
 use crate::including::include;
 use crate::sets::FLUSH;
 use rules::CutReply;
+use rules::Cutter;
 use rules::ElementCutOutput;
 use rules::ElementId;
 use rules::ElementOrNone;
-use rules::Hyperplane;
 use rules::HyperplaneId;
 use space::memo;
 use space::memo::Added;
@@ -23,14 +23,6 @@ ghost use Rattle.rules.specs.Lists.{if_then_else_};
 ghost use Rattle.space.specs.Chains.{Indexed};
 ghost use Rattle.gathered.specs.Sets.{answersIn};
 ghost use Rattle.gathered.specs.Cutting.{IntersectionReady, IntersectionMade, RowReadable, OwnTold, SideReady, SideMade, Rule7Ready, Rule7Done, Rule6Ready, Rule6Done};
-
-// The divider as given, its hyperplane's number, and which sides are kept.
-pub struct Cutter {
-    pub divider: Hyperplane,
-    pub number: HyperplaneId,
-    pub keep_inside: bool,
-    pub keep_outside: bool,
-}
 
 // The divider's hyperplane if the rank is the dimension.
 fn plane_of_intersection(counts: &[u16], rank: usize, number: HyperplaneId) -> u16
