@@ -205,11 +205,10 @@ module _ (d e : ℕ) (ks : List ℕ) (f : Faces) (step axis : ℕ) (low : d ≤ 
   next-digit : getD ks (axis - 1) 0 ≡ getD (digits d e) (axis - 1) 0
   next-digit = ap (λ (l : List ℕ). getD l (axis - 1) 0) (g .read) ∙ List·getD-append (digits d e) (replicate (4 - length (digits d e)) 0) 0 (axis - 1) known
 
-  pub descend-ready : e < 3 ^ d → AcrossReady f (getD ks (axis - 1) 0) e (step / 3)
-  descend-ready u = record {
+  pub descend-ready : AcrossReady f (getD ks (axis - 1) 0) e (step / 3)
+  descend-ready = record {
     place = place;
     near = near;
-    word = let l = power-low d low in omega (arith, u, l);
     spanned = spanned;
   }
     where

@@ -42,7 +42,6 @@ across k e step = if eqb k 2 then (e - 2 * step) ∷ (e - step) ∷ [] else []
 pub record AcrossReady (f : Faces) (k e step : ℕ) : Type 0 where
   pub place : f .n < 31
   pub near : step < 82
-  pub word : e < 65536
   pub spanned : k ≡ 2 → 2 * step ≤ e
 
 pub record FacesMore (f : Faces) (k e step : ℕ) (r : Faces) : Type 0 where

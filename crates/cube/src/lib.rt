@@ -35,11 +35,11 @@ struct Faces {
 }
 
 // How many elements a cube has.
-fn cube_size(d: usize) -> usize
+fn cube_size(d: usize) -> u16
     requires { ⌜ d ≤ 4 ⌝ }
     ensures { λ r. ⌜ CubeSize d r ⌝ }
 {
-    let mut size = 1usize;
+    let mut size = 1u16;
     for axis in 0..d {
         size = size * 3;
     }
@@ -47,12 +47,12 @@ fn cube_size(d: usize) -> usize
 }
 
 // The digits of an element of the cube, axis 0 the lowest, and 0 past the dimension.
-fn digits_of(d: usize, e: ElementId) -> [u16; 4]
-    requires { ⌜ InCube d (e .0) ⌝ }
-    ensures { λ r. ⌜ r ≡ pad 0 4 (digits d (e .0)) ⌝ }
+fn digits_of(d: usize, e: u16) -> [u16; 4]
+    requires { ⌜ d ≤ 4 ⌝ }
+    ensures { λ r. ⌜ r ≡ pad 0 4 (digits d e) ⌝ }
 {
     let mut ks = [0u16; 4];
-    let mut rest = e.0 as u16;
+    let mut rest = e;
     for axis in 0..d {
         ks[axis] = rest % 3;
         rest = rest / 3;
@@ -61,34 +61,33 @@ fn digits_of(d: usize, e: ElementId) -> [u16; 4]
 }
 
 // The two faces across an axis that the element spans.
-fn faces_across(f: Faces, k: u16, e: ElementId, step: u16) -> Faces
-    requires { ⌜ AcrossReady f k (e .0) step ⌝ }
-    ensures { λ r. ⌜ FacesMore f k (e .0) step r ⌝ }
+fn faces_across(f: Faces, k: u16, e: u16, step: u16) -> Faces
+    requires { ⌜ AcrossReady f k e step ⌝ }
+    ensures { λ r. ⌜ FacesMore f k e step r ⌝ }
 {
     if k != 2 {
         return f;
     }
     let n = f.n;
     let mut list = f.list;
-    let number = e.0 as u16;
-    let low = number - 2 * step;
-    let high = number - step;
+    let low = e - 2 * step;
+    let high = e - step;
     list[n] = low;
     list[n + 1] = high;
     Faces { list, n: n + 2 }
 }
 
 // The boundary of an element of the cube, in rising number.
-fn faces_of(d: usize, e: ElementId) -> Faces
-    requires { ⌜ InCube d (e .0) ⌝ }
-    ensures { λ r. ⌜ FacesSoFar r (map ofDigits (faces (digits d (e .0)))) ⌝ }
+fn faces_of(d: usize, e: u16) -> Faces
+    requires { ⌜ InCube d e ⌝ }
+    ensures { λ r. ⌜ FacesSoFar r (map ofDigits (faces (digits d e))) ⌝ }
 {
     let ks = digits_of(d, e);
     let mut f = Faces {
         list: [0u16; SET],
         n: 0,
     };
-    let mut step = cube_size(d) as u16;
+    let mut step = cube_size(d);
     let mut axis = d;
     while 0 < axis {
         axis -= 1;
@@ -99,25 +98,25 @@ fn faces_of(d: usize, e: ElementId) -> Faces
 }
 
 // Rank is the count of 2s, and each gives two faces.
-fn cube_rank(d: usize, e: ElementId) -> usize
-    requires { ⌜ InCube d (e .0) ⌝ }
-    ensures { λ r. ⌜ CubeRank d (e .0) r ⌝ }
+fn cube_rank(d: usize, e: u16) -> usize
+    requires { ⌜ InCube d e ⌝ }
+    ensures { λ r. ⌜ CubeRank d e r ⌝ }
 {
     let f = faces_of(d, e);
     f.n / 2
 }
 
-fn is_corner(d: usize, e: ElementId) -> bool
-    requires { ⌜ InCube d (e .0) ⌝ }
-    ensures { λ r. ⌜ r ≡ isVertex (digits d (e .0)) ⌝ }
+fn is_corner(d: usize, e: u16) -> bool
+    requires { ⌜ InCube d e ⌝ }
+    ensures { λ r. ⌜ r ≡ isVertex (digits d e) ⌝ }
 {
     cube_rank(d, e) == 0
 }
 
 // Rank dimension - 1, above 0.
-fn is_facet(d: usize, e: ElementId) -> bool
-    requires { ⌜ InCube d (e .0) ⌝ }
-    ensures { λ r. ⌜ r ≡ isFacet (digits d (e .0)) ⌝ }
+fn is_facet(d: usize, e: u16) -> bool
+    requires { ⌜ InCube d e ⌝ }
+    ensures { λ r. ⌜ r ≡ isFacet (digits d e) ⌝ }
 {
     let rank = cube_rank(d, e);
     if rank == 0 {
@@ -131,13 +130,14 @@ fn cube_row(d: usize, e: ElementId, v: VertexId, h: HyperplaneId) -> [u16; 36]
     requires { ⌜ RowReady d (e .0) (v .0) (h .0) ⌝ }
     ensures { λ r. ⌜ r ≡ elementWords desk (cubeElement d (e .0)) ⌝ }
 {
-    if is_corner(d, e) {
+    let number = e.0 as u16;
+    if is_corner(d, number) {
         return memo::corner_row(v);
     }
-    let f = faces_of(d, e);
+    let f = faces_of(d, number);
     let list = f.list;
     let rank = f.n / 2;
-    if is_facet(d, e) {
+    if is_facet(d, number) {
         return rows::polytope_row(rank, &list, f.n, h.0 as u16, true);
     }
     rows::polytope_row(rank, &list, f.n, NO_PLANE, false)
@@ -153,9 +153,9 @@ fn coordinate_at(k: u16, radius: f64) -> f64
     radius
 }
 
-fn corner_point(d: usize, radius: f64, e: ElementId) -> [f64; 4]
-    requires { ⌜ InCube d (e .0) ⌝ }
-    ensures { λ r. ⌜ r ≡ pad plusZero 4 (cubePoint radius (digits d (e .0))) ⌝ }
+fn corner_point(d: usize, radius: f64, e: u16) -> [f64; 4]
+    requires { ⌜ d ≤ 4 ⌝ }
+    ensures { λ r. ⌜ r ≡ pad plusZero 4 (cubePoint radius (digits d e)) ⌝ }
 {
     let ks = digits_of(d, e);
     let mut p = [0.0; 4];
@@ -178,9 +178,9 @@ fn component_at(k: u16) -> f64
     1.0
 }
 
-fn facet_normal(d: usize, e: ElementId) -> [f64; 4]
-    requires { ⌜ InCube d (e .0) ⌝ }
-    ensures { λ r. ⌜ r ≡ pad plusZero 4 (facetNormal (digits d (e .0))) ⌝ }
+fn facet_normal(d: usize, e: u16) -> [f64; 4]
+    requires { ⌜ d ≤ 4 ⌝ }
+    ensures { λ r. ⌜ r ≡ pad plusZero 4 (facetNormal (digits d e)) ⌝ }
 {
     let ks = digits_of(d, e);
     let mut normal = [0.0; 4];
@@ -195,10 +195,11 @@ fn put_corner(points: &mut [f64], d: usize, radius: f64, e: ElementId, v: Vertex
     requires { ⌜ CornerReady d (e .0) (now points) (v .0) ⌝ }
     ensures { λ r. ⌜ CornerPut d radius (e .0) (now (points .entry)) (r .0) (now (points .exit)) ⌝ }
 {
-    if !is_corner(d, e) {
+    let number = e.0 as u16;
+    if !is_corner(d, number) {
         return v;
     }
-    let p = corner_point(d, radius, e);
+    let p = corner_point(d, radius, number);
     memo::put_point(points, v.0 * AXES, p);
     VertexId(v.0 + 1)
 }
@@ -210,7 +211,7 @@ fn put_corners(points: &mut [f64], d: usize, radius: f64) -> usize
     let size = cube_size(d);
     let mut v = VertexId(0);
     for e in 0..size {
-        v = put_corner(points, d, radius, ElementId(e), v);
+        v = put_corner(points, d, radius, ElementId(e as usize), v);
     }
     v.0
 }
@@ -226,10 +227,11 @@ fn put_facet(
     requires { ⌜ FacetReady d (e .0) (now planes) (h .0) ⌝ }
     ensures { λ r. ⌜ FacetPut d radius (e .0) (now (planes .entry)) (r .0) (now (planes .exit)) ⌝ }
 {
-    if !is_facet(d, e) {
+    let number = e.0 as u16;
+    if !is_facet(d, number) {
         return h;
     }
-    let normal = facet_normal(d, e);
+    let normal = facet_normal(d, number);
     let row = memo::hyperplane_row(Hyperplane {
         normal,
         distance: radius,
@@ -245,7 +247,7 @@ fn put_facets(planes: &mut [f64], d: usize, radius: f64) -> usize
     let size = cube_size(d);
     let mut h = HyperplaneId(0);
     for e in 0..size {
-        h = put_facet(planes, d, radius, ElementId(e), h);
+        h = put_facet(planes, d, radius, ElementId(e as usize), h);
     }
     h.0
 }
@@ -269,10 +271,10 @@ fn put_elements(elements: &mut [u16], d: usize)
     let mut v = 0usize;
     let mut h = 0usize;
     for e in 0..size {
-        let row = cube_row(d, ElementId(e), VertexId(v), HyperplaneId(h));
-        rows::put_row(elements, e * WIDTH, &row);
-        v = one_more_if(v, is_corner(d, ElementId(e)));
-        h = one_more_if(h, is_facet(d, ElementId(e)));
+        let row = cube_row(d, ElementId(e as usize), VertexId(v), HyperplaneId(h));
+        rows::put_row(elements, e as usize * WIDTH, &row);
+        v = one_more_if(v, is_corner(d, e));
+        h = one_more_if(h, is_facet(d, e));
     }
 }
 
@@ -329,7 +331,7 @@ fn put_cube(
     let h = put_planes(planes, d, radius);
     put_rows(elements, d);
     let e = cube_size(d);
-    put_counts(counts, d as u16, e as u16, v, h);
+    put_counts(counts, d as u16, e, v, h);
 }
 
 fn radius_fits(radius: f64) -> bool

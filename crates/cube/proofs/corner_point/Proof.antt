@@ -22,10 +22,10 @@ record Worked (f : ℕ → Float) (d : ℕ) (ks : List ℕ) (p : List Float) (ax
   done : (e : ℕ) → ks ≡ pad 0 4 (digits d e) → p ≡ worked f (digits d e) axis
 
 abbrev Inv-loop : tie.InvT-loop
-Inv-loop d radius ks p₀ axis₀ p axis = Worked (coordinateAt radius) d ks p axis
+Inv-loop d radius e ks p₀ axis₀ p axis = Worked (coordinateAt radius) d ks p axis
 
 abbrev μ-loop : tie.MeasureT-loop
-μ-loop d radius ks p₀ axis₀ p axis = d - axis
+μ-loop d radius e ks p₀ axis₀ p axis = d - axis
 
 digits-of-requires : tie.Need-digits-of-requires Inv-loop μ-loop
 digits-of-requires c κs = search needs
@@ -71,7 +71,7 @@ unfolding cubePoint
 returns c =
     let args = c .before .before .before .args in
     let at = c .before .loop in
-    worked-end (coordinateAt (args .radius)) (args .d) (args .e .0) (at .axis) _ (omega arith) (at .inv .done (args .e .0) (c .before .before .digits-of .ensures))
+    worked-end (coordinateAt (args .radius)) (args .d) (args .e) (at .axis) _ (omega arith) (at .inv .done (args .e) (c .before .before .digits-of .ensures))
 
 pub corner-point-spec : {M : Type 1} → statement M
 corner-point-spec =

@@ -12,8 +12,8 @@ returns : tie.Need-returns
 returns c =
     let args = c .before .before .args in
     let faces-of = c .before .faces-of in
-    let r = rank-half (args .d) (args .e .0) (faces-of .result) (faces-of .ensures) in
-    let l = rank-low (args .d) (args .e .0) (c .before .before .pre .axes) in
+    let r = rank-half (args .d) (args .e) (faces-of .result) (faces-of .ensures) in
+    let l = rank-low (args .d) (args .e) (c .before .before .pre .axes) in
     record { rank = r; low = omega (arith, r, l) }
 
 pub cube-rank-spec : {M : Type 1} → statement M

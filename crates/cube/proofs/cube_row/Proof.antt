@@ -6,13 +6,14 @@ use mathlib.Core.Bool.{true, false}
 use lib.ListN.{length}
 use Rattle.rules.specs.Cube.{digits, isVertex, isFacet, chosen}
 use Rattle.cube.proofs.CubeEntries.{corner-room, facet-room, row-corner, row-polytope, facet-named, faces-few}
+use Rattle.cube.proofs.CubeRows.{power-low}
 use borrow.Author.Needs.{needs}
 use Rattle.cube.proofs.cube_row.Statement.{statement}
 use Rattle.cube.proofs.cube_row.Tie as tie
 
 -- where the function began, and where the boundary was known
 abbrev start : tie.After-faces-of → tie.Start
-start c = c .before .before .before
+start c = c .before .before .before .before
 
 abbrev faced : tie.After-is-facet → tie.After-faces-of
 faced c = c .before .before .before
@@ -30,20 +31,27 @@ a-facet c = sym (c .before .is-facet .ensures) ∙ c .if2 .taken
 facet-few : (c : tie.Then2) → length (chosen isFacet (start (faced (c .before)) .args .d) (start (faced (c .before)) .args .e .0)) < 9
 facet-few c = let s = start (faced (c .before)) in facet-room (s .args .d) (s .args .e .0) (s .pre .inCube .axes) (s .pre .inCube .used) (a-facet c)
 
+cast-number : tie.Need-cast-number
+cast-number c =
+    let p = c .before .pre .inCube in
+    let u = p .used in
+    let l = power-low (c .before .args .d) (p .axes) in
+    omega (arith, u, l)
+
 is-corner-requires : tie.Need-is-corner-requires
 is-corner-requires c κs = search needs
 
 corner-row-requires : tie.Need-corner-row-requires
 corner-row-requires c κs =
-    let args = c .before .before .args in
-    let pre = c .before .before .pre in
+    let args = c .before .before .before .args in
+    let pre = c .before .before .before .pre in
     let l = corner-room (args .d) (args .e .0) (pre .inCube .axes) (pre .inCube .used) (sym (c .before .is-corner .ensures) ∙ c .if1 .taken) in
     let q = pre .vertices in
     omega (arith, l, q)
 
 returns : tie.Need-returns
 returns c =
-    c .corner-row .ensures ∙ row-corner _ _ _ (sym (c .before .before .is-corner .ensures) ∙ c .before .if1 .taken) (c .before .before .before .pre .vertices)
+    c .corner-row .ensures ∙ row-corner _ _ _ (sym (c .before .before .is-corner .ensures) ∙ c .before .if1 .taken) (c .before .before .before .before .pre .vertices)
 
 faces-of-requires : tie.Need-faces-of-requires
 faces-of-requires c κs = search needs
@@ -85,6 +93,7 @@ pub cube-row-spec : {M : Type 1} → statement M
 cube-row-spec =
     tie.close
     (tie.spec
+    cast-number
     is-corner-requires
     corner-row-requires
     returns

@@ -4,7 +4,7 @@ use Prim.Native.Nat.{ℕ, _≤_, _-_}
 use mathlib.Core.List.{List}
 use native.Mathlib.Omega.{arith}
 use lib.ListN.{length}
-use Rattle.cube.proofs.CubeRows.{power-low, Reading, reading-start, reading-next, reading-end}
+use Rattle.cube.proofs.CubeRows.{Reading, reading-start, reading-next, reading-end}
 use borrow.Author.Needs.{needs}
 use Rattle.cube.proofs.digits_of.Statement.{statement}
 use Rattle.cube.proofs.digits_of.Tie as tie
@@ -16,17 +16,10 @@ record Read (d e : ℕ) (ks : List ℕ) (rest axis : ℕ) : Type 0 where
   reading : Reading d e axis ks rest
 
 abbrev Inv-loop : tie.InvT-loop
-Inv-loop d ks₀ e axis₀ ks rest axis = Read d e ks rest axis
+Inv-loop d e ks₀ rest₀ axis₀ ks rest axis = Read d e ks rest axis
 
 abbrev μ-loop : tie.MeasureT-loop
-μ-loop d ks₀ e axis₀ ks rest axis = d - axis
-
-cast-rest : tie.Need-cast-rest Inv-loop μ-loop
-cast-rest c =
-    let p = c .before .pre in
-    let u = p .used in
-    let l = power-low (c .before .args .d) (p .axes) in
-    omega (arith, u, l)
+μ-loop d e ks₀ rest₀ axis₀ ks rest axis = d - axis
 
 loop-holds : tie.Need-loop-holds Inv-loop μ-loop
 loop-holds c = record { so-far = omega arith; axes = search needs; long = refl; reading = reading-start _ _ }
@@ -57,7 +50,6 @@ digits-of-spec =
     (tie.spec
     Inv-loop
     μ-loop
-    cast-rest
     loop-holds
     mul-ks
     array-write-ks

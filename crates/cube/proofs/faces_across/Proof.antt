@@ -9,18 +9,15 @@ use Rattle.cube.proofs.faces_across.Tie as tie
 returns : tie.Need-returns
 returns c = across-none _ _ _ _ (not-eq _ 2 (c .if1 .taken))
 
-cast-number : tie.Need-cast-number
-cast-number c = search needs
-
 mul-low : tie.Need-mul-low
 mul-low c = search needs
 
 sub-low : tie.Need-sub-low
-sub-low c = c .before .before .before .pre .spanned (c .before .before .if1 .left)
+sub-low c = c .before .before .pre .spanned (c .before .if1 .left)
 
 sub-high : tie.Need-sub-high
 sub-high c =
-    let h = c .before .before .before .pre .spanned (c .before .before .if1 .left) in omega (arith, h)
+    let h = c .before .before .pre .spanned (c .before .if1 .left) in omega (arith, h)
 
 mul-list : tie.Need-mul-list
 mul-list c = search needs
@@ -37,18 +34,17 @@ mul-list-2 c = search needs
 array-write-list-2 : tie.Need-array-write-list-2
 array-write-list-2 c = search needs
 
-add-t12 : tie.Need-add-t12
-add-t12 c = search needs
+add-t11 : tie.Need-add-t11
+add-t11 c = search needs
 
 returns-2 : tie.Need-returns-2
-returns-2 c = across-two _ _ _ _ (c .before .before .before .pre .place) (test-eq _ 2 (c .before .before .if1 .left))
+returns-2 c = across-two _ _ _ _ (c .before .before .pre .place) (test-eq _ 2 (c .before .if1 .left))
 
 pub faces-across-spec : {M : Type 1} → statement M
 faces-across-spec =
     tie.close
     (tie.spec
     returns
-    cast-number
     mul-low
     sub-low
     sub-high
@@ -57,5 +53,5 @@ faces-across-spec =
     add-list
     mul-list-2
     array-write-list-2
-    add-t12
+    add-t11
     returns-2)

@@ -17,7 +17,7 @@ record Down (d e : ℕ) (ks : List ℕ) (f : Faces) (step axis : ℕ) : Type 0 w
   going : Descending d e ks f step axis
 
 abbrev Inv-loop : tie.InvT-loop
-Inv-loop d e ks f₀ step₀ axis₀ f step axis = Down d (e .0) ks f step axis
+Inv-loop d e ks f₀ step₀ axis₀ f step axis = Down d e ks f step axis
 
 abbrev μ-loop : tie.MeasureT-loop
 μ-loop d e ks f₀ step₀ axis₀ f step axis = axis
@@ -27,9 +27,6 @@ digits-of-requires c κs = search needs
 
 cube-size-requires : tie.Need-cube-size-requires Inv-loop μ-loop
 cube-size-requires c κs = search needs
-
-cast-step : tie.Need-cast-step Inv-loop μ-loop
-cast-step c = search needs
 
 loop-holds : tie.Need-loop-holds Inv-loop μ-loop
 loop-holds c =
@@ -52,7 +49,7 @@ array-read-faces-across c = search needs
 faces-across-requires : tie.Need-faces-across-requires Inv-loop μ-loop
 faces-across-requires c κs =
     let at = c .before .loop .inv in
-    descend-ready _ _ _ _ _ _ (at .axes) (at .left) (omega arith) (at .going) (c .before .before .before .before .pre .used)
+    descend-ready _ _ _ _ _ _ (at .axes) (at .left) (omega arith) (at .going)
 
 loop-less : tie.Need-loop-less Inv-loop μ-loop
 loop-less c = search needs
@@ -78,7 +75,6 @@ faces-of-spec =
     μ-loop
     digits-of-requires
     cube-size-requires
-    cast-step
     loop-holds
     sub-axis
     mul-faces-across

@@ -37,9 +37,6 @@ cube-size-requires c κs = search needs
 cast-put-counts : tie.Need-cast-put-counts
 cast-put-counts c = search needs
 
-cast-put-counts-2 : tie.Need-cast-put-counts-2
-cast-put-counts-2 c = search needs
-
 put-counts-requires : tie.Need-put-counts-requires
 put-counts-requires c κs = search needs
 
@@ -75,7 +72,6 @@ put-cube-spec =
     put-rows-requires
     cube-size-requires
     cast-put-counts
-    cast-put-counts-2
     put-counts-requires
     same-length
     same-length-2

@@ -57,11 +57,17 @@ loop-holds c =
       slice = c .before .before .pre .clear;
     }
 
+cast-put-row : tie.Need-cast-put-row Inv-loop μ-loop
+cast-put-row c = search needs
+
 cube-row-requires : tie.Need-cube-row-requires Inv-loop μ-loop
 cube-row-requires c κs =
     let at = c .before .loop .inv in
     let q = at .all .power in
     record { inCube = record { axes = at .axes; used = omega (arith, q) }; vertices = at .vertices; hyperplanes = at .hyperplanes }
+
+cast-put-row-2 : tie.Need-cast-put-row-2 Inv-loop μ-loop
+cast-put-row-2 c = search needs
 
 mul-put-row : tie.Need-mul-put-row Inv-loop μ-loop
 mul-put-row c = search needs
@@ -148,7 +154,9 @@ put-elements-spec =
     μ-loop
     cube-size-requires
     loop-holds
+    cast-put-row
     cube-row-requires
+    cast-put-row-2
     mul-put-row
     slice-aggregate-put-row
     put-row-requires

@@ -42,6 +42,9 @@ loop-holds c =
       slice = c .before .before .pre .clear;
     }
 
+cast-t10 : tie.Need-cast-t10 Inv-loop μ-loop
+cast-t10 c = search needs
+
 put-facet-requires : tie.Need-put-facet-requires Inv-loop μ-loop
 put-facet-requires c κs =
     let at = c .before .before .loop .inv in
@@ -90,6 +93,7 @@ put-facets-spec =
     μ-loop
     cube-size-requires
     loop-holds
+    cast-t10
     put-facet-requires
     add-e
     loop-less
