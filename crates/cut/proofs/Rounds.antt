@@ -11,7 +11,7 @@ use lib.ListN.{length, getD, drop}
 use lib.Seq.{drop-cons, drop-length}
 use lib.Ieee.{Float}
 use Rattle.rules.specs.Limits.{Limits, desk}
-use Rattle.rules.specs.Table.{Element, corner, polytope, Table, rankOf, boundaryOf, elementCount, rank, boundary, element}
+use Rattle.rules.specs.Table.{Element, corner, Table, rankOf, boundaryOf, elementCount, rank, boundary, element}
 use Rattle.rules.specs.Held as held
 use Rattle.rules.specs.Held.{Extends, Holds, Came, Sets, Ranked, OutputOf}
 use Rattle.rules.specs.Cut.{Outcome, done, next, Step, Cutting, Gathered, nothingYet, gathering, rule6, cutElement, cutBoundary, cutHigher}
@@ -26,12 +26,11 @@ use Rattle.rules.proofs.Ranked.{ranked-later, sets-none, sets-later, sets-gathe
 use Rattle.rules.proofs.Stays.{Stays, Kept}
 use Rattle.rules.proofs.StaysCut.{Facts, facts, ranked-get, element-stays, boundary-stays}
 use Rattle.space.specs.Chains.{Indexed}
-use Rattle.space.proofs.Room.{sizeOf, listOf, size-word, list-word}
+use Rattle.space.proofs.Room.{listOf, size-bound, list-bound, size-word, list-word}
 use Rattle.space.proofs.Slices.{slices}
 use Rattle.gathered.specs.Sets.{Answers, Gathers, Sized, NothingYet, GatheredIn, OutputInRoom}
 use Rattle.gathered.specs.Cutting.{cutOf, Fit, Rule6Fit, Rule6Ready, Rule6Done}
 use Rattle.rules.specs.declared.Cutter.{Cutter}
-use Rattle.ends.proofs.Edges.{list-bound}
 use Rattle.cut.specs.Known.{Knows, HoldsKnown, ReplyInRoom, KeepReady, ReplyKept, outputAt, replyOf}
 use Rattle.cut.specs.Rounds.{AskReady, RoundReady, ElementAsked, Round, went, stopped, BoundaryCut}
 use Rattle.cut.specs.declared.known.Asked.{Asked}
@@ -43,11 +42,6 @@ good-of {t = t} F = sound-good desk t (F .sound)
 
 pub ready-words : {cs : List ℕ} {ps : List Float} {es ix ms : List ℕ} {r e : ℕ} {k : Cutter} → AskReady cs ps es ix ms r e k → length es ≡ 18432
 ready-words R = slices (R .fit .holds) .elements
-
--- an element of some rank is a polytope
-size-bound : (x : Element) (n : ℕ) → rankOf x ≡ suc n → sizeOf x ≡ length (boundaryOf x)
-size-bound (corner v) n h = absurd (let z : ⊥ = omega (arith, h) in z)
-size-bound (polytope r b h m) n q = refl
 
 -- ---- the rank is 2 or more
 

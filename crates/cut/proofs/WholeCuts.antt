@@ -1,5 +1,5 @@
 -- The whole cut: the hyperplane's step, then the root's; a refusal of either gives back the memory, since all that was done is to append.
-use Prim.Native.Nat.{ℕ, _*_, _≤_, _<_}
+use Prim.Native.Nat.{ℕ, _*_, _<_}
 use mathlib.Core.Path.{_≡_, sym, ap, ap₂, _∙_, subst}
 use mathlib.Core.Bool.{Bool}
 use mathlib.Core.List.{List}

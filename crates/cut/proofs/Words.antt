@@ -20,10 +20,6 @@ use Rattle.cut.specs.declared.known.Asked.the-variants as asked
 
 -- ---- a word and its element
 
-pub word-room : (x : ElementOrNone) (e : ElementId) → x ≡ Some e → InRoom x → e .0 < 512
-word-room None e q h = let z : _≡_ {A = ℕ} 0 1 = cc in absurd (omega arith)
-word-room (Some d) e q h = let z : d ≡ e = cc in let y = ap (λ (f : ElementId). f .0) z in omega (arith, h, y)
-
 pub word-none : (x : ElementOrNone) → x ≡ None → 1 ≡ wordOf x
 word-none x q = ap wordOf (sym q)
 

@@ -14,7 +14,7 @@ use Rattle.rules.specs.Lists.{all}
 use Rattle.rules.specs.Table.{Table, elementCount, rank}
 use Rattle.rules.specs.Questions.{no-answer, answer, isBelow, commonWithRank, someOr, greatestFrom, greatestCommon}
 use Rattle.rules.proofs.Borders.{at-each}
-use Rattle.rules.proofs.Laws.{eq-test, unlike-eq, and-left, and-right, and-when, eqb-self, le-test, not-le, if-true, if-false}
+use Rattle.rules.proofs.Laws.{eq-test, unlike-eq, and-left, and-right, and-swap, and-when, eqb-self, le-test, not-le, if-true, if-false}
 use Rattle.soundness.proofs.ReadBack.{and-assoc, and-one}
 use Rattle.elements.specs.Marks.{bit, isMarked, markedNumbers, NoneMarked, Both}
 use Rattle.elements.specs.Below.{Lent, Used, Below}
@@ -127,12 +127,6 @@ narrowing-end es roots i ws h n = record {
 first-fails : (p : ℕ → Bool) (xs : List ℕ) → 0 < length xs → p (getD xs 0 0) ≡ false → all p xs ≡ false
 first-fails p [] h e = absurd (not-suc-le-zero h)
 first-fails p (x ∷ xs) h e = ap (λ (b : Bool). b && all p xs) e
-
-and-swap : (a b : Bool) → (a && b) ≡ (b && a)
-and-swap true true = refl
-and-swap true false = refl
-and-swap false true = refl
-and-swap false false = refl
 
 module _ (es : List ℕ) (t : Table) (roots : List ℕ) (lent : Lent es t) (u : all (λ e. ltb e (elementCount t)) roots ≡ true) (some : 0 < length roots) where
   abbrev shared : ℕ → Bool

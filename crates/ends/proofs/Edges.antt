@@ -1,6 +1,6 @@
 -- Rule 4: the two numbers of an edge's row are its ends, and each call is at a table that goes on from the one before.
-use Prim.Native.Nat.{ℕ, suc, _+_, _*_, _≤_, _<_}
-use mathlib.Core.Path.{_≡_, refl, sym, ap, ap₂, _∙_, subst}
+use Prim.Native.Nat.{ℕ, _+_, _*_, _≤_, _<_}
+use mathlib.Core.Path.{_≡_, sym, ap, ap₂, _∙_, subst}
 use mathlib.Core.List.{List, [], _∷_}
 use native.Mathlib.Nat.{le-trans, le-of-eq}
 use native.Mathlib.Omega.{arith}
@@ -10,7 +10,7 @@ use lib.Ieee.{Float}
 use Rattle.rules.specs.Limits.{desk}
 use Rattle.rules.specs.Lists.{pad}
 use Rattle.rules.specs.Floats.{plusZero, sideOf, edgeTest, crossingPoint}
-use Rattle.rules.specs.Table.{Element, corner, polytope, Table, rankOf, boundaryOf, rank, boundary, element, pointAt}
+use Rattle.rules.specs.Table.{Element, Table, rankOf, rank, boundary, element, pointAt}
 use Rattle.rules.specs.Held.{Extends, Holds, Came, went, stopped, Sets, Ranked}
 use Rattle.rules.specs.Cut.{Outcome, done, next, give, Cutting, Gathered, cornerAnswer, nothingYet, addVertex, crossEdge, cutEnds, cutEdge, cutElement, rule6}
 use Rattle.rules.specs.declared.Side.{Side}
@@ -28,12 +28,11 @@ use Rattle.rules.proofs.Stays.{Kept, Stays}
 use Rattle.rules.proofs.StaysCut.{Facts, facts, ranked-get, crossing-sound, cross-stays}
 use Rattle.hypermath.specs.Answers.{distanceTo}
 use Rattle.space.specs.Found.{placedAt}
-use Rattle.space.specs.Chains.{Indexed}
 use Rattle.space.specs.Ready.{VertexReady}
 use Rattle.space.specs.Shared.{VertexAdded}
 use Rattle.space.specs.declared.rows.Placed.{Placed}
 use Rattle.space.specs.declared.rows.Placed.the-variants as placed
-use Rattle.space.proofs.Room.{listOf, list-word}
+use Rattle.space.proofs.Room.{listOf, list-bound, list-word}
 use Rattle.space.proofs.VertexMemo.{dimension-is}
 use Rattle.space.proofs.Slices.{slices}
 use Rattle.gathered.specs.Sets.{Answers, answersIn, Gathers, Sized, NothingYet, OutputInRoom, GatheredIn}
@@ -201,10 +200,6 @@ module _ {cs : List ℕ} {ps : List Float} {es : List ℕ} {e : ℕ} {k : Cutter
       }
 
 -- ---- what is read of an edge
-
-pub list-bound : (y : Element) (n : ℕ) → rankOf y ≡ suc n → listOf y ≡ boundaryOf y
-list-bound (corner v) n q = absurd (let z : ⊥ = omega (arith, q) in z)
-list-bound (polytope r b h m) n q = refl
 
 module _ {cs : List ℕ} {ps hs : List Float} {es : List ℕ} {e : ℕ} {k : Cutter} {t : Table} (F : Fit cs ps hs es 1 e k t) where
   own : Facts t 0 (element t e)

@@ -22,7 +22,6 @@ use Rattle.rules.proofs.Good.{Good, all-below, sound-at, whole}
 use Rattle.rules.proofs.Laws.{le-test, eq-test, or-case}
 use Rattle.rules.proofs.Ranked.{set-under}
 use Rattle.rules.proofs.StaysCut.{Owner, facts}
-use Rattle.space.specs.Chains.{Indexed}
 use Rattle.space.specs.Closed.{Low, LowEnds, EndsLow, EachEdge, Edges, Untwinned}
 use Rattle.space.proofs.Room.{listOf, list-word}
 use Rattle.gathered.specs.Sets.{sizeIn, numbersIn, InRoom}

@@ -2,7 +2,7 @@
 -- A side that is the element's own boundary needs no call: the step gives the element itself.
 use Prim.Native.Nat.{ℕ, _+_, _*_, _≤_, _<_}
 use mathlib.Core.Path.{_≡_, refl, sym, ap, _∙_, subst}
-use mathlib.Core.Bool.{Bool, true, false, not, _&&_, cond}
+use mathlib.Core.Bool.{Bool, true, false, not, _&&_}
 use mathlib.Core.List.{List}
 use native.Mathlib.Nat.{le-trans}
 use native.Mathlib.Omega.{arith}
@@ -21,7 +21,7 @@ use Rattle.rules.specs.declared.ElementOrNone.{ElementOrNone}
 use Rattle.rules.specs.declared.ElementOrNone.the-variants.{None}
 use Rattle.rules.proofs.Good.{sound-good}
 use Rattle.rules.proofs.Growing.{all-get}
-use Rattle.rules.proofs.Laws.{le-test, and-left, and-right}
+use Rattle.rules.proofs.Laws.{le-test, and-left, and-right, mark-back}
 use Rattle.rules.proofs.Missed.{own-polytope}
 use Rattle.rules.proofs.Ranked.{set-including}
 use Rattle.rules.proofs.RoundTrip.{plane-back}
@@ -37,10 +37,6 @@ use Rattle.space.proofs.Slices.{slices}
 use Rattle.gathered.specs.Sets.{sizeIn, numbersIn, IncludeReady, Included}
 use Rattle.gathered.specs.Cutting.{RowReadable, OwnBoundary, SideFit, SideReady, SideMade}
 use Rattle.gathered.proofs.Fitting.{some-fits, low-of, edges-of, ends-low, rank-low}
-
-marked : (b : Bool) → eqb (cond b 1 0) 1 ≡ b
-marked true = refl
-marked false = refl
 
 -- a row that fits names its hyperplane, or none
 plane-named : (z : Element) → fitting desk z ≡ true → planeNamed (planeNumber (planeOf z)) ≡ planeOf z
@@ -114,7 +110,7 @@ module _ {cs es : List ℕ} {r e : ℕ} {set : List ℕ} {x : ElementOrNone} whe
     own-mark : (mark : Bool) → mark ≡ eqb (getD es (e * 36 + 1) 0) 1 → mark ≡ isPrimordial (element t e)
     own-mark mark m =
         m ∙ ap (λ (l : List ℕ). eqb (getD l (e * 36 + 1) 0) 1) (F .holds .elements) ∙ ap (λ (n : ℕ). eqb n 1) (mark-word desk t (F .holds .fits) e (F .used))
-        ∙ marked (isPrimordial (element t e))
+        ∙ mark-back (isPrimordial (element t e))
 
     side-edges : (b : List ℕ) → b ≡ including x (numbersIn set) → r ≡ 2 → Edges t b
     side-edges b q two =

@@ -19,7 +19,7 @@ use Rattle.rules.specs.Sound.{namesNone, soundPoint, sound, soundPlane, 
 use Rattle.rules.specs.Memory.{elementWidth, elementRow, planeNumber, planeNamed, readElement, planeRow, planeWidth, readPlane, decode, encode, rightSize, Memory, sameMemory, soundMemory}
 use Rattle.rules.specs.Held.{fitting}
 use Rattle.rules.proofs.Good.{whole, Good, sound-good}
-use Rattle.rules.proofs.Laws.{le-test, and-right, and-left, not-eq, eq-test, and-true, test-eq, eqb-self}
+use Rattle.rules.proofs.Laws.{le-test, and-right, and-left, not-eq, eq-test, and-true, test-eq, eqb-self, mark-back}
 use Rattle.rules.proofs.Rows.{length-pad, read-rows, rows-fill}
 use Rattle.rules.proofs.Selves.{alike-self, bits-self, alike-eq, same-floats}
 
@@ -49,14 +49,10 @@ module _ (L : Limits) (U : Readable L) where
       ap (λ (c : Bool). if c then corner (getD (pad 0 (elementWidth L) (elementRow (polytope (suc r) b h m))) 4 0)
       else polytope (suc r) (take (length b) (b ++ replicate (elementWidth L - suc (suc (suc (suc (length b))))) 0)) (planeNamed (planeNumber h)) (eqb (cond m 1 0) 1)) (not-eq (suc r) 0 (λ q. suc-ne r q))
       ∙ ap₂ (λ (c : List ℕ) (x : Option ℕ). polytope (suc r) c x (eqb (cond m 1 0) 1)) (take-append-seam b _) (plane-back h (and-right (leb 1 (suc r) && leb (length b) (L .boundary)) _ k))
-      ∙ ap (polytope (suc r) b h) (mark m)
+      ∙ ap (polytope (suc r) b h) (mark-back m)
     where
       suc-ne : (n : ℕ) → suc n ≡ zero → ⊥
       suc-ne n q = let z : ⊥ = omega (arith, q) in z
-
-      mark : (c : Bool) → eqb (cond c 1 0) 1 ≡ c
-      mark true = refl
-      mark false = refl
 
   pub point-long : (d : ℕ) → d ≤ L .dimensions → (p : List Float) → soundPoint d p ≡ true → length (pad plusZero (L .dimensions) p) ≡ L .dimensions
   unfolding soundPoint

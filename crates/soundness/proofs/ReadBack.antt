@@ -22,15 +22,6 @@ pub and-zero : (a : Bool) → (a && false) ≡ false
 and-zero true = refl
 and-zero false = refl
 
-pub and-swap : (a b : Bool) → (a && b) ≡ (b && a)
-and-swap true b = sym (and-one b)
-and-swap false b = sym (and-zero b)
-
--- a part that matters only when what stands before it holds
-pub and-when : (a b c : Bool) → (a ≡ true → b ≡ c) → (a && b) ≡ (a && c)
-and-when true b c h = h refl
-and-when false b c h = refl
-
 -- a part from the front is no longer than the list, and no longer than it was asked to be
 module _ {A : Type 0} (n : ℕ) (l : List A) where
   pub take-short : length (take n l) ≤ length l

@@ -7,9 +7,9 @@ use native.Mathlib.Omega.{arith}
 use lib.Dec.{eqb, leb, lit≤}
 use lib.ListN.{length, getD, take, drop}
 use Rattle.rules.specs.Limits.{desk, noPlane}
-use Rattle.rules.proofs.Laws.{test-le, le-test, test-eq, not-eq}
+use Rattle.rules.proofs.Laws.{test-le, le-test, test-eq, not-eq, and-when}
 use Rattle.soundness.specs.Words.{headWords, cornerNamed, boundaryIn, boundarySound, polytopeWords, numbersFit, facetWords, rowSound}
-use Rattle.soundness.proofs.ReadBack.{and-one, and-when}
+use Rattle.soundness.proofs.ReadBack.{and-one}
 use Rattle.soundness.proofs.RowLoops.{row-word, head-corner, head-polytope, named-is}
 use Rattle.soundness.proofs.BoundaryLoops.{bound-is, boundary-edge, boundary-open, element-zero, element-more}
 use Rattle.soundness.proofs.OnePass.{row-is}

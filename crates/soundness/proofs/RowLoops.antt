@@ -14,9 +14,8 @@ use Rattle.rules.specs.Limits.{desk, noPlane}
 use Rattle.rules.specs.Lists.{all, rows, if_then_else_}
 use Rattle.rules.specs.Table.{primordials}
 use Rattle.rules.proofs.Indexed.{rows-on}
-use Rattle.rules.proofs.Laws.{test-le, test-eq, not-eq, eq-test, le-test, and-right}
+use Rattle.rules.proofs.Laws.{test-le, test-eq, not-eq, eq-test, le-test, and-right, and-when}
 use Rattle.soundness.specs.Words.{countsFit, blankFloats, blankWords, pointWords, pointsSound, recordWords, headWords, pastBlank, cornerNamed}
-use Rattle.soundness.proofs.ReadBack.{and-when}
 
 -- ---- counts
 

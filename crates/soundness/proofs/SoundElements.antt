@@ -16,12 +16,12 @@ use Rattle.rules.specs.Sound.{closed, soundBoundary, soundFacet, namesPlane, na
 use Rattle.rules.specs.Table.{rank, rankOf, Element, corner, polytope, boundary, boundaryOf, element, elementCount, sameElement, Table}
 use Rattle.rules.proofs.Apart.{Apart, distinct-apart, Plain, plain-facet, plain, plain-once}
 use Rattle.rules.proofs.Growing.{all-at}
-use Rattle.rules.proofs.Laws.{eq-test, and-left, and-right, not-eq, test-le, both-ways}
+use Rattle.rules.proofs.Laws.{eq-test, and-left, and-right, not-eq, test-le, both-ways, and-when}
 use Rattle.rules.proofs.FaceEdges.{of-all, two as two-entries}
 use Rattle.space.specs.Closed.{firstEnd, secondEnd, Untwinned, closedRaw}
 use Rattle.space.proofs.TwiceMet.{face-same}
 use Rattle.soundness.specs.Words.{boundaryIn, boundarySound, facetWords, elementSound, elementsSound}
-use Rattle.soundness.proofs.ReadBack.{rows-length, and-when}
+use Rattle.soundness.proofs.ReadBack.{rows-length}
 use borrow.Author.Tests.{ltb-true, le-ltb}
 
 -- ---- an entry of a table read from rows

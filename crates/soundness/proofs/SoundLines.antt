@@ -17,11 +17,11 @@ use Rattle.rules.specs.Lists.{rows, alike, pad, joined, all, if_then_else_, kee
 use Rattle.rules.specs.Memory.{planeWidth, planeRow, readPlane, readElement, planeNamed, planeNumber, elementWidth, elementRow}
 use Rattle.rules.specs.Sound.{soundPoint, soundPlane}
 use Rattle.rules.specs.Table.{corner, vertexOf, isCorner, Element, polytope, sameElement}
-use Rattle.rules.proofs.Laws.{test-eq, not-eq, eq-test, eqb-self, le-test, and-left, and-right, both-ways}
+use Rattle.rules.proofs.Laws.{test-eq, not-eq, eq-test, eqb-self, le-test, and-left, and-right, both-ways, and-swap}
 use Rattle.rules.proofs.Selves.{bits-self, eq-alike, alike-eq, element-self, same-element}
 use Rattle.soundness.specs.Words.{pointWords, blankFloats, blankWords, pointsSound, planeWords, planesSound, inOrder, recordWords, recordsSound}
 use Rattle.space.proofs.Laid.{length-padded}
-use Rattle.soundness.proofs.ReadBack.{take-short, laid-alike, all-and, all-same, rows-wide, and-swap, alike-front, map-map, all-map, alike-split, and-one, and-zero, alike-fill, and-assoc}
+use Rattle.soundness.proofs.ReadBack.{take-short, laid-alike, all-and, all-same, rows-wide, alike-front, map-map, all-map, alike-split, and-one, and-zero, alike-fill, and-assoc}
 use borrow.Author.Tests.{lt-leb, leb-false}
 
 -- the round trip of rows with a test of each

@@ -16,7 +16,7 @@ use Rattle.rules.specs.Limits.{Limits, Readable}
 use Rattle.rules.specs.Lists.{pad, all}
 use Rattle.rules.specs.Memory.{encode, elementWidth, planeWidth, planeRow, elementRow, planeNumber}
 use Rattle.rules.specs.Sound.{soundPoint, soundPlane}
-use Rattle.rules.specs.Table.{Table, element, elementCount, Plane, Element, corner, polytope, rank, rankOf, isPrimordial, planeOf}
+use Rattle.rules.specs.Table.{Table, element, elementCount, Plane, Element, corner, polytope, rank, rankOf, boundaryOf, isPrimordial, planeOf}
 use Rattle.rules.proofs.Good.{Good}
 use Rattle.rules.proofs.Growing.{all-snoc}
 use Rattle.rules.proofs.Laws.{le-test, and-right, and-left, and-true}
@@ -55,6 +55,15 @@ sizeOf (polytope r b h m) = length b
 abbrev pub listOf : Element → List ℕ
 listOf (corner v) = v ∷ []
 listOf (polytope r b h m) = b
+
+-- an element of some rank is a polytope
+pub size-bound : (x : Element) (n : ℕ) → rankOf x ≡ suc n → sizeOf x ≡ length (boundaryOf x)
+size-bound (corner v) n h = absurd (let z : ⊥ = omega (arith, h) in z)
+size-bound (polytope r b h m) n q = refl
+
+pub list-bound : (x : Element) (n : ℕ) → rankOf x ≡ suc n → listOf x ≡ boundaryOf x
+list-bound (corner v) n h = absurd (let z : ⊥ = omega (arith, h) in z)
+list-bound (polytope r b h m) n q = refl
 
 module _ (L : Limits) (t : Table) (F : Fits L t) where
   pub elements-size : length (elementsOf L t) ≡ L .elements * elementWidth L

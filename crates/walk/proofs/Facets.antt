@@ -1,7 +1,7 @@
 -- The reply about a primordial facet, test by test; the marks in the rows are the elements' own.
 use Prim.Native.Nat.{ℕ, suc, _+_, _-_, _*_, _≤_, _<_}
 use mathlib.Core.Path.{_≡_, refl, sym, ap, _∙_}
-use mathlib.Core.Bool.{Bool, true, false, _||_, cond}
+use mathlib.Core.Bool.{Bool, true, false, _||_}
 use mathlib.Core.List.{List, [], _∷_}
 use native.Mathlib.Omega.{arith}
 use lib.Dec.{eqb}
@@ -15,7 +15,7 @@ use Rattle.rules.specs.Held.{Holds, AllOf, Ranked, memoryOf}
 use Rattle.rules.specs.Questions.{no-answer, answer, primordialFacet}
 use Rattle.rules.specs.Replies.{facetAnswer, primordialFacetReply}
 use Rattle.rules.specs.declared.FacetReply.the-variants.{Refused, Has}
-use Rattle.rules.proofs.Laws.{if-true, if-false, test-eq, not-eq, le-test}
+use Rattle.rules.proofs.Laws.{if-true, if-false, test-eq, not-eq, le-test, mark-back}
 use Rattle.space.proofs.Room.{mark-word}
 use Rattle.walk.specs.Boundaries.{rowBoundary, BoundaryFits}
 use Rattle.walk.specs.Facets.{rowPrimordial}
@@ -46,12 +46,8 @@ marks-are : {cs : List ℕ} {ps hs : List Float} {es : List ℕ} {t : Table} (q 
     → any (rowPrimordial es) xs ≡ any (λ b. isPrimordial (element t b)) xs
 marks-are q H [] h = refl
 marks-are {es = es} {t} q H (x ∷ xs) h =
-    λ i. ((ap (λ (l : List ℕ). eqb (getD l (x * 36 + 1) 0) 1) (H .elements) ∙ ap (λ (n : ℕ). eqb n 1) (mark-word desk t (H .fits) x (h .0 .0)) ∙ back (isPrimordial (element t x))) i
+    λ i. ((ap (λ (l : List ℕ). eqb (getD l (x * 36 + 1) 0) 1) (H .elements) ∙ ap (λ (n : ℕ). eqb n 1) (mark-word desk t (H .fits) x (h .0 .0)) ∙ mark-back (isPrimordial (element t x))) i
     || marks-are q H xs (h .1) i)
-  where
-    back : (b : Bool) → eqb (cond b 1 0) 1 ≡ b
-    back true = refl
-    back false = refl
 
 module _ (root : ℕ) (cs : List ℕ) (ps hs : List Float) (es : List ℕ) where
   abbrev t : Table
