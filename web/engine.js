@@ -7,9 +7,9 @@ const CALLS = ["desk_is_sound", "desk_cube", "desk_cut", "desk_subelements_of", 
 
 export const fits = (n, bits) => Number.isInteger(n) && n >= 0 && n < 2 ** bits;
 
-// WebAssembly cuts a number to its place's width: root 65,544 would be asked as 8. What does not fit is asked as the place's
-// greatest number, which no table has, so that the refusal and its order are the engine's own.
-const narrow = (n, bits) => (fits(n, bits) ? n : 2 ** bits - 1);
+// WebAssembly makes any number one of 32 bits: root 8.5 would be asked as 8, and -4294967288 too. What is no such number is asked
+// as the greatest of them, which no table has, so that the refusal and its order are the engine's own.
+const whole = n => (fits(n, 32) ? n : 2 ** 32 - 1);
 
 // `room` is how many bytes will be lent: memory that grows later would take the views of what was lent before.
 export async function load(bytes, room) {
@@ -43,14 +43,14 @@ class Engine {
     }
 
     cube(lent, dimension, radius) {
-        return this.calls.desk_cube(...lent, narrow(dimension, 8), radius);
+        return this.calls.desk_cube(...lent, whole(dimension), radius);
     }
 
     // { number } when refused, { number: 0, flush: true }, or the three places, null for none
     cut(lent, { normal, distance, inside, outside, root }) {
         const [a = 0, b = 0, c = 0, d = 0] = normal;
         const sides = [inside ? 1 : 0, outside ? 1 : 0];
-        const word = BigInt.asUintN(64, this.calls.desk_cut(...lent, a, b, c, d, distance, ...sides, narrow(root, 16)));
+        const word = BigInt.asUintN(64, this.calls.desk_cut(...lent, a, b, c, d, distance, ...sides, whole(root)));
         const number = Number(word & 0xffn);
         if (number !== 0) return { number };
         if (word & 0x100n) return { number, flush: true };
@@ -69,15 +69,15 @@ class Engine {
     }
 
     subelements(lent, root) {
-        return this.listed("desk_subelements_of", lent, narrow(root, 16));
+        return this.listed("desk_subelements_of", lent, whole(root));
     }
 
     withRank(lent, root, rank) {
-        return this.listed("desk_subelements_with_rank", lent, narrow(root, 16), narrow(rank, 8));
+        return this.listed("desk_subelements_with_rank", lent, whole(root), whole(rank));
     }
 
     vertexSet(lent, root) {
-        return this.listed("desk_vertex_set", lent, narrow(root, 16));
+        return this.listed("desk_vertex_set", lent, whole(root));
     }
 
     // repeats say nothing new, and all numbers from 512 on are in use nowhere, so any list of roots has room
@@ -89,12 +89,12 @@ class Engine {
 
     // two vertex numbers an edge
     edgesInOrder(lent, root) {
-        return this.listed("desk_edges_in_order", lent, narrow(root, 16));
+        return this.listed("desk_edges_in_order", lent, whole(root));
     }
 
     // { number } when refused, else { number: 0, yes }
     hasPrimordialFacet(lent, root) {
-        const reply = this.calls.desk_has_primordial_facet(...lent, narrow(root, 16));
+        const reply = this.calls.desk_has_primordial_facet(...lent, whole(root));
         return reply & 0xff ? { number: reply & 0xff } : { number: 0, yes: (reply & 0x100) !== 0 };
     }
 }

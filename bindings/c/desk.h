@@ -6,6 +6,10 @@
    A cut does not make pieces: it adds entries to a table, and a piece that the plane misses is its old entry. Elements,
    vertices and hyperplanes are three lists, each numbered from 0: a vertex number is no element number.
 
+   Numbers are handed over in 32 bits, so that no int is cut to another number: dimension 258 is refused with 1, roots 65,544 and -1
+   with 4, and a rank that nobody has gives an empty list. A longer type is the host's to test. Words of tables and lists have 16
+   bits, also the list of roots.
+
    Lent: each slice is a pointer and how many entries it has, which is not how many bytes. Slices lie apart from one another.
    Stack: a call takes less than 16 KB of it, and nothing of the heap. A table has 47,624 bytes, so make it static or allocate it.
    Threads: nothing is held between calls. Tables that differ may be used at the same time, and one by many calls that only read.
@@ -97,27 +101,27 @@ uint32_t desk_is_sound(DESK_READS);
 
 /* 0 to 3: a cube of 1 to 4 dimensions and radius 1 to 65,536, in place of all that the memory had. The cube is the last element:
    2, 8, 26 or 80. */
-uint32_t desk_cube(DESK_WRITES, uint8_t ndim, double radius);
+uint32_t desk_cube(DESK_WRITES, uint32_t ndim, double radius);
 
 /* Bits 0 to 7 the reply's number; bit 8 set for flush; 16 to 31 inside, 32 to 47 outside, 48 to 63 intersection, DESK_NONE
-   for none; refused or flush, the three are 0. inside and outside: 0 removes that side, any other byte keeps it. A removed side
+   for none; refused or flush, the three are 0. inside and outside: 0 removes that side, any other number keeps it. A removed side
    is none, and the intersection is there either way. Two exceptions give a side also when it is removed: a root that is a vertex
    element, and an infinite distance. */
-uint64_t desk_cut(DESK_WRITES, double n0, double n1, double n2, double n3, double distance, uint8_t inside,
-                  uint8_t outside, uint16_t root);
+uint64_t desk_cut(DESK_WRITES, double n0, double n1, double n2, double n3, double distance, uint32_t inside,
+                  uint32_t outside, uint32_t root);
 
 /* Bits 0 to 7 the number, above them the size of the list. The list fills the front of its room. */
-uint32_t desk_subelements_of(DESK_READS, uint16_t root, uint16_t *list, size_t list_len);
-uint32_t desk_subelements_with_rank(DESK_READS, uint16_t root, uint8_t rank, uint16_t *list, size_t list_len);
-uint32_t desk_vertex_set(DESK_READS, uint16_t root, uint16_t *list, size_t list_len);
+uint32_t desk_subelements_of(DESK_READS, uint32_t root, uint16_t *list, size_t list_len);
+uint32_t desk_subelements_with_rank(DESK_READS, uint32_t root, uint32_t rank, uint16_t *list, size_t list_len);
+uint32_t desk_vertex_set(DESK_READS, uint32_t root, uint16_t *list, size_t list_len);
 uint32_t desk_greatest_common_subelements(DESK_READS, const uint16_t *roots, size_t roots_len, uint16_t *list,
                                           size_t list_len);
 
 /* The same; two vertex numbers an edge, and the size in numbers. */
-uint32_t desk_edges_in_order(DESK_READS, uint16_t root, uint16_t *list, size_t list_len);
+uint32_t desk_edges_in_order(DESK_READS, uint32_t root, uint16_t *list, size_t list_len);
 
 /* Bits 0 to 7 the number, bit 8 the answer. */
-uint32_t desk_has_primordial_facet(DESK_READS, uint16_t root);
+uint32_t desk_has_primordial_facet(DESK_READS, uint32_t root);
 
 /* ---- Readers of a reply */
 
@@ -173,26 +177,26 @@ struct desk_hyperplane {
 
 static inline uint32_t desk_table_is_sound(const struct desk_table *table) { return desk_is_sound(DESK_LENT(table)); }
 
-static inline uint32_t desk_table_cube(struct desk_table *table, uint8_t ndim, double radius) {
+static inline uint32_t desk_table_cube(struct desk_table *table, uint32_t ndim, double radius) {
     return desk_cube(DESK_LENT(table), ndim, radius);
 }
 
-static inline uint64_t desk_table_cut(struct desk_table *table, struct desk_hyperplane divider, unsigned kept, uint16_t root) {
+static inline uint64_t desk_table_cut(struct desk_table *table, struct desk_hyperplane divider, uint32_t kept, uint32_t root) {
     const double *n = divider.normal;
     return desk_cut(DESK_LENT(table), n[0], n[1], n[2], n[3], divider.distance, kept & DESK_KEEP_INSIDE,
                     kept & DESK_KEEP_OUTSIDE, root);
 }
 
-static inline uint32_t desk_table_subelements_of(const struct desk_table *table, uint16_t root, uint16_t *list, size_t list_len) {
+static inline uint32_t desk_table_subelements_of(const struct desk_table *table, uint32_t root, uint16_t *list, size_t list_len) {
     return desk_subelements_of(DESK_LENT(table), root, list, list_len);
 }
 
-static inline uint32_t desk_table_subelements_with_rank(const struct desk_table *table, uint16_t root, uint8_t rank, uint16_t *list,
+static inline uint32_t desk_table_subelements_with_rank(const struct desk_table *table, uint32_t root, uint32_t rank, uint16_t *list,
                                                         size_t list_len) {
     return desk_subelements_with_rank(DESK_LENT(table), root, rank, list, list_len);
 }
 
-static inline uint32_t desk_table_vertex_set(const struct desk_table *table, uint16_t root, uint16_t *list, size_t list_len) {
+static inline uint32_t desk_table_vertex_set(const struct desk_table *table, uint32_t root, uint16_t *list, size_t list_len) {
     return desk_vertex_set(DESK_LENT(table), root, list, list_len);
 }
 
@@ -201,11 +205,11 @@ static inline uint32_t desk_table_greatest_common_subelements(const struct desk_
     return desk_greatest_common_subelements(DESK_LENT(table), roots, roots_len, list, list_len);
 }
 
-static inline uint32_t desk_table_edges_in_order(const struct desk_table *table, uint16_t root, uint16_t *list, size_t list_len) {
+static inline uint32_t desk_table_edges_in_order(const struct desk_table *table, uint32_t root, uint16_t *list, size_t list_len) {
     return desk_edges_in_order(DESK_LENT(table), root, list, list_len);
 }
 
-static inline uint32_t desk_table_has_primordial_facet(const struct desk_table *table, uint16_t root) {
+static inline uint32_t desk_table_has_primordial_facet(const struct desk_table *table, uint32_t root) {
     return desk_has_primordial_facet(DESK_LENT(table), root);
 }
 
@@ -215,17 +219,17 @@ static inline uint16_t desk_table_last_element(const struct desk_table *table) {
 }
 
 /* The row of an element, of which DESK_ROW_RANK and the others name the words. NULL where the number is not in use. */
-static inline const uint16_t *desk_table_row_of(const struct desk_table *table, uint16_t element) {
+static inline const uint16_t *desk_table_row_of(const struct desk_table *table, uint32_t element) {
     return element < table->counts[DESK_COUNT_ELEMENTS] ? table->elements + DESK_ELEMENT_WIDTH * element : NULL;
 }
 
 /* The coordinates of a vertex, which is no element number. NULL where the number is not in use. */
-static inline const double *desk_table_coordinates_of(const struct desk_table *table, uint16_t vertex) {
+static inline const double *desk_table_coordinates_of(const struct desk_table *table, uint32_t vertex) {
     return vertex < table->counts[DESK_COUNT_VERTICES] ? table->points + DESK_AXES * vertex : NULL;
 }
 
 /* The components and the distance of a hyperplane. NULL where the number is not in use. */
-static inline const double *desk_table_hyperplane_at(const struct desk_table *table, uint16_t hyperplane) {
+static inline const double *desk_table_hyperplane_at(const struct desk_table *table, uint32_t hyperplane) {
     return hyperplane < table->counts[DESK_COUNT_HYPERPLANES] ? table->planes + DESK_PLANE_WIDTH * hyperplane : NULL;
 }
 

@@ -7,12 +7,12 @@ use crate::random::Random;
 
 pub fn cut(r: &mut Random, table: Option<&Table>) -> Call {
     let divider = dividers::divider(r, table);
-    let [inside, outside] = [0; 2].map(|_| r.pick(&[0, 0, 1, 1, 2, 255]));
+    let [inside, outside] = [0; 2].map(|_| r.pick(&[0, 0, 1, 1, 2, 256]));
     Call::Cut { divider, inside, outside, root: cut_root(r, table) }
 }
 
 pub fn cube(r: &mut Random) -> Call {
-    let dimension = if r.one_in(4) { r.word() as u8 } else { r.from_to(0, 5) as u8 };
+    let dimension = if r.one_in(4) { any(r.word(), 5) } else { r.from_to(0, 5) as u32 };
     let beside = [1.0 - f64::EPSILON, 1.0, 1.0 + f64::EPSILON, 65_536.0, 65_536.0 * (1.0 + f64::EPSILON)];
     let radius = match r.below(4) {
         0 => r.pick(&beside),
@@ -36,31 +36,42 @@ pub fn questions(r: &mut Random, table: Option<&Table>) -> [Call; 7] {
     ]
 }
 
-fn rank(r: &mut Random) -> u8 {
+fn rank(r: &mut Random) -> u32 {
     if r.one_in(8) {
-        r.word() as u8
+        any(r.word(), 5)
     } else {
-        r.below(5) as u8
+        r.below(5) as u32
     }
 }
 
-/// Any number: mostly one in use, else the first that is not, the room's end, or any word.
-fn root(r: &mut Random, table: Option<&Table>) -> u16 {
+/// Any number, of 8, 16 or 32 bits; or one that fewer bits would cut to a number below the bound.
+fn any(word: u64, bound: u32) -> u32 {
+    let bits = (word >> 32) as u32;
+    match word % 4 {
+        0 => bits % 0x100,
+        1 => bits % 0x1_0000,
+        2 => bits,
+        _ => bits % bound.max(1) + [0x100, 0x1_0000, 0x2_0000, 0x8000_0000][(word >> 2) as usize % 4],
+    }
+}
+
+/// Any number: mostly one in use, else the first that is not, the room's end, or any other.
+fn root(r: &mut Random, table: Option<&Table>) -> u32 {
     let in_use = table.map_or(9, |table| table.elements.len());
     if in_use == 0 || r.one_in(10) {
-        let word = r.word() as u16;
-        return r.pick(&[in_use as u16, 511, 512, 0xffff, word]);
+        let other = any(r.word(), in_use as u32);
+        return r.pick(&[in_use as u32, 511, 512, 0xffff, other]);
     }
-    r.below(in_use) as u16
+    r.below(in_use) as u32
 }
 
 /// Mostly of that rank, if there is one.
-fn root_of_rank(r: &mut Random, table: Option<&Table>, rank: u16) -> u16 {
+fn root_of_rank(r: &mut Random, table: Option<&Table>, rank: u16) -> u32 {
     let of_rank = table.map_or(vec![], |table| numbers_of_rank(table, rank));
     if of_rank.is_empty() || r.one_in(4) {
         root(r, table)
     } else {
-        r.pick(&of_rank)
+        r.pick(&of_rank).into()
     }
 }
 
@@ -69,24 +80,24 @@ fn numbers_of_rank(table: &Table, rank: u16) -> Vec<u16> {
 }
 
 /// Mostly one of the highest rank, or a late one.
-fn cut_root(r: &mut Random, table: Option<&Table>) -> u16 {
+fn cut_root(r: &mut Random, table: Option<&Table>) -> u32 {
     let highest = table.map_or(0, |table| table.elements.iter().map(|e| e.rank()).max().unwrap_or(0));
     match table.map(|table| table.elements.len()) {
-        Some(in_use) if in_use > 0 && r.one_in(4) => (in_use - 1 - r.below(in_use.min(4))) as u16,
+        Some(in_use) if in_use > 0 && r.one_in(4) => (in_use - 1 - r.below(in_use.min(4))) as u32,
         _ => root_of_rank(r, table, highest),
     }
 }
 
-/// Some of one rank, with repeats, now and then with any root among them.
+/// Some of one rank, with repeats, now and then with any root among them: a list has words of 16 bits.
 fn roots(r: &mut Random, table: Option<&Table>) -> Vec<u16> {
     let rank = r.below(5) as u16;
     let count = if r.one_in(50) { 600 } else { r.below(5) };
     let mut roots: Vec<u16> = match table.map(|table| numbers_of_rank(table, rank)) {
         Some(of_rank) if !of_rank.is_empty() => (0..count).map(|_| r.pick(&of_rank)).collect(),
-        _ => (0..count).map(|_| root(r, table)).collect(),
+        _ => (0..count).map(|_| root(r, table) as u16).collect(),
     };
     if r.one_in(6) {
-        roots.push(root(r, table));
+        roots.push(root(r, table) as u16);
     }
     roots
 }

@@ -4,7 +4,7 @@
 //!
 //! - a call: the exported name's length (1) and the name; memory; how many arguments (1), and each; reply (8); memory; words
 //! - memory: 0 where it is the memory before it, else 1 and four slices, each its length (4) and its entries
-//! - an argument: `n` and a number (2), `f` and a float (8), or `w` and words
+//! - an argument: `n` and a number (4), `f` and a float (8), or `w` and words
 //! - words: their length (4) and the words (2 each); those at the end are the list room as it was left, or none
 
 use crate::call::Call;
@@ -61,14 +61,14 @@ impl<W: Write> Calls<W> {
             Call::IsSound => self.out.write_all(&[0]),
             Call::Cube { dimension, radius } => {
                 self.out.write_all(&[2])?;
-                self.number((*dimension).into())?;
+                self.number(*dimension)?;
                 self.float(*radius)
             }
             Call::Cut { divider, inside, outside, root } => {
                 self.out.write_all(&[8])?;
                 divider.normal.iter().try_for_each(|x| self.float(*x))?;
                 self.float(divider.distance)?;
-                [(*inside).into(), (*outside).into(), *root].into_iter().try_for_each(|n| self.number(n))
+                [*inside, *outside, *root].into_iter().try_for_each(|n| self.number(n))
             }
             Call::SubElements { root } | Call::VertexSet { root } | Call::EdgesInOrder { root } => {
                 self.out.write_all(&[2])?;
@@ -78,7 +78,7 @@ impl<W: Write> Calls<W> {
             Call::WithRank { root, rank } => {
                 self.out.write_all(&[3])?;
                 self.number(*root)?;
-                self.number((*rank).into())?;
+                self.number(*rank)?;
                 self.slice(room)
             }
             Call::GreatestCommon { roots } => {
@@ -93,7 +93,7 @@ impl<W: Write> Calls<W> {
         }
     }
 
-    fn number(&mut self, n: u16) -> Result<()> {
+    fn number(&mut self, n: u32) -> Result<()> {
         self.out.write_all(b"n")?;
         self.out.write_all(&n.to_le_bytes())
     }

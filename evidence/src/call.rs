@@ -4,19 +4,19 @@ use crate::model::cut::{Answer, Kept};
 use crate::model::floats::Hyperplane;
 use crate::model::memory::{Lent, Memory};
 use crate::model::{cube, cut, questions, Refusal};
-use spoonvelvet::{raw, ElementId};
+use spoonvelvet::raw;
 
 #[derive(Clone, Debug)]
 pub enum Call {
     IsSound,
-    Cube { dimension: u8, radius: f64 },
-    Cut { divider: Hyperplane, inside: u8, outside: u8, root: u16 },
-    SubElements { root: u16 },
-    WithRank { root: u16, rank: u8 },
-    VertexSet { root: u16 },
+    Cube { dimension: u32, radius: f64 },
+    Cut { divider: Hyperplane, inside: u32, outside: u32, root: u32 },
+    SubElements { root: u32 },
+    WithRank { root: u32, rank: u32 },
+    VertexSet { root: u32 },
     GreatestCommon { roots: Vec<u16> },
-    EdgesInOrder { root: u16 },
-    PrimordialFacet { root: u16 },
+    EdgesInOrder { root: u32 },
+    PrimordialFacet { root: u32 },
 }
 
 impl Call {
@@ -45,16 +45,14 @@ impl Call {
             Call::Cube { dimension, radius } => raw::cube(c, p, h, e, *dimension, *radius).into(),
             Call::Cut { divider, inside, outside, root } => {
                 let divider = spoonvelvet::Hyperplane { normal: divider.normal, distance: divider.distance };
-                raw::cut(c, p, h, e, divider, *inside, *outside, ElementId(*root))
+                raw::cut(c, p, h, e, divider, *inside, *outside, *root)
             }
-            Call::SubElements { root } => raw::subelements_of(c, p, h, e, ElementId(*root), room).into(),
-            Call::WithRank { root, rank } => {
-                raw::subelements_with_rank(c, p, h, e, ElementId(*root), *rank, room).into()
-            }
-            Call::VertexSet { root } => raw::vertex_set(c, p, h, e, ElementId(*root), room).into(),
+            Call::SubElements { root } => raw::subelements_of(c, p, h, e, *root, room).into(),
+            Call::WithRank { root, rank } => raw::subelements_with_rank(c, p, h, e, *root, *rank, room).into(),
+            Call::VertexSet { root } => raw::vertex_set(c, p, h, e, *root, room).into(),
             Call::GreatestCommon { roots } => raw::greatest_common_subelements(c, p, h, e, roots, room).into(),
-            Call::EdgesInOrder { root } => raw::edges_in_order(c, p, h, e, ElementId(*root), room).into(),
-            Call::PrimordialFacet { root } => raw::has_primordial_facet(c, p, h, e, ElementId(*root)).into(),
+            Call::EdgesInOrder { root } => raw::edges_in_order(c, p, h, e, *root, room).into(),
+            Call::PrimordialFacet { root } => raw::has_primordial_facet(c, p, h, e, *root).into(),
         }
     }
 
@@ -119,7 +117,7 @@ impl Call {
     }
 }
 
-fn kept(inside: u8, outside: u8) -> Kept {
+fn kept(inside: u32, outside: u32) -> Kept {
     Kept { inside: inside != 0, outside: outside != 0 }
 }
 

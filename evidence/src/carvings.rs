@@ -34,7 +34,7 @@ impl<'a> Trial<'a> {
     pub fn new(before: &'a Memory, divider: Hyperplane, root: u16) -> Self {
         let cut = |inside, outside, memory: &Memory| {
             let mut memory = memory.clone();
-            let word = Call::Cut { divider, inside, outside, root }.by_engine(&mut memory, &mut []);
+            let word = Call::Cut { divider, inside, outside, root: root.into() }.by_engine(&mut memory, &mut []);
             Left { reply: cut_reply(word), memory }
         };
         let first = cut(1, 0, before);

@@ -2,7 +2,7 @@
 
 use crate::model::memory::{Memory, ELEMENT_WIDTH};
 use spoonvelvet::raw::{self, NONE};
-use spoonvelvet::{ElementId, Hyperplane};
+use spoonvelvet::Hyperplane;
 
 /// The rows after these bytes, up to the first bad record.
 pub fn after(bytes: &[u8]) -> Vec<String> {
@@ -19,7 +19,7 @@ fn record(bytes: &[u8], memory: &mut Memory, stands: &mut bool) -> Option<usize>
     match bytes.get(..2)? {
         b"CU" => {
             let bytes = bytes.get(..11)?;
-            *stands |= raw::cube(c, p, h, e, bytes[2], floats(&bytes[3..])[0]) == 0;
+            *stands |= raw::cube(c, p, h, e, bytes[2].into(), floats(&bytes[3..])[0]) == 0;
             Some(bytes.len())
         }
         b"CT" if *stands => {
@@ -29,8 +29,8 @@ fn record(bytes: &[u8], memory: &mut Memory, stands: &mut bool) -> Option<usize>
             let distance = components.pop()?;
             components.resize(4, 0.0);
             let divider = Hyperplane { normal: components.try_into().ok()?, distance };
-            let root = ElementId(u16::from_le_bytes([bytes[3], bytes[4]]));
-            raw::cut(c, p, h, e, divider, bytes[2] & 1, bytes[2] & 2, root);
+            let root = u16::from_le_bytes([bytes[3], bytes[4]]).into();
+            raw::cut(c, p, h, e, divider, (bytes[2] & 1).into(), (bytes[2] & 2).into(), root);
             Some(length)
         }
         _ => None,

@@ -33,7 +33,7 @@ fn record(bytes: &[u8], table: &mut Option<Table>) -> Option<(String, usize)> {
 
 /// A refused cube keeps the table before it.
 fn cube(bytes: &[u8], table: &mut Option<Table>) -> Option<(String, usize)> {
-    let line = match Table::with_primordial_cube_radius(bytes[2], float(&bytes[3..])) {
+    let line = match Table::with_primordial_cube_radius(bytes[2].into(), float(&bytes[3..])) {
         Ok(cube) => format!("cube {}", counts(table.insert(cube))),
         Err(refused) => refused_line(refused),
     };
@@ -41,7 +41,7 @@ fn cube(bytes: &[u8], table: &mut Option<Table>) -> Option<(String, usize)> {
 }
 
 fn cut(bytes: &[u8], table: &mut Table) -> Option<(String, usize)> {
-    let dimensions = usize::from(table.dimensions());
+    let dimensions = table.dimensions() as usize;
     let length = 5 + 8 * (dimensions + 1);
     let bytes = bytes.get(..length).filter(|bytes| bytes[2] <= 3)?;
     let mut normal = [0.0; 4];

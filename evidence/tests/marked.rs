@@ -11,7 +11,7 @@ use evidence::model::questions::{edges_in_order, greatest_common_subelements};
 const NEITHER: Kept = Kept { inside: false, outside: false };
 
 /// The answer, and the counts of elements, vertices and hyperplanes after it.
-fn counted(mut lent: Lent, divider: Hyperplane, kept: Kept, root: u16) -> (Answer, Vec<u16>) {
+fn counted(mut lent: Lent, divider: Hyperplane, kept: Kept, root: u32) -> (Answer, Vec<u16>) {
     let answer = cut(&mut lent, divider, kept, root).unwrap();
     (answer, lent.memory().counts[1..].to_vec())
 }

@@ -124,7 +124,7 @@ fn body(dimension: usize, points: &[Point], triangles: &[[u16; 3]]) -> Table {
 /// How a cut of the body is replied to, whichever sides are kept, for the face of the cut is worked out in any case.
 fn cut_at_zero(table: &Table) -> [(u64, bool); 4] {
     assert_eq!(is_sound(table), 0);
-    let root = table.elements.len() as u16 - 1;
+    let root = table.elements.len() as u32 - 1;
     [0, 1, 2, 3].map(|kept| call(&Call::Cut { divider: AT_ZERO, inside: kept & 1, outside: kept & 2, root }, table))
 }
 
@@ -156,7 +156,7 @@ fn a_cut_to_a_pair_of_edges_beside_a_triangle_is_refused() {
     let mut table = corners(2, &points.map(|[x, y]| [x, y, 0.0, 0.0]));
     let ends = [[0, 1, 0], [1, 2, 0], [2, 3, 0], [3, 4, 0], [4, 5, 1], [0, 5, 0]];
     let edges = add_edges(&mut table, &ends);
-    let root = add(&mut table, 2, &edges, 0);
+    let root = add(&mut table, 2, &edges, 0).into();
     let cut = Call::Cut { divider: AT_ZERO, inside: 1, outside: 0, root };
     assert_eq!(is_sound(&table), 0);
     assert_eq!(call(&cut, &table), (7, true));

@@ -9,7 +9,7 @@
 
 static struct desk_table table, before;
 
-static uint64_t at_x(double distance, unsigned kept, uint16_t root) {
+static uint64_t at_x(double distance, uint32_t kept, uint32_t root) {
     struct desk_hyperplane divider = {{1.0, 0.0, 0.0, 0.0}, distance};
     return desk_table_cut(&table, divider, kept, root);
 }
@@ -76,4 +76,30 @@ static int refusals(void) {
     return 0;
 }
 
-int main(void) { return rows() || replies() || refusals(); }
+/* C converts what it hands over without a word: no number may become another on its way. */
+static int numbers(void) {
+    uint16_t list[DESK_LONGEST_LIST];
+    const int dimensions[] = {0, 5, 256, 257, 258, 65538, 16777218, -1, -254}, roots[] = {9, 264, 65535, 65536, 65544, -1, -65528};
+    before = table;
+    for (size_t i = 0; i < sizeof dimensions / sizeof *dimensions; i++)
+        HOLDS(desk_table_cube(&table, (uint32_t)dimensions[i], 1.0) == DESK_REFUSED_DIMENSION);
+    HOLDS(desk_number_of(desk_table_cube(&table, 2, 1.0)) == DESK_DONE);
+    for (size_t i = 0; i < sizeof roots / sizeof *roots; i++) {
+        uint32_t root = (uint32_t)roots[i];
+        HOLDS(at_x(0.0, DESK_KEEP_BOTH, root) == DESK_REFUSED_NOT_IN_USE);
+        HOLDS(desk_table_subelements_of(&table, root, list, DESK_LONGEST_LIST) == DESK_REFUSED_NOT_IN_USE);
+        HOLDS(desk_table_subelements_with_rank(&table, root, 1, list, DESK_LONGEST_LIST) == DESK_REFUSED_NOT_IN_USE);
+        HOLDS(desk_table_vertex_set(&table, root, list, DESK_LONGEST_LIST) == DESK_REFUSED_NOT_IN_USE);
+        HOLDS(desk_table_edges_in_order(&table, root, list, DESK_LONGEST_LIST) == DESK_REFUSED_NOT_IN_USE);
+        HOLDS(desk_table_has_primordial_facet(&table, root) == DESK_REFUSED_NOT_IN_USE);
+        HOLDS(!desk_table_row_of(&table, root) && !desk_table_coordinates_of(&table, root) && !desk_table_hyperplane_at(&table, root));
+    }
+    HOLDS(desk_table_subelements_with_rank(&table, 8, 257, list, DESK_LONGEST_LIST) == 0);
+    HOLDS(desk_table_subelements_with_rank(&table, 8, 65537, list, 0) == 0);
+    HOLDS(desk_inside(desk_cut(DESK_LENT(&table), 1.0, 0.0, 0.0, 0.0, 0.0, 256, 65536, 8)) != DESK_NONE);
+    HOLDS(desk_outside(desk_cut(DESK_LENT(&table), 1.0, 0.0, 0.0, 0.0, 0.0, 256, 65536, 8)) != DESK_NONE);
+    table = before;
+    return 0;
+}
+
+int main(void) { return rows() || replies() || refusals() || numbers(); }

@@ -29,8 +29,7 @@ function take(count) {
 }
 
 const byte = () => take(1)[0];
-const number = () => take(2).readUInt16LE();
-const long = () => take(4).readUInt32LE();
+const number = () => take(4).readUInt32LE();
 const float = () => take(8).readDoubleLE();
 
 // ---- what is lent: `held` is how it has to be, and lies in the module's memory from `start` on, with guards between the slices
@@ -63,7 +62,7 @@ function lend(length, entryBytes) {
 function takeTable() {
     if (byte() === 0) return;
     end = 0;
-    slices = ENTRY_BYTES.map(size => lend(long(), size));
+    slices = ENTRY_BYTES.map(size => lend(number(), size));
     tableEnd = end;
 }
 
@@ -71,7 +70,7 @@ function takeArgument() {
     const kind = String.fromCharCode(byte());
     if (kind === "n") return number();
     if (kind === "f") return float();
-    return lend(long(), 2);
+    return lend(number(), 2);
 }
 
 // a slice is handed over as a pointer and a length
@@ -106,8 +105,8 @@ function replay() {
     held.copy(memory, start, 0, end + 16);
     const reply = BigInt.asUintN(name === "desk_cut" ? 64 : 32, BigInt(exports[name](...[...slices, ...given].flatMap(handed))));
     const wanted = take(8).readBigUInt64LE();
-    if (byte() !== 0) for (const { at, isFloats } of slices) take(long() * (isFloats ? 8 : 2)).copy(held, at);
-    const left = take(2 * long());
+    if (byte() !== 0) for (const { at, isFloats } of slices) take(number() * (isFloats ? 8 : 2)).copy(held, at);
+    const left = take(2 * number());
     if (left.length > 0) left.copy(held, given.at(-1).at);
     counts.set(name, (counts.get(name) ?? 0) + 1);
     const unlike = reply !== wanted ? `reply ${reply}, and the archive's is ${wanted}` : isSame() ? null : firstUnlike();

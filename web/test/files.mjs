@@ -59,8 +59,8 @@ const cut = change => table.cut({ normal: [1, 0], distance: 0, inside: true, out
 checks.same("no table: refused with 3 before 4", cut({ root: 65544 }), { number: 3 });
 checks.same("dimension 258 is not 2", table.cube(258, 1), 1);
 checks.same("a square", [table.cube(2, 1), table.sizes], [0, { elements: 9, vertices: 4, hyperplanes: 4 }]);
-for (const root of [65544, 65535, -65528, 8.5, NaN]) checks.same(`root ${root} is not 8`, cut({ root }), { number: 4 });
-for (const root of [65544, -1, 1.5, NaN])
+for (const root of [65544, 65535, -65528, 2 ** 32 + 8, 8.5, NaN]) checks.same(`root ${root} is not 8`, cut({ root }), { number: 4 });
+for (const root of [65544, -1, 2 ** 32, 1.5, NaN])
     for (const question of ["subelements", "vertexSet", "edgesInOrder", "hasPrimordialFacet"])
         checks.same(`${question} of ${root}`, table.ask(question, root), { number: 4 });
 checks.same("rank 258 is not 2", table.ask("withRank", 8, 258), { number: 0, list: [] });

@@ -4,7 +4,7 @@ The library is libdesk.so in the folder SPOONVELVET_LIB, or else beside this fil
 """
 
 import os
-from ctypes import POINTER, PyDLL, c_double, c_size_t, c_uint8, c_uint16, c_uint32, c_uint64
+from ctypes import POINTER, PyDLL, c_double, c_size_t, c_uint16, c_uint32, c_uint64
 from pathlib import Path
 from typing import Any
 
@@ -50,11 +50,11 @@ def _function(name: str, reply: Any, *arguments: Any) -> Any:
 _LIBRARY = _load()
 
 is_sound = _function("desk_is_sound", c_uint32)
-cube = _function("desk_cube", c_uint32, c_uint8, c_double)
-cut = _function("desk_cut", c_uint64, *[c_double] * 5, c_uint8, c_uint8, c_uint16)
-subelements_of = _function("desk_subelements_of", c_uint32, c_uint16, *_WORDS)
-subelements_with_rank = _function("desk_subelements_with_rank", c_uint32, c_uint16, c_uint8, *_WORDS)
-vertex_set = _function("desk_vertex_set", c_uint32, c_uint16, *_WORDS)
+cube = _function("desk_cube", c_uint32, c_uint32, c_double)
+cut = _function("desk_cut", c_uint64, *[c_double] * 5, c_uint32, c_uint32, c_uint32)
+subelements_of = _function("desk_subelements_of", c_uint32, c_uint32, *_WORDS)
+subelements_with_rank = _function("desk_subelements_with_rank", c_uint32, c_uint32, c_uint32, *_WORDS)
+vertex_set = _function("desk_vertex_set", c_uint32, c_uint32, *_WORDS)
 greatest_common_subelements = _function("desk_greatest_common_subelements", c_uint32, *_WORDS, *_WORDS)
-edges_in_order = _function("desk_edges_in_order", c_uint32, c_uint16, *_WORDS)
-has_primordial_facet = _function("desk_has_primordial_facet", c_uint32, c_uint16)
+edges_in_order = _function("desk_edges_in_order", c_uint32, c_uint32, *_WORDS)
+has_primordial_facet = _function("desk_has_primordial_facet", c_uint32, c_uint32)

@@ -23,10 +23,10 @@ from .values import (
 _T = TypeVar("_T")
 
 
-def _fit(number: SupportsIndex, greatest: int) -> int:
+def _fit(number: SupportsIndex, bits: int = 32) -> int:
     """A number past its width becomes the greatest there, which is never in use: so it is not wrapped, and is refused in order."""
     n = operator.index(number)
-    return n if 0 <= n <= greatest else greatest
+    return n if 0 <= n < 1 << bits else (1 << bits) - 1
 
 
 def _expect(kind: type, given: object) -> None:
@@ -34,9 +34,9 @@ def _expect(kind: type, given: object) -> None:
         raise TypeError(f"{given!r} is no {kind.__name__}")
 
 
-def _word(root: ElementId) -> int:
+def _root(root: ElementId, bits: int = 32) -> int:
     _expect(ElementId, root)
-    return _fit(root.number, 0xFFFF)
+    return _fit(root.number, bits)
 
 
 def _done(word: int) -> int:
@@ -75,7 +75,7 @@ class Table:
         table._points = (c_double * raw.POINTS)()
         table._planes = (c_double * raw.PLANES)()
         table._elements = (c_uint16 * raw.ELEMENTS)()
-        _done(raw.cube(*table._lent(), _fit(ndim, 0xFF), as_float(radius)))
+        _done(raw.cube(*table._lent(), _fit(ndim), as_float(radius)))
         return table
 
     def copy(self) -> "Table":
@@ -112,7 +112,7 @@ class Table:
         _expect(Hyperplane, divider)
         _expect(PolytopeFate, inside)
         _expect(PolytopeFate, outside)
-        reply = raw.cut(*self._lent(), *divider.normal, divider.distance, inside.value, outside.value, _word(root))
+        reply = raw.cut(*self._lent(), *divider.normal, divider.distance, inside.value, outside.value, _root(root))
         if _done(reply) & 1:
             return Flush()
 
@@ -143,7 +143,7 @@ class Table:
 
     def subelements_of(self, root: ElementId) -> List[ElementId]:
         """The root and all below it, vertex elements too, rising. Refuses with 3 or 4."""
-        return self._list(ElementId, raw.subelements_of, _word(root))
+        return self._list(ElementId, raw.subelements_of, _root(root))
 
     def subelements_with_rank(self, root: ElementId, rank: int) -> List[ElementId]:
         """Those of a rank, if any. Refuses with 3 or 4.
@@ -154,15 +154,15 @@ class Table:
         >>> square.subelements_with_rank(ElementId(8), 300)
         []
         """
-        return self._list(ElementId, raw.subelements_with_rank, _word(root), _fit(rank, 0xFF))
+        return self._list(ElementId, raw.subelements_with_rank, _root(root), _fit(rank))
 
     def vertex_set(self, root: ElementId) -> List[VertexId]:
         """The vertices of an element, rising. Refuses with 3 or 4."""
-        return self._list(VertexId, raw.vertex_set, _word(root))
+        return self._list(VertexId, raw.vertex_set, _root(root))
 
     def greatest_common_subelements(self, roots: Iterable[ElementId]) -> List[ElementId]:
         """Those of the highest rank above 0 that all roots have. Refuses with 3, 4 or 6: roots have one rank, and there is one."""
-        numbers = [_word(root) for root in roots]
+        numbers = [_root(root, 16) for root in roots]
         return self._list(ElementId, raw.greatest_common_subelements, (c_uint16 * len(numbers))(*numbers), len(numbers))
 
     def edges_in_order(self, root: ElementId) -> List[Tuple[VertexId, VertexId]]:
@@ -172,12 +172,12 @@ class Table:
         >>> [(a.number, b.number) for a, b in square.edges_in_order(ElementId(8))]
         [(0, 1), (1, 3), (3, 2), (2, 0)]
         """
-        ends = self._list(VertexId, raw.edges_in_order, _word(root))
+        ends = self._list(VertexId, raw.edges_in_order, _root(root))
         return list(zip(ends[::2], ends[1::2]))
 
     def has_primordial_facet(self, root: ElementId) -> bool:
         """Whether an element of full rank has a primordial facet. Refuses with 3, 4 or 6."""
-        return bool(_done(raw.has_primordial_facet(*self._lent(), _word(root))))
+        return bool(_done(raw.has_primordial_facet(*self._lent(), _root(root))))
 
     # The rows, as they lie in the table
 

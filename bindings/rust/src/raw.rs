@@ -1,7 +1,8 @@
 //! The exported functions, one for one, for hosts that lend slices of their own: the four of a table and, for a question, a
-//! list's. Any length, number and float may be given. The reply is one number: `bindings/c/desk.h` says what its bits are.
+//! list's. Any length, number and float may be given, and a number is as the engine takes it: a dimension, root, rank or side
+//! of 32 bits. The reply is one number: `bindings/c/desk.h` says what its bits are.
 
-use crate::{ElementId, Hyperplane};
+use crate::Hyperplane;
 
 /// A row of coordinates or of a normal has four, whatever the dimension.
 pub const AXES: usize = 4;
@@ -47,14 +48,14 @@ pub const LONGEST_LIST: usize = ELEMENT_ROOM;
 
 extern "C" {
     fn desk_is_sound(c: *const u16, cn: usize, p: *const f64, pn: usize, h: *const f64, hn: usize, e: *const u16, en: usize) -> u32;
-    fn desk_cube(c: *mut u16, cn: usize, p: *mut f64, pn: usize, h: *mut f64, hn: usize, e: *mut u16, en: usize, ndim: u8, radius: f64) -> u32;
-    fn desk_cut(c: *mut u16, cn: usize, p: *mut f64, pn: usize, h: *mut f64, hn: usize, e: *mut u16, en: usize, n0: f64, n1: f64, n2: f64, n3: f64, distance: f64, inside: u8, outside: u8, root: u16) -> u64;
-    fn desk_subelements_of(c: *const u16, cn: usize, p: *const f64, pn: usize, h: *const f64, hn: usize, e: *const u16, en: usize, root: u16, list: *mut u16, n: usize) -> u32;
-    fn desk_subelements_with_rank(c: *const u16, cn: usize, p: *const f64, pn: usize, h: *const f64, hn: usize, e: *const u16, en: usize, root: u16, rank: u8, list: *mut u16, n: usize) -> u32;
-    fn desk_vertex_set(c: *const u16, cn: usize, p: *const f64, pn: usize, h: *const f64, hn: usize, e: *const u16, en: usize, root: u16, list: *mut u16, n: usize) -> u32;
+    fn desk_cube(c: *mut u16, cn: usize, p: *mut f64, pn: usize, h: *mut f64, hn: usize, e: *mut u16, en: usize, ndim: u32, radius: f64) -> u32;
+    fn desk_cut(c: *mut u16, cn: usize, p: *mut f64, pn: usize, h: *mut f64, hn: usize, e: *mut u16, en: usize, n0: f64, n1: f64, n2: f64, n3: f64, distance: f64, inside: u32, outside: u32, root: u32) -> u64;
+    fn desk_subelements_of(c: *const u16, cn: usize, p: *const f64, pn: usize, h: *const f64, hn: usize, e: *const u16, en: usize, root: u32, list: *mut u16, n: usize) -> u32;
+    fn desk_subelements_with_rank(c: *const u16, cn: usize, p: *const f64, pn: usize, h: *const f64, hn: usize, e: *const u16, en: usize, root: u32, rank: u32, list: *mut u16, n: usize) -> u32;
+    fn desk_vertex_set(c: *const u16, cn: usize, p: *const f64, pn: usize, h: *const f64, hn: usize, e: *const u16, en: usize, root: u32, list: *mut u16, n: usize) -> u32;
     fn desk_greatest_common_subelements(c: *const u16, cn: usize, p: *const f64, pn: usize, h: *const f64, hn: usize, e: *const u16, en: usize, roots: *const u16, rn: usize, list: *mut u16, n: usize) -> u32;
-    fn desk_edges_in_order(c: *const u16, cn: usize, p: *const f64, pn: usize, h: *const f64, hn: usize, e: *const u16, en: usize, root: u16, list: *mut u16, n: usize) -> u32;
-    fn desk_has_primordial_facet(c: *const u16, cn: usize, p: *const f64, pn: usize, h: *const f64, hn: usize, e: *const u16, en: usize, root: u16) -> u32;
+    fn desk_edges_in_order(c: *const u16, cn: usize, p: *const f64, pn: usize, h: *const f64, hn: usize, e: *const u16, en: usize, root: u32, list: *mut u16, n: usize) -> u32;
+    fn desk_has_primordial_facet(c: *const u16, cn: usize, p: *const f64, pn: usize, h: *const f64, hn: usize, e: *const u16, en: usize, root: u32) -> u32;
 }
 
 /// 0, or 3 where the four slices are no sound table.
@@ -63,35 +64,35 @@ pub fn is_sound(c: &[u16], p: &[f64], h: &[f64], e: &[u16]) -> u32 {
 }
 
 /// A cube in place of all that the memory had: 0, or refused with 1, 2 or 3.
-pub fn cube(c: &mut [u16], p: &mut [f64], h: &mut [f64], e: &mut [u16], ndim: u8, radius: f64) -> u32 {
+pub fn cube(c: &mut [u16], p: &mut [f64], h: &mut [f64], e: &mut [u16], ndim: u32, radius: f64) -> u32 {
     unsafe { desk_cube(c.as_mut_ptr(), c.len(), p.as_mut_ptr(), p.len(), h.as_mut_ptr(), h.len(), e.as_mut_ptr(), e.len(), ndim, radius) }
 }
 
-/// The cut of an element, its reply in one word. `inside` and `outside`: 0 removes that side, any other byte keeps it.
+/// The cut of an element, its reply in one word. `inside` and `outside`: 0 removes that side, any other number keeps it.
 #[allow(clippy::too_many_arguments)]
-pub fn cut(c: &mut [u16], p: &mut [f64], h: &mut [f64], e: &mut [u16], divider: Hyperplane, inside: u8, outside: u8, root: ElementId) -> u64 {
+pub fn cut(c: &mut [u16], p: &mut [f64], h: &mut [f64], e: &mut [u16], divider: Hyperplane, inside: u32, outside: u32, root: u32) -> u64 {
     let [n0, n1, n2, n3] = divider.normal;
     unsafe {
         desk_cut(
             c.as_mut_ptr(), c.len(), p.as_mut_ptr(), p.len(), h.as_mut_ptr(), h.len(), e.as_mut_ptr(), e.len(),
-            n0, n1, n2, n3, divider.distance, inside, outside, root.0,
+            n0, n1, n2, n3, divider.distance, inside, outside, root,
         )
     }
 }
 
 /// The root and all below it. Bits 0 to 7 are the reply's number, above them is the size of the list, here and below.
-pub fn subelements_of(c: &[u16], p: &[f64], h: &[f64], e: &[u16], root: ElementId, list: &mut [u16]) -> u32 {
-    unsafe { desk_subelements_of(c.as_ptr(), c.len(), p.as_ptr(), p.len(), h.as_ptr(), h.len(), e.as_ptr(), e.len(), root.0, list.as_mut_ptr(), list.len()) }
+pub fn subelements_of(c: &[u16], p: &[f64], h: &[f64], e: &[u16], root: u32, list: &mut [u16]) -> u32 {
+    unsafe { desk_subelements_of(c.as_ptr(), c.len(), p.as_ptr(), p.len(), h.as_ptr(), h.len(), e.as_ptr(), e.len(), root, list.as_mut_ptr(), list.len()) }
 }
 
 /// Those of a rank.
-pub fn subelements_with_rank(c: &[u16], p: &[f64], h: &[f64], e: &[u16], root: ElementId, rank: u8, list: &mut [u16]) -> u32 {
-    unsafe { desk_subelements_with_rank(c.as_ptr(), c.len(), p.as_ptr(), p.len(), h.as_ptr(), h.len(), e.as_ptr(), e.len(), root.0, rank, list.as_mut_ptr(), list.len()) }
+pub fn subelements_with_rank(c: &[u16], p: &[f64], h: &[f64], e: &[u16], root: u32, rank: u32, list: &mut [u16]) -> u32 {
+    unsafe { desk_subelements_with_rank(c.as_ptr(), c.len(), p.as_ptr(), p.len(), h.as_ptr(), h.len(), e.as_ptr(), e.len(), root, rank, list.as_mut_ptr(), list.len()) }
 }
 
 /// The vertices of an element.
-pub fn vertex_set(c: &[u16], p: &[f64], h: &[f64], e: &[u16], root: ElementId, list: &mut [u16]) -> u32 {
-    unsafe { desk_vertex_set(c.as_ptr(), c.len(), p.as_ptr(), p.len(), h.as_ptr(), h.len(), e.as_ptr(), e.len(), root.0, list.as_mut_ptr(), list.len()) }
+pub fn vertex_set(c: &[u16], p: &[f64], h: &[f64], e: &[u16], root: u32, list: &mut [u16]) -> u32 {
+    unsafe { desk_vertex_set(c.as_ptr(), c.len(), p.as_ptr(), p.len(), h.as_ptr(), h.len(), e.as_ptr(), e.len(), root, list.as_mut_ptr(), list.len()) }
 }
 
 /// Those of the highest rank above 0 that all roots have.
@@ -104,11 +105,11 @@ pub fn greatest_common_subelements(c: &[u16], p: &[f64], h: &[f64], e: &[u16], r
 }
 
 /// The edges of a face in order: two vertex numbers an edge, and the size in numbers.
-pub fn edges_in_order(c: &[u16], p: &[f64], h: &[f64], e: &[u16], root: ElementId, list: &mut [u16]) -> u32 {
-    unsafe { desk_edges_in_order(c.as_ptr(), c.len(), p.as_ptr(), p.len(), h.as_ptr(), h.len(), e.as_ptr(), e.len(), root.0, list.as_mut_ptr(), list.len()) }
+pub fn edges_in_order(c: &[u16], p: &[f64], h: &[f64], e: &[u16], root: u32, list: &mut [u16]) -> u32 {
+    unsafe { desk_edges_in_order(c.as_ptr(), c.len(), p.as_ptr(), p.len(), h.as_ptr(), h.len(), e.as_ptr(), e.len(), root, list.as_mut_ptr(), list.len()) }
 }
 
 /// Bits 0 to 7 are the reply's number, bit 8 is the answer.
-pub fn has_primordial_facet(c: &[u16], p: &[f64], h: &[f64], e: &[u16], root: ElementId) -> u32 {
-    unsafe { desk_has_primordial_facet(c.as_ptr(), c.len(), p.as_ptr(), p.len(), h.as_ptr(), h.len(), e.as_ptr(), e.len(), root.0) }
+pub fn has_primordial_facet(c: &[u16], p: &[f64], h: &[f64], e: &[u16], root: u32) -> u32 {
+    unsafe { desk_has_primordial_facet(c.as_ptr(), c.len(), p.as_ptr(), p.len(), h.as_ptr(), h.len(), e.as_ptr(), e.len(), root) }
 }

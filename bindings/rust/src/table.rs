@@ -23,10 +23,10 @@ impl Table {
     /// # use spoonvelvet::{ElementId, Refused, Table};
     /// let cube = Table::with_primordial_cube_radius(3, 1.0)?;
     /// assert_eq!(cube.last_element(), ElementId(26));
-    /// assert_eq!(Table::with_primordial_cube_radius(5, 1.0), Err(Refused::DIMENSION));
+    /// assert_eq!(Table::with_primordial_cube_radius(258, 1.0), Err(Refused::DIMENSION));
     /// # Ok::<(), Refused>(())
     /// ```
-    pub fn with_primordial_cube_radius(ndim: u8, radius: f64) -> Result<Self, Refused> {
+    pub fn with_primordial_cube_radius(ndim: u32, radius: f64) -> Result<Self, Refused> {
         let mut table = Self::blank();
         let number =
             raw::cube(&mut table.counts, &mut *table.points, &mut *table.planes, &mut *table.elements, ndim, radius);
@@ -87,9 +87,9 @@ impl Table {
         outside: PolytopeFate,
         root: ElementId,
     ) -> Result<ElementCutOutput, Refused> {
-        let [inside, outside] = [inside, outside].map(|fate| u8::from(fate == PolytopeFate::Keep));
+        let [inside, outside] = [inside, outside].map(|fate| u32::from(fate == PolytopeFate::Keep));
         let Self { counts, points, planes, elements } = self;
-        let word = raw::cut(counts, &mut **points, &mut **planes, &mut **elements, divider, inside, outside, root);
+        let word = raw::cut(counts, &mut **points, &mut **planes, &mut **elements, divider, inside, outside, root.0.into());
         if let Some(refused) = refusal(word as u32) {
             return Err(refused);
         }
@@ -129,24 +129,25 @@ impl Table {
 
     /// The root and all below it, vertex elements too, rising. Refuses with 4.
     pub fn subelements_of(&self, root: ElementId) -> Result<Vec<ElementId>, Refused> {
-        self.list(ElementId, |c, p, h, e, room| raw::subelements_of(c, p, h, e, root, room))
+        self.list(ElementId, |c, p, h, e, room| raw::subelements_of(c, p, h, e, root.0.into(), room))
     }
 
-    /// Those of a rank, if any. Refuses with 4.
+    /// Those of a rank, if any; a rank that nobody has is no refusal. Refuses with 4.
     ///
     /// ```
     /// # use spoonvelvet::{ElementId, Refused, Table};
     /// let square = Table::with_primordial_cube_radius(2, 1.0)?;
     /// assert_eq!(square.subelements_with_rank(ElementId(8), 1)?, [2, 5, 6, 7].map(ElementId));
+    /// assert_eq!(square.subelements_with_rank(ElementId(8), 257)?, []);
     /// # Ok::<(), Refused>(())
     /// ```
-    pub fn subelements_with_rank(&self, root: ElementId, rank: u8) -> Result<Vec<ElementId>, Refused> {
-        self.list(ElementId, |c, p, h, e, room| raw::subelements_with_rank(c, p, h, e, root, rank, room))
+    pub fn subelements_with_rank(&self, root: ElementId, rank: u32) -> Result<Vec<ElementId>, Refused> {
+        self.list(ElementId, |c, p, h, e, room| raw::subelements_with_rank(c, p, h, e, root.0.into(), rank, room))
     }
 
     /// The vertices of an element, rising. Refuses with 4.
     pub fn vertex_set(&self, root: ElementId) -> Result<Vec<VertexId>, Refused> {
-        self.list(VertexId, |c, p, h, e, room| raw::vertex_set(c, p, h, e, root, room))
+        self.list(VertexId, |c, p, h, e, room| raw::vertex_set(c, p, h, e, root.0.into(), room))
     }
 
     /// Those of the highest rank above 0 that all roots have. Refuses with 4, or with 6: roots have one rank, and there is one.
@@ -165,13 +166,13 @@ impl Table {
     /// # Ok::<(), Refused>(())
     /// ```
     pub fn edges_in_order(&self, root: ElementId) -> Result<Vec<[VertexId; 2]>, Refused> {
-        let ends = self.list(VertexId, |c, p, h, e, room| raw::edges_in_order(c, p, h, e, root, room))?;
+        let ends = self.list(VertexId, |c, p, h, e, room| raw::edges_in_order(c, p, h, e, root.0.into(), room))?;
         Ok(ends.chunks_exact(2).map(|pair| [pair[0], pair[1]]).collect())
     }
 
     /// Whether an element of full rank has a primordial facet. Refuses with 4 or 6.
     pub fn has_primordial_facet(&self, root: ElementId) -> Result<bool, Refused> {
-        let word = raw::has_primordial_facet(&self.counts, &*self.points, &*self.planes, &*self.elements, root);
+        let word = raw::has_primordial_facet(&self.counts, &*self.points, &*self.planes, &*self.elements, root.0.into());
         refusal(word).map_or(Ok(word >> 8 & 1 == 1), Err)
     }
 
@@ -190,8 +191,8 @@ impl Table {
 /// The rows, as they lie in the table.
 impl Table {
     /// How many dimensions the space has.
-    pub fn dimensions(&self) -> u8 {
-        self.counts[0] as u8
+    pub fn dimensions(&self) -> u32 {
+        self.counts[0].into()
     }
 
     /// How many elements, vertices and hyperplanes are in use.
@@ -223,8 +224,8 @@ impl Table {
     }
 
     /// 0 for a vertex element, 1 for an edge, 2 for a face. Refuses with 4, as all that read an element's row do.
-    pub fn rank_of(&self, element: ElementId) -> Result<u8, Refused> {
-        Ok(self.row(element)?[raw::ROW_RANK] as u8)
+    pub fn rank_of(&self, element: ElementId) -> Result<u32, Refused> {
+        Ok(self.row(element)?[raw::ROW_RANK].into())
     }
 
     /// The elements of its boundary, rising. A vertex element has none.
@@ -276,7 +277,7 @@ impl Table {
     /// ```
     pub fn coordinates_of(&self, vertex: VertexId) -> Option<&[f64]> {
         let start = usize::from(vertex.0) * raw::AXES;
-        (vertex.0 < self.counts().vertices).then(|| &self.points[start..][..usize::from(self.dimensions())])
+        (vertex.0 < self.counts().vertices).then(|| &self.points[start..][..self.dimensions() as usize])
     }
 
     /// The hyperplane of that number. None for one that is not in use.

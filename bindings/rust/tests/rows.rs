@@ -1,7 +1,7 @@
 //! The rows of a table, what is handed to it and what it gives, and the same words for refusals.
 
 use spoonvelvet::PolytopeFate::{Keep, Remove};
-use spoonvelvet::{Counts, ElementCutOutput, ElementId, Hyperplane, HyperplaneId, Refused, Slices, Table, VertexId};
+use spoonvelvet::{raw, Counts, ElementCutOutput, ElementId, Hyperplane, HyperplaneId, Refused, Slices, Table, VertexId};
 
 const SQUARE: ElementId = ElementId(8);
 
@@ -63,6 +63,17 @@ fn a_fresh_cube_is_the_last_element() {
         let table = Table::with_primordial_cube_radius(ndim, 1.0).unwrap();
         assert_eq!((table.dimensions(), table.last_element()), (ndim, ElementId(root)));
         assert_eq!(table.rank_of(table.last_element()), Ok(ndim));
+    }
+}
+
+#[test]
+fn no_number_is_cut_to_another() {
+    assert_eq!(Table::with_primordial_cube_radius(258, 1.0), Err(Refused::DIMENSION));
+    let table = square();
+    assert_eq!(table.subelements_with_rank(SQUARE, 257), Ok(vec![]));
+    let Slices { counts, points, planes, elements } = table.slices();
+    for root in [9, 264, 65_544, u32::MAX] {
+        assert_eq!(raw::has_primordial_facet(counts, points, planes, elements, root), 4);
     }
 }
 

@@ -21,7 +21,7 @@ use Rattle.rules.proofs.Growing.{keep-append}
 use Rattle.carvings.proofs.Images.{below-member, image-new, image-length, boundary-renumbered, any-image, rises-image}
 use Rattle.rules.proofs.Laws.{and-right, eq-test, test-eq, or-false, both-ways, and-true, and-left, eqb-self}
 use Rattle.rules.proofs.Reach.{some-of, any-at}
-use Rattle.rules.proofs.RingWalked.{all-of, ring-taken, taken-ring}
+use Rattle.rules.proofs.RingWalked.{all-of, none-there, ring-taken, taken-ring}
 
 -- ---- how often a number stands in a list
 
@@ -53,17 +53,12 @@ occ-some v (x ∷ xs) h = subst (λ (n : ℕ). 0 < n) (sym (occ-cons v x xs)) (g
     go true k r = suc-le-suc zero-le
     go false k r = r k
 
-occ-none : (v : ℕ) (xs : List ℕ) → member v xs ≡ false → occurrences v xs ≡ 0
-occ-none v [] h = refl
-occ-none v (x ∷ xs) h =
-    let s = or-false (eqb v x) (member v xs) h in occ-cons v x xs ∙ ap₂ step (s .0) (occ-none v xs (s .1))
-
 occ-there : (v : ℕ) (xs : List ℕ) → 0 < occurrences v xs → member v xs ≡ true
 occ-there v xs h = go (member v xs) refl
   where
     go : (b : Bool) → member v xs ≡ b → b ≡ true
     go true e = refl
-    go false e = absurd (not-suc-le-zero (subst (λ (n : ℕ). 0 < n) (occ-none v xs e) h))
+    go false e = absurd (not-suc-le-zero (subst (λ (n : ℕ). 0 < n) (none-there v xs e) h))
 
 occ-with : (y x : ℕ) (s : List ℕ) → member x s ≡ false → occurrences y (withMember x s) ≡ step (eqb y x) (occurrences y s)
 occ-with y x [] h = occ-cons y x []

@@ -12,7 +12,8 @@ use Rattle.rules.specs.Limits.{Limits}
 use Rattle.rules.specs.Lists.{if_then_else_}
 use Rattle.rules.specs.Floats.{crossingPoint, edgeTest, sideOf}
 use Rattle.rules.specs.Table.{Element, Plane, Table, element, elementCount, boundaryOf, pointAt, rankOf, planeOf, isPrimordial}
-use Rattle.rules.specs.Cut.{done, give, Step, next, addPolytope, addVertex, Cutting, Gathered, gathering, nothingYet, including, sideOfCut, rule7, rule6, newIntersection, planeOfIntersection, given, crossEdge, cutEnds, cutEdge, cutBoundary, cutHigher, cutElement, cornerAnswer, distanceOf}
+use Rattle.rules.specs.Cut.{done, give, Step, next, addPolytope, addVertex, Cutting, Gathered, gathering, nothingYet, including, sideOfCut, rule7, rule6, newIntersection}
+use Rattle.rules.specs.Cut.{planeOfIntersection, given, crossEdge, cutEnds, cutEdge, cutBoundary, cutHigher, cutElement, cornerAnswer, distanceOf}
 use Rattle.rules.specs.Held.{Begins, Extends}
 use Rattle.rules.specs.declared.Crossing.{Crossing}
 use Rattle.rules.specs.declared.Crossing.the-variants.{None as NoCrossing, At}
@@ -244,7 +245,8 @@ module _ (L : Limits) (T B : Table) (fine : Fine T) (good : Good L B) (on : Exte
     element-sim zero e l t f em =
         let y = element T e in
         let F : Points → Points = pointsOfElement T h 1 e in
-        subst (λ (z : Element). Sim L T B fine good on F (AnswerIs kI kO) t f (cutEdge L (keeping kI kO) z t) (cutEdge L (keeping true false) (element B e) B) (cutEdge L (keeping false true) (element B e) B)) (sym (element-same T t e (em .grown) l))
+        subst (λ (z : Element). Sim L T B fine good on F (AnswerIs kI kO) t f (cutEdge L (keeping kI kO) z t)
+        (cutEdge L (keeping true false) (element B e) B) (cutEdge L (keeping false true) (element B e) B)) (sym (element-same T t e (em .grown) l))
         (subst (λ (z : Element). Sim L T B fine good on F (AnswerIs kI kO) t f (cutEdge L (keeping kI kO) y t) (cutEdge L (keeping true false) z B) (cutEdge L (keeping false true) z B)) (sym (element-same T B e on l))
         (edge-sim y (le-trans (suc-le-suc zero-le) l) (boundary-below T e fine l) t f em))
     element-sim (suc r) e l t f em =

@@ -14,7 +14,8 @@ use Rattle.rules.specs.Lists.{find}
 use Rattle.rules.specs.Floats.{pointMatches, crossingPoint, edgeTest, signedDistance}
 use Rattle.rules.specs.Table.{Element, corner, polytope, Plane, Table, element, elementCount, boundaryOf, pointAt, rankOf, planeOf, isPrimordial, sameElement}
 use Rattle.rules.specs.Sound.{closed}
-use Rattle.rules.specs.Cut.{Outcome, done, refused, Step, next, withPoint, shareElement, addElement, addPolytope, shareVertex, addVertex, Cutting, Gathered, gathering, nothingYet, including, sideOfCut, rule7, rule6, newIntersection, planeOfIntersection, given, crossEdge, cutEnds, cutEdge, cutBoundary, cutHigher, cutElement, cutCorner, distanceOf}
+use Rattle.rules.specs.Cut.{Outcome, done, refused, Step, next, withPoint, shareElement, addElement, addPolytope, shareVertex, addVertex, Cutting, Gathered, gathering, nothingYet, including}
+use Rattle.rules.specs.Cut.{sideOfCut, rule7, rule6, newIntersection, planeOfIntersection, given, crossEdge, cutEnds, cutEdge, cutBoundary, cutHigher, cutElement, cutCorner, distanceOf}
 use Rattle.rules.specs.Held.{Begins, Extends}
 use Rattle.rules.specs.declared.Crossing.{Crossing}
 use Rattle.rules.specs.declared.Crossing.the-variants.{None as NoCrossing, At}

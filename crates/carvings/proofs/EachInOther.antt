@@ -12,9 +12,11 @@ use Rattle.rules.specs.Lists.{rises, all, upFrom}
 use Rattle.rules.specs.Table.{Table, element, elementCount}
 use Rattle.carvings.specs.Renumbered.{image, renumbered, Renumbering}
 use Rattle.rules.proofs.Apart.{Apart}
+use Rattle.rules.proofs.Counting.{length-up}
 use Rattle.rules.proofs.Extends.{Below, below-with, count-more}
 use Rattle.carvings.proofs.Images.{image-length, rises-image, renumbered-agree, renumbered-same, renumbered-twice}
-use Rattle.rules.proofs.Laws.{and-true, le-test, test-le, not-le, and-left, and-right}
+use Rattle.rules.proofs.Laws.{le-test, not-le, and-left, and-right}
+use Rattle.rules.proofs.VertexSet.{up-rises}
 use Rattle.carvings.proofs.Embeds.{Embeds}
 
 -- each element comes back to itself: by induction, its boundary does, and no two elements are equal
@@ -28,21 +30,9 @@ comes-back T t u f g a hf hg (suc k) e l le =
 
 -- ---- numbers below a count
 
-up-length : (k n : ℕ) → length (upFrom k n) ≡ n
-up-length k zero = refl
-up-length k (suc n) = ap suc (up-length (suc k) n)
-
 up-below : (k n m : ℕ) → k + n ≤ m → Below m (upFrom k n)
 up-below k zero m l = tt
 up-below k (suc n) m l = (omega arith, up-below (suc k) n m (omega arith))
-
-up-above : (x k n : ℕ) → x < k → all (ltb x) (upFrom k n) ≡ true
-up-above x k zero l = refl
-up-above x k (suc n) l = and-true (ltb x k) (all (ltb x) (upFrom (suc k) n)) (test-le (suc x) k l) (up-above x (suc k) n (omega arith))
-
-up-rises : (k n : ℕ) → rises (upFrom k n) ≡ true
-up-rises k zero = refl
-up-rises k (suc n) = and-true (all (ltb k) (upFrom (suc k) n)) (rises (upFrom (suc k) n)) (up-above k (suc k) n (le-refl (suc k))) (up-rises (suc k) n)
 
 rising-fits : (m x : ℕ) (xs : List ℕ) → all (ltb x) xs ≡ true → rises xs ≡ true → Below m xs → x < m → x + suc (length xs) ≤ m
 rising-fits m x [] h r b l = omega arith
@@ -65,7 +55,7 @@ no-more f n m h once =
     let s = upFrom 0 n in
     let b : Below n s = up-below 0 n n (omega arith) in
     let q = image-length f n once s (up-rises 0 n) b in
-    let z = up-length 0 n in
+    let z = length-up 0 n in
     let w = set-fits m (image f s) (rises-image f s) (image-below f n m h s b) in
     omega (arith, q, z, w)
 

@@ -1,24 +1,26 @@
 -- One slice is two carvings, at the public replies: the table in memory after each call is the one that the cut left.
 use Prim.Native.Nat.{ℕ, _<_}
-use mathlib.Core.Bool.{Bool, true, false, false≢true}
-use mathlib.Core.List.{List, [], _∷_}
+use mathlib.Core.Bool.{Bool, true, false}
+use mathlib.Core.Option.{none}
+use mathlib.Core.List.{List, [], _∷_, map}
 use mathlib.Core.Path.{_≡_, refl, ap, sym, _∙_, subst}
 use native.Mathlib.Nat.{le-trans}
-use lib.ListN.{length}
+use lib.ListN.{length, set}
 use Rattle.rules.specs.Limits.{Limits, Readable}
-use Rattle.rules.specs.Lists.{member}
 use Rattle.rules.specs.Table.{Plane, Table, elementCount, rank}
-use Rattle.rules.specs.Sound.{sound}
 use Rattle.rules.specs.Memory.{Memory, encode, decode}
 use Rattle.rules.specs.Cut.{done, cut}
-use Rattle.rules.specs.Replies.{cutNumber, cutReply, dividerFits, dividerOf, written}
+use Rattle.rules.specs.Replies.{cutNumber, outputValues, elementValue, cutReply, dividerFits, dividerOf, written}
 use Rattle.rules.specs.Promises.{Finite, Passes}
-use Rattle.carvings.specs.Promises.{Sliceable, SliceRepliesAsTwoCarvings, SliceDoneAsCarvings}
-use Rattle.carvings.specs.Renumbered.{Renumbering, Corresponds}
+use Rattle.carvings.specs.Promises.{Sliceable, AsTwoCarvings, SliceRepliesAsTwoCarvings, SliceDoneAsCarvings}
+use Rattle.carvings.specs.Renumbered.{Renumbering, Corresponds, renumberedPlace, renumberedValue}
 use Rattle.rules.specs.declared.CutReply.{CutReply}
-use Rattle.rules.specs.declared.CutReply.the-variants.{Refused, Answered}
+use Rattle.rules.specs.declared.CutReply.the-variants.{Answered}
 use Rattle.rules.specs.declared.Hyperplane.{Hyperplane}
+use Rattle.rules.specs.declared.ElementOrNone.{ElementOrNone}
+use Rattle.rules.specs.declared.ElementOrNone.the-variants.{None, Some}
 use Rattle.rules.specs.declared.ElementCutOutput.{ElementCutOutput}
+use Rattle.rules.specs.declared.ElementCutOutput.the-variants.{Flush, NonFlush}
 use Rattle.rules.proofs.Built.{built-extends}
 use Rattle.rules.proofs.Calls.{not-infinite}
 use Rattle.carvings.proofs.Crossings.{Points}
@@ -43,6 +45,20 @@ module _ (L : Limits) (t u : Table) where
   unfolding encode
   same-planes q = ap (λ (hs : List Plane). encode L (record { dimension = 0; points = []; elements = []; planes = hs }) .planes) q
 
+-- answers that correspond have values that do
+module _ (f : ℕ → ℕ) where
+  same-value : (x : ElementOrNone) → elementValue (renumberedPlace f x) ≡ renumberedValue f (elementValue x)
+  same-value None = refl
+  same-value (Some e) = refl
+
+  values-correspond : (a a₁ a₂ : ElementCutOutput) → Corresponds f a a₁ a₂
+      → (outputValues a₁ ≡ set (map (renumberedValue f) (outputValues a)) 1 none) × (outputValues a₂ ≡ set (map (renumberedValue f) (outputValues a)) 0 none)
+  values-correspond Flush a₁ a₂ c = (ap outputValues (c .0), ap outputValues (c .1))
+  values-correspond (NonFlush i o x) a₁ a₂ c = (
+    ap outputValues (c .0) ∙ (λ j. same-value i j ∷ none ∷ same-value x j ∷ []),
+    ap outputValues (c .1) ∙ (λ j. none ∷ same-value o j ∷ same-value x j ∷ []),
+  )
+
 module _ (L : Limits) (R : Readable L) where
   -- a memory on which a cut with this divider and root is past the fixed refusals
   sliceable : (h : Hyperplane) (root : ℕ) (m : Memory) → Finite (h .distance) → 0 < rank (decode L m) root → Passes L h root m → Good L (decode L m)
@@ -55,16 +71,21 @@ module _ (L : Limits) (R : Readable L) where
     no-corner = ranked;
   }
 
-  pub slice-replies-as-two-carvings : SliceRepliesAsTwoCarvings L
-  slice-replies-as-two-carvings h root m slice first second a a₁ a₂ finite ranked e e₁ e₂ = (
-    ap (λ (x : Memory). x .counts) (W .writes) ∙ same-counts L s w (rn .dimension) (rn .count) (rn .points) (rn .planes) ∙ sym (ap (λ (x : Memory). x .counts) (S .writes)),
-    ap (λ (x : Memory). x .points) (W .writes) ∙ same-points L s w (rn .points) ∙ sym (ap (λ (x : Memory). x .points) (S .writes)),
-    ap (λ (x : Memory). x .planes) (W .writes) ∙ same-planes L s w (rn .planes) ∙ sym (ap (λ (x : Memory). x .planes) (S .writes)),
-    found .0,
-    subst (λ (x : Table). Renumbering (elementCount t) x (decode L second) (found .0)) (sym (memory-table L R h true true root m a slice e))
-        (subst (λ (x : Table). Renumbering (elementCount t) s x (found .0)) (sym (memory-table L R h false true root first a₂ second e₂)) rn),
-    found .2,
-  )
+  -- of three answers
+  answers-as-two : (h : Hyperplane) (root : ℕ) (m slice first second : Memory) (a a₁ a₂ : ElementCutOutput)
+      → Finite (h .distance) → 0 < rank (decode L m) root
+      → cutReply L h true true root m ≡ (Answered a, slice) → cutReply L h true false root m ≡ (Answered a₁, first) → cutReply L h false true root first ≡ (Answered a₂, second)
+      → AsTwoCarvings L m (Answered a, slice) (Answered a₁, first) (Answered a₂, second)
+  answers-as-two h root m slice first second a a₁ a₂ finite ranked e e₁ e₂ = record {
+    counts = ap (λ (x : Memory). x .counts) (W .writes) ∙ same-counts L s w (rn .dimension) (rn .count) (rn .points) (rn .planes) ∙ sym (ap (λ (x : Memory). x .counts) (S .writes));
+    points = ap (λ (x : Memory). x .points) (W .writes) ∙ same-points L s w (rn .points) ∙ sym (ap (λ (x : Memory). x .points) (S .writes));
+    planes = ap (λ (x : Memory). x .planes) (W .writes) ∙ same-planes L s w (rn .planes) ∙ sym (ap (λ (x : Memory). x .planes) (S .writes));
+    number = found .0;
+    elements = subst (λ (x : Table). Renumbering (elementCount t) x (decode L second) (found .0)) (sym (memory-table L R h true true root m a slice e))
+        (subst (λ (x : Table). Renumbering (elementCount t) s x (found .0)) (sym (memory-table L R h false true root first a₂ second e₂)) rn);
+    inside = values-correspond (found .0) a a₁ a₂ (found .2) .0;
+    outside = values-correspond (found .0) a a₁ a₂ (found .2) .1;
+  }
     where
       S : Did L h true true root m a slice
       S = it L R h true true root m a slice e
@@ -102,13 +123,9 @@ module _ (L : Limits) (R : Readable L) where
       rn = found .1
 
   -- a reply whose number is 0 is an answer
-  answered : (h : Hyperplane) (i o : Bool) (root : ℕ) (m : Memory) → cutNumber (cutReply L h i o root m .0) ≡ 0 → (a : ElementCutOutput) × (cutReply L h i o root m ≡ (Answered a, cutReply L h i o root m .1))
-  answered h i o root m = go (cutReply L h i o root m .0) (cutReply L h i o root m .1) refl
-    where
-      go : (r : CutReply) (m′ : Memory) → cutReply L h i o root m ≡ (r, m′) → cutNumber r ≡ 0 → (a : ElementCutOutput) × (cutReply L h i o root m ≡ (Answered a, m′))
-      go (Refused n) m′ e z =
-          absurd (false≢true (subst (λ (k : ℕ). member k (3 ∷ 4 ∷ 5 ∷ 7 ∷ 8 ∷ 9 ∷ 10 ∷ 11 ∷ []) ≡ true) z (cut-numbers L h i o root m n (ap (λ (x : CutReply × Memory). x .0) e))))
-      go (Answered a) m′ e z = (a, e)
+  answered : (h : Hyperplane) (i o : Bool) (root : ℕ) (m : Memory) → cutNumber (cutReply L h i o root m .0) ≡ 0
+      → (a : ElementCutOutput) × (cutReply L h i o root m ≡ (Answered a, cutReply L h i o root m .1))
+  answered h i o root m z = let a = cut-numbers L h i o root m .answered z in (a .0, λ j. (a .1 j, cutReply L h i o root m .1))
 
   module _ (h : Hyperplane) (root : ℕ) (m : Memory) (finite : Finite (h .distance)) (ranked : 0 < rank (decode L m) root) where
     abbrev divider : Plane
@@ -195,3 +212,15 @@ module _ (L : Limits) (R : Readable L) where
 
   pub slice-done-as-carvings : SliceDoneAsCarvings L
   slice-done-as-carvings h root m finite ranked = (slice-first h root m finite ranked, carvings-first h root m finite ranked)
+
+  pub slice-replies-as-two-carvings : SliceRepliesAsTwoCarvings L
+  slice-replies-as-two-carvings h root m finite ranked z =
+      let both = slice-first h root m finite ranked z in
+      let e = answered h true true root m z in
+      let e₁ = answered h true false root m (both .0) in
+      let m₁ = cutReply L h true false root m .1 in
+      let e₂ = answered h false true root m₁ (both .1) in
+      subst (λ (x : CutReply × Memory). AsTwoCarvings L m x (cutReply L h true false root m) (cutReply L h false true root m₁)) (sym (e .1))
+      (subst (λ (x : CutReply × Memory). AsTwoCarvings L m (Answered (e .0), cutReply L h true true root m .1) x (cutReply L h false true root m₁)) (sym (e₁ .1))
+      (subst (λ (x : CutReply × Memory). AsTwoCarvings L m (Answered (e .0), cutReply L h true true root m .1) (Answered (e₁ .0), m₁) x) (sym (e₂ .1))
+      (answers-as-two h root m (cutReply L h true true root m .1) m₁ (cutReply L h false true root m₁ .1) (e .0) (e₁ .0) (e₂ .0) finite ranked (e .1) (e₁ .1) (e₂ .1))))

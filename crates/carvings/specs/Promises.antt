@@ -3,17 +3,20 @@
 use Prim.Native.Nat.{ℕ, _≤_, _<_}
 use mathlib.Core.Path.{_≡_}
 use mathlib.Core.Bool.{true, false}
+use mathlib.Core.Option.{none}
+use mathlib.Core.List.{map}
+use lib.ListN.{set}
 use Rattle.rules.specs.Limits.{Limits}
 use Rattle.rules.specs.Table.{ElementNumber, Plane, Table, rank, elementCount}
 use Rattle.rules.specs.Sound.{sound, soundPlane}
 use Rattle.rules.specs.Memory.{Memory, decode}
 use Rattle.rules.specs.Cut.{done, cut}
-use Rattle.rules.specs.Replies.{cutNumber, cutReply}
+use Rattle.rules.specs.Replies.{cutNumber, cutValues, cutReply}
 use Rattle.rules.specs.Promises.{Finite}
 use Rattle.rules.specs.declared.Hyperplane.{Hyperplane}
 use Rattle.rules.specs.declared.ElementCutOutput.{ElementCutOutput}
-use Rattle.rules.specs.declared.CutReply.the-variants.{Answered}
-use Rattle.carvings.specs.Renumbered.{Renumbering, Corresponds}
+use Rattle.rules.specs.declared.CutReply.{CutReply}
+use Rattle.carvings.specs.Renumbered.{Renumbering, Corresponds, renumberedValue}
 
 -- a sound table, a finite divider of its dimension, and a root in use that is no corner
 pub record Sliceable (L : Limits) (h : Plane) (root : ElementNumber) (t : Table) : Type 0 where
@@ -39,13 +42,21 @@ SliceTakenAsCarvings L = (h : Plane) (root : ElementNumber) (t : Table) → Slic
     × ((a₁ a₂ : ElementCutOutput) (first second : Table) → cut L h true false root t ≡ done a₁ first → cut L h false true root first ≡ done a₂ second
     → (a : ElementCutOutput) × (slice : Table) × (cut L h true true root t ≡ done a slice))
 
--- at the public replies: counts, vertices and hyperplanes are the same memory, word for word, and the elements differ by a renumbering of those appended
+-- at the public replies: counts, vertices and hyperplanes are the same memory, word for word, and the elements differ by a renumbering of those appended;
+-- the values are the slice's, renumbered, with none for the side that each carving removes, and no values where the slice is flush
+pub record AsTwoCarvings (L : Limits) (m : Memory) (slice first second : CutReply × Memory) : Type 0 where
+  pub counts : second .1 .counts ≡ slice .1 .counts
+  pub points : second .1 .points ≡ slice .1 .points
+  pub planes : second .1 .planes ≡ slice .1 .planes
+  pub number : ElementNumber → ElementNumber
+  pub elements : Renumbering (elementCount (decode L m)) (decode L (slice .1)) (decode L (second .1)) number
+  pub inside : cutValues (first .0) ≡ set (map (renumberedValue number) (cutValues (slice .0))) 1 none
+  pub outside : cutValues (second .0) ≡ set (map (renumberedValue number) (cutValues (slice .0))) 0 none
+
 abbrev pub SliceRepliesAsTwoCarvings : Limits → Type 0
-SliceRepliesAsTwoCarvings L = (h : Hyperplane) (root : ElementNumber) (m slice first second : Memory) (a a₁ a₂ : ElementCutOutput)
-    → Finite (h .distance) → 0 < rank (decode L m) root
-    → cutReply L h true true root m ≡ (Answered a, slice) → cutReply L h true false root m ≡ (Answered a₁, first) → cutReply L h false true root first ≡ (Answered a₂, second)
-    → (second .counts ≡ slice .counts) × (second .points ≡ slice .points) × (second .planes ≡ slice .planes)
-    × (f : ElementNumber → ElementNumber) × Renumbering (elementCount (decode L m)) (decode L slice) (decode L second) f × Corresponds f a a₁ a₂
+SliceRepliesAsTwoCarvings L = (h : Hyperplane) (root : ElementNumber) (m : Memory) → Finite (h .distance) → 0 < rank (decode L m) root
+    → cutNumber (cutReply L h true true root m .0) ≡ 0
+    → AsTwoCarvings L m (cutReply L h true true root m) (cutReply L h true false root m) (cutReply L h false true root (cutReply L h true false root m .1))
 
 -- and the slice's number is 0, done, exactly when both carvings' are
 abbrev pub SliceDoneAsCarvings : Limits → Type 0

@@ -1,6 +1,7 @@
 -- Two tables that differ by a renumbering of appended elements, and answers that correspond (document 02, order 14). Definitions only.
 use Prim.Native.Nat.{ℕ, _≤_, _<_}
 use mathlib.Core.Path.{_≡_}
+use mathlib.Core.Option.{Option, none, some}
 use mathlib.Core.List.{List, [], _∷_}
 use Rattle.rules.specs.Lists.{withMember}
 use Rattle.rules.specs.Table.{ElementNumber, Element, corner, polytope, Table, element, elementCount}
@@ -24,6 +25,11 @@ renumbered f (polytope r b h m) = polytope r (image f b) h m
 abbrev pub renumberedPlace : (ElementNumber → ElementNumber) → ElementOrNone → ElementOrNone
 renumberedPlace f None = None
 renumberedPlace f (Some e) = given (f (e .0))
+
+-- and as a value
+abbrev pub renumberedValue : (ElementNumber → ElementNumber) → Option ElementNumber → Option ElementNumber
+renumberedValue f none = none
+renumberedValue f (some e) = some (f e)
 
 -- two tables that differ by a renumbering of the elements appended to the first `old` ones: the same dimension, vertices and hyperplanes, number for number;
 -- f is one to one from the elements of t onto those of u, leaves the old ones and takes appended ones to appended ones, and each element of u is that of t, renumbered

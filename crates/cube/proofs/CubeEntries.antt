@@ -27,7 +27,8 @@ use Rattle.rules.proofs.CubeFaces.{faceNumbers, faces-known}
 use Rattle.rules.proofs.Laws.{not-eq, test-eq}
 use Rattle.rules.proofs.Growing.{keep-append}
 use Rattle.hypermath.proofs.Filling.{fill-next}
-use Rattle.cube.specs.Cubes.{FacesSoFar, coordinateAt, componentAt, cubeElements, cubePoints, cubePlanes, CornerPut, FacetPut, CubePut}
+use Rattle.cube.specs.Cubes.{FacesSoFar, coordinateAt, componentAt}
+use Rattle.cube.specs.Writing.{cubeElements, cubePoints, cubePlanes, CornerPut, FacetPut, CubePut}
 use Rattle.space.specs.Shared.{four, five, rowOf}
 use Rattle.cube.specs.declared.Faces.{Faces}
 use Rattle.space.proofs.Laid.{laid-append, length-padded, map-append}
@@ -82,11 +83,17 @@ facet-room d e low l p =
 
 -- ---- rows
 
+-- the element e, by whether it is a corner
+abbrev elementBy : ℕ → ℕ → Bool → Element
+elementBy d e b =
+    if b then corner (length (chosen isVertex d e))
+    else polytope (twos (digits d e)) (map ofDigits (faces (digits d e))) (if isFacet (digits d e) then some (length (chosen isFacet d e)) else none) (isFacet (digits d e))
+
 pub row-corner : (d e v : ℕ) → isVertex (digits d e) ≡ true → v ≡ length (chosen isVertex d e) → elementWords desk (corner v) ≡ elementWords desk (cubeElement d e)
 unfolding cubeElement
 row-corner d e v p q =
     ap (λ (n : ℕ). elementWords desk (corner n)) q
-    ∙ ap (λ (b : Bool). elementWords desk (if b then corner (length (chosen isVertex d e)) else polytope (twos (digits d e)) (map ofDigits (faces (digits d e))) (if isFacet (digits d e) then some (length (chosen isFacet d e)) else none) (isFacet (digits d e)))) (sym p)
+    ∙ ap (λ (b : Bool). elementWords desk (elementBy d e b)) (sym p)
 
 pub row-polytope : (d e : ℕ) (f : Faces) (h : ℕ) (b : Bool) → isVertex (digits d e) ≡ false → isFacet (digits d e) ≡ b → FacesSoFar f (map ofDigits (faces (digits d e)))
     → planeNamed h ≡ (if b then some (length (chosen isFacet d e)) else none)
@@ -96,7 +103,7 @@ row-polytope d e f h b p q g n =
     ap₂ (λ (r : ℕ) (l : List ℕ). elementWords desk (polytope r l (planeNamed h) b)) (rank-half d e f g) list
     ∙ ap (λ (o : Option ℕ). elementWords desk (polytope (twos (digits d e)) xs o b)) n
     ∙ ap (λ (c : Bool). elementWords desk (polytope (twos (digits d e)) xs (if c then some (length (chosen isFacet d e)) else none) c)) (sym q)
-    ∙ ap (λ (c : Bool). elementWords desk (if c then corner (length (chosen isVertex d e)) else polytope (twos (digits d e)) xs (if isFacet (digits d e) then some (length (chosen isFacet d e)) else none) (isFacet (digits d e)))) (sym p)
+    ∙ ap (λ (c : Bool). elementWords desk (elementBy d e c)) (sym p)
   where
     xs : List ℕ
     xs = map ofDigits (faces (digits d e))
@@ -291,7 +298,11 @@ cube-put d radius cs ps hs es c p h e = record {
   memory = (λ i. memoryOf ((c ∙ counts) i) (p i) (h i) (e i)) ∙ sym (encode-parts desk (cube d radius));
 }
   where
+    vertices : ℕ
+    vertices = length (map (λ n. cubePoint radius (digits d n)) (chosen isVertex d (3 ^ d)))
+
     counts : d ∷ 3 ^ d ∷ length (chosen isVertex d (3 ^ d)) ∷ length (chosen isFacet d (3 ^ d)) ∷ [] ≡ countsOf (cube d radius)
     counts =
-        ap₂ (λ (a b : ℕ). d ∷ a ∷ b ∷ length (chosen isFacet d (3 ^ d)) ∷ []) (sym (length-map (upTo (3 ^ d)) (cubeElement d) ∙ length-up 0 (3 ^ d))) (sym (length-map (chosen isVertex d (3 ^ d)) (λ n. cubePoint radius (digits d n))))
-        ∙ ap (λ (b : ℕ). d ∷ length (map (cubeElement d) (upTo (3 ^ d))) ∷ length (map (λ n. cubePoint radius (digits d n)) (chosen isVertex d (3 ^ d))) ∷ b ∷ []) (sym (length-map (chosen isFacet d (3 ^ d)) (λ n. facetPlane radius (digits d n))))
+        ap₂ (λ (a b : ℕ). d ∷ a ∷ b ∷ length (chosen isFacet d (3 ^ d)) ∷ []) (sym (length-map (upTo (3 ^ d)) (cubeElement d) ∙ length-up 0 (3 ^ d)))
+        (sym (length-map (chosen isVertex d (3 ^ d)) (λ n. cubePoint radius (digits d n))))
+        ∙ ap (λ (b : ℕ). d ∷ length (map (cubeElement d) (upTo (3 ^ d))) ∷ vertices ∷ b ∷ []) (sym (length-map (chosen isFacet d (3 ^ d)) (λ n. facetPlane radius (digits d n))))

@@ -16,7 +16,7 @@ use Rattle.rules.proofs.CubeDigits.{digits-length, of-digits}
 use Rattle.rules.proofs.Growing.{length-snoc}
 use Rattle.rules.proofs.Laws.{eq-test}
 use Rattle.hypermath.proofs.Filling.{fill-next}
-use Rattle.cube.specs.Cubes.{FacesSoFar, FacesMore, across}
+use Rattle.cube.specs.Cubes.{AcrossReady, FacesSoFar, FacesMore, across}
 use Rattle.cube.specs.declared.Faces.{Faces}
 use Rattle.space.proofs.Laid.{map-append}
 
@@ -205,11 +205,15 @@ module _ (d e : ℕ) (ks : List ℕ) (f : Faces) (step axis : ℕ) (low : d ≤ 
   next-digit : getD ks (axis - 1) 0 ≡ getD (digits d e) (axis - 1) 0
   next-digit = ap (λ (l : List ℕ). getD l (axis - 1) 0) (g .read) ∙ List·getD-append (digits d e) (replicate (4 - length (digits d e)) 0) 0 (axis - 1) known
 
-  pub descend-ready : (f .n < 31) × (step / 3 < 82) × (getD ks (axis - 1) 0 ≡ 2 → 2 * (step / 3) ≤ e)
-  descend-ready = (room, small, enough)
+  pub descend-ready : AcrossReady f (getD ks (axis - 1) 0) e (step / 3)
+  descend-ready = record {
+    place = place;
+    near = near;
+    spanned = spanned;
+  }
     where
-      room : f .n < 31
-      room =
+      place : f .n < 31
+      place =
           let s = g .gathered .size in
           let m = length-map (faces (drop axis (digits d e))) (λ (h : List ℕ). ofDigits (take axis (digits d e) ++ h)) in
           let h = faces-short (drop axis (digits d e)) in
@@ -217,14 +221,14 @@ module _ (d e : ℕ) (ks : List ℕ) (f : Faces) (step axis : ℕ) (low : d ≤ 
           let z = digits-length d e in
           omega (arith, s, m, h, l, z)
 
-      small : step / 3 < 82
-      small =
+      near : step / 3 < 82
+      near =
           let p = next-power in
           let l = power-low (axis - 1) (omega arith) in
           omega (arith, p, l)
 
-      enough : getD ks (axis - 1) 0 ≡ 2 → 2 * (step / 3) ≤ e
-      enough q =
+      spanned : getD ks (axis - 1) 0 ≡ 2 → 2 * (step / 3) ≤ e
+      spanned q =
           let s = spans (digits d e) (axis - 1) known (sym next-digit ∙ q) in
           let p = next-power in
           let n = g .number in

@@ -1,13 +1,18 @@
 // The primordial cube, entry by entry.
+use rules::ElementId;
 use rules::Hyperplane;
 use rules::HyperplaneId;
 use rules::VertexId;
 use space::memo;
 use space::restore;
 use space::rows;
+use space::words::AXES;
+use space::words::NO_PLANE;
+use space::words::PLANE_WIDTH;
 use space::words::SET;
+use space::words::WIDTH;
 use space::words::right_size;
-ghost use Prim.Native.Nat.{_+_, _*_, _^_, _<_, _≤_};
+ghost use Prim.Native.Nat.{_+_, _^_, _<_, _≤_};
 ghost use mathlib.Core.Bool.{cond};
 ghost use mathlib.Core.Path.{_≡_};
 ghost use mathlib.Core.List.{[], _∷_, map};
@@ -15,21 +20,24 @@ ghost use lib.ListN.{length};
 ghost use Rattle.rules.specs.Limits.{desk};
 ghost use Rattle.rules.specs.Lists.{pad};
 ghost use Rattle.rules.specs.Floats.{plusZero};
-ghost use Rattle.rules.specs.Cube.{digits, faces, ofDigits, twos, isVertex, isFacet, chosen, cubeElement, cubePoint, facetNormal, radiusFits};
+ghost use Rattle.rules.specs.Cube.{digits, faces, ofDigits, isVertex, isFacet, cubeElement, cubePoint, facetNormal, radiusFits};
 ghost use Rattle.rules.specs.Held.{elementWords, memoryOf};
-ghost use Rattle.cube.specs.Cubes.{FacesMore, FacesSoFar, coordinateAt, componentAt, cubeElements, cubePoints, cubePlanes, CornerPut, FacetPut, CubePut};
+ghost use Rattle.cube.specs.Cubes.{CubeSize, InCube, AcrossReady, FacesMore, FacesSoFar, CubeRank, coordinateAt, componentAt};
+ghost use Rattle.cube.specs.Writing.{cubeElements, RowReady, CornerReady, PointsReady, FacetReady, PlanesReady, ElementsReady};
+ghost use Rattle.cube.specs.Writing.{PointsRoom, PlanesRoom, ElementsRoom, RoomReady};
+ghost use Rattle.cube.specs.Writing.{CornerPut, PointsPut, FacetPut, PlanesPut, CubePut};
 ghost use Rattle.rules.specs.Replies.{cubeReply};
 
 // Some numbers of a boundary, in the front of their room.
-pub struct Faces {
-    pub list: [u16; SET],
-    pub n: usize,
+struct Faces {
+    list: [u16; SET],
+    n: usize,
 }
 
 // How many elements a cube has.
 fn cube_size(d: usize) -> u16
     requires { ⌜ d ≤ 4 ⌝ }
-    ensures { λ r. ⌜ (r ≡ 3 ^ d) × (r < 82) ⌝ }
+    ensures { λ r. ⌜ CubeSize d r ⌝ }
 {
     let mut size = 1u16;
     for axis in 0..d {
@@ -54,7 +62,7 @@ fn digits_of(d: usize, e: u16) -> [u16; 4]
 
 // The two faces across an axis that the element spans.
 fn faces_across(f: Faces, k: u16, e: u16, step: u16) -> Faces
-    requires { ⌜ (f .n < 31) × (step < 82) × (k ≡ 2 → 2 * step ≤ e) ⌝ }
+    requires { ⌜ AcrossReady f k e step ⌝ }
     ensures { λ r. ⌜ FacesMore f k e step r ⌝ }
 {
     if k != 2 {
@@ -71,7 +79,7 @@ fn faces_across(f: Faces, k: u16, e: u16, step: u16) -> Faces
 
 // The boundary of an element of the cube, in rising number.
 fn faces_of(d: usize, e: u16) -> Faces
-    requires { ⌜ (d ≤ 4) × (e < 3 ^ d) ⌝ }
+    requires { ⌜ InCube d e ⌝ }
     ensures { λ r. ⌜ FacesSoFar r (map ofDigits (faces (digits d e))) ⌝ }
 {
     let ks = digits_of(d, e);
@@ -91,15 +99,15 @@ fn faces_of(d: usize, e: u16) -> Faces
 
 // Rank is the count of 2s, and each gives two faces.
 fn cube_rank(d: usize, e: u16) -> usize
-    requires { ⌜ (d ≤ 4) × (e < 3 ^ d) ⌝ }
-    ensures { λ r. ⌜ (r ≡ twos (digits d e)) × (r < 5) ⌝ }
+    requires { ⌜ InCube d e ⌝ }
+    ensures { λ r. ⌜ CubeRank d e r ⌝ }
 {
     let f = faces_of(d, e);
     f.n / 2
 }
 
 fn is_corner(d: usize, e: u16) -> bool
-    requires { ⌜ (d ≤ 4) × (e < 3 ^ d) ⌝ }
+    requires { ⌜ InCube d e ⌝ }
     ensures { λ r. ⌜ r ≡ isVertex (digits d e) ⌝ }
 {
     cube_rank(d, e) == 0
@@ -107,7 +115,7 @@ fn is_corner(d: usize, e: u16) -> bool
 
 // Rank dimension - 1, above 0.
 fn is_facet(d: usize, e: u16) -> bool
-    requires { ⌜ (d ≤ 4) × (e < 3 ^ d) ⌝ }
+    requires { ⌜ InCube d e ⌝ }
     ensures { λ r. ⌜ r ≡ isFacet (digits d e) ⌝ }
 {
     let rank = cube_rank(d, e);
@@ -118,20 +126,21 @@ fn is_facet(d: usize, e: u16) -> bool
 }
 
 // The row of an element; its vertex, or its hyperplane, has as number how many come before.
-fn cube_row(d: usize, e: u16, v: VertexId, h: HyperplaneId) -> [u16; 36]
-    requires { ⌜ (d ≤ 4) × (e < 3 ^ d) × (v .0 ≡ length (chosen isVertex d e)) × (h .0 ≡ length (chosen isFacet d e)) ⌝ }
-    ensures { λ r. ⌜ r ≡ elementWords desk (cubeElement d e) ⌝ }
+fn cube_row(d: usize, e: ElementId, v: VertexId, h: HyperplaneId) -> [u16; 36]
+    requires { ⌜ RowReady d (e .0) (v .0) (h .0) ⌝ }
+    ensures { λ r. ⌜ r ≡ elementWords desk (cubeElement d (e .0)) ⌝ }
 {
-    if is_corner(d, e) {
+    let number = e.0 as u16;
+    if is_corner(d, number) {
         return memo::corner_row(v);
     }
-    let f = faces_of(d, e);
+    let f = faces_of(d, number);
     let list = f.list;
     let rank = f.n / 2;
-    if is_facet(d, e) {
+    if is_facet(d, number) {
         return rows::polytope_row(rank, &list, f.n, h.0 as u16, true);
     }
-    rows::polytope_row(rank, &list, f.n, 65535, false)
+    rows::polytope_row(rank, &list, f.n, NO_PLANE, false)
 }
 
 // A corner's coordinate: the digit tells which end.
@@ -181,58 +190,66 @@ fn facet_normal(d: usize, e: u16) -> [f64; 4]
     normal
 }
 
-// A corner's point goes behind those before it; how many there are then.
-fn put_corner(points: &mut [f64], d: usize, radius: f64, e: u16, v: usize) -> usize
-    requires { ⌜ (d ≤ 4) × (e < 3 ^ d) × (length (now points) ≡ 1024) × (v ≡ length (chosen isVertex d e)) ⌝ }
-    ensures { λ r. ⌜ CornerPut d radius e (now (points .entry)) r (now (points .exit)) ⌝ }
+// A corner's point goes behind those before it; the number that the next will have.
+fn put_corner(points: &mut [f64], d: usize, radius: f64, e: ElementId, v: VertexId) -> VertexId
+    requires { ⌜ CornerReady d (e .0) (now points) (v .0) ⌝ }
+    ensures { λ r. ⌜ CornerPut d radius (e .0) (now (points .entry)) (r .0) (now (points .exit)) ⌝ }
 {
-    if !is_corner(d, e) {
+    let number = e.0 as u16;
+    if !is_corner(d, number) {
         return v;
     }
-    let p = corner_point(d, radius, e);
-    memo::put_point(points, v * 4, p);
-    v + 1
+    let p = corner_point(d, radius, number);
+    memo::put_point(points, v.0 * AXES, p);
+    VertexId(v.0 + 1)
 }
 
 fn put_corners(points: &mut [f64], d: usize, radius: f64) -> usize
-    requires { ⌜ (d ≤ 4) × (length (now points) ≡ 1024) × (now points ≡ cubePoints d radius 0) ⌝ }
-    ensures { λ r. ⌜ (r ≡ length (chosen isVertex d (3 ^ d))) × (now (points .exit) ≡ cubePoints d radius (3 ^ d)) ⌝ }
+    requires { ⌜ PointsReady d radius (now points) ⌝ }
+    ensures { λ r. ⌜ PointsPut d radius r (now (points .exit)) ⌝ }
 {
     let size = cube_size(d);
-    let mut v = 0usize;
+    let mut v = VertexId(0);
     for e in 0..size {
-        v = put_corner(points, d, radius, e, v);
+        v = put_corner(points, d, radius, ElementId(e as usize), v);
     }
-    v
+    v.0
 }
 
-// A facet's hyperplane goes behind those before it; how many there are then.
-fn put_facet(planes: &mut [f64], d: usize, radius: f64, e: u16, h: usize) -> usize
-    requires { ⌜ (d ≤ 4) × (e < 3 ^ d) × (length (now planes) ≡ 320) × (h ≡ length (chosen isFacet d e)) ⌝ }
-    ensures { λ r. ⌜ FacetPut d radius e (now (planes .entry)) r (now (planes .exit)) ⌝ }
+// A facet's hyperplane goes behind those before it; the number that the next will have.
+fn put_facet(
+    planes: &mut [f64],
+    d: usize,
+    radius: f64,
+    e: ElementId,
+    h: HyperplaneId,
+) -> HyperplaneId
+    requires { ⌜ FacetReady d (e .0) (now planes) (h .0) ⌝ }
+    ensures { λ r. ⌜ FacetPut d radius (e .0) (now (planes .entry)) (r .0) (now (planes .exit)) ⌝ }
 {
-    if !is_facet(d, e) {
+    let number = e.0 as u16;
+    if !is_facet(d, number) {
         return h;
     }
-    let normal = facet_normal(d, e);
+    let normal = facet_normal(d, number);
     let row = memo::hyperplane_row(Hyperplane {
         normal,
         distance: radius,
     });
-    memo::put_hyperplane(planes, h * 5, row);
-    h + 1
+    memo::put_hyperplane(planes, h.0 * PLANE_WIDTH, row);
+    HyperplaneId(h.0 + 1)
 }
 
 fn put_facets(planes: &mut [f64], d: usize, radius: f64) -> usize
-    requires { ⌜ (d ≤ 4) × (length (now planes) ≡ 320) × (now planes ≡ cubePlanes d radius 0) ⌝ }
-    ensures { λ r. ⌜ (r ≡ length (chosen isFacet d (3 ^ d))) × (now (planes .exit) ≡ cubePlanes d radius (3 ^ d)) ⌝ }
+    requires { ⌜ PlanesReady d radius (now planes) ⌝ }
+    ensures { λ r. ⌜ PlanesPut d radius r (now (planes .exit)) ⌝ }
 {
     let size = cube_size(d);
-    let mut h = 0usize;
+    let mut h = HyperplaneId(0);
     for e in 0..size {
-        h = put_facet(planes, d, radius, e, h);
+        h = put_facet(planes, d, radius, ElementId(e as usize), h);
     }
-    h
+    h.0
 }
 
 fn one_more_if(n: usize, b: bool) -> usize
@@ -245,16 +262,17 @@ fn one_more_if(n: usize, b: bool) -> usize
     n
 }
 
+// How many vertices and hyperplanes there are so far are the numbers of the next.
 fn put_elements(elements: &mut [u16], d: usize)
-    requires { ⌜ (d ≤ 4) × (length (now elements) ≡ 18432) × (now elements ≡ cubeElements d 0) ⌝ }
+    requires { ⌜ ElementsReady d (now elements) ⌝ }
     ensures { λ r. ⌜ now (elements .exit) ≡ cubeElements d (3 ^ d) ⌝ }
 {
     let size = cube_size(d);
     let mut v = 0usize;
     let mut h = 0usize;
     for e in 0..size {
-        let row = cube_row(d, e, VertexId(v), HyperplaneId(h));
-        rows::put_row(elements, e as usize * 36, &row);
+        let row = cube_row(d, ElementId(e as usize), VertexId(v), HyperplaneId(h));
+        rows::put_row(elements, e as usize * WIDTH, &row);
         v = one_more_if(v, is_corner(d, e));
         h = one_more_if(h, is_facet(d, e));
     }
@@ -271,8 +289,8 @@ fn put_counts(counts: &mut [u16], d: u16, e: u16, v: u16, h: u16)
 }
 
 fn put_points(points: &mut [f64], d: usize, radius: f64) -> u16
-    requires { ⌜ (d ≤ 4) × (length (now points) ≡ 1024) ⌝ }
-    ensures { λ r. ⌜ (r ≡ length (chosen isVertex d (3 ^ d))) × (now (points .exit) ≡ cubePoints d radius (3 ^ d)) ⌝ }
+    requires { ⌜ PointsRoom d (now points) ⌝ }
+    ensures { λ r. ⌜ PointsPut d radius r (now (points .exit)) ⌝ }
 {
     let n = points.len();
     restore::clear_floats(points, 0, n);
@@ -280,8 +298,8 @@ fn put_points(points: &mut [f64], d: usize, radius: f64) -> u16
 }
 
 fn put_planes(planes: &mut [f64], d: usize, radius: f64) -> u16
-    requires { ⌜ (d ≤ 4) × (length (now planes) ≡ 320) ⌝ }
-    ensures { λ r. ⌜ (r ≡ length (chosen isFacet d (3 ^ d))) × (now (planes .exit) ≡ cubePlanes d radius (3 ^ d)) ⌝ }
+    requires { ⌜ PlanesRoom d (now planes) ⌝ }
+    ensures { λ r. ⌜ PlanesPut d radius r (now (planes .exit)) ⌝ }
 {
     let n = planes.len();
     restore::clear_floats(planes, 0, n);
@@ -289,7 +307,7 @@ fn put_planes(planes: &mut [f64], d: usize, radius: f64) -> u16
 }
 
 fn put_rows(elements: &mut [u16], d: usize)
-    requires { ⌜ (d ≤ 4) × (length (now elements) ≡ 18432) ⌝ }
+    requires { ⌜ ElementsRoom d (now elements) ⌝ }
     ensures { λ r. ⌜ now (elements .exit) ≡ cubeElements d (3 ^ d) ⌝ }
 {
     let n = elements.len();
@@ -306,7 +324,7 @@ fn put_cube(
     d: usize,
     radius: f64,
 )
-    requires { ⌜ (d ≤ 4) × (length (now counts) ≡ 4) × (length (now points) ≡ 1024) × (length (now planes) ≡ 320) × (length (now elements) ≡ 18432) ⌝ }
+    requires { ⌜ RoomReady d (now counts) (now points) (now planes) (now elements) ⌝ }
     ensures { λ r. ⌜ CubePut d radius (now (counts .exit)) (now (points .exit)) (now (planes .exit)) (now (elements .exit)) ⌝ }
 {
     let v = put_points(points, d, radius);
@@ -334,7 +352,8 @@ pub fn with_primordial_cube_radius(
     planes: &mut [f64],
     elements: &mut [u16],
 ) -> u8
-    ensures { λ r. ⌜ (r, memoryOf (now (counts .exit)) (now (points .exit)) (now (planes .exit)) (now (elements .exit))) ≡ cubeReply desk dimension radius (memoryOf (now (counts .entry)) (now (points .entry)) (now (planes .entry)) (now (elements .entry))) ⌝ }
+    ensures { λ r. ⌜ (r, memoryOf (now (counts .exit)) (now (points .exit)) (now (planes .exit)) (now (elements .exit)))
+        ≡ cubeReply desk dimension radius (memoryOf (now (counts .entry)) (now (points .entry)) (now (planes .entry)) (now (elements .entry))) ⌝ }
 {
     if dimension < 1 {
         return 1;

@@ -13,7 +13,7 @@ use lib.Ieee.{Float, nan, inf, fin}
 use Rattle.rules.specs.Limits.{desk}
 use Rattle.rules.specs.Lists.{if_then_else_, all}
 use Rattle.rules.specs.Floats.{plusZero, sameBits, within, farthestPlane, unit}
-use Rattle.rules.specs.Table.{Table, elementCount}
+use Rattle.rules.specs.Table.{Plane, Table, elementCount}
 use Rattle.rules.specs.Sound.{soundPlane}
 use Rattle.rules.specs.Memory.{Memory, decode, soundMemory, planeRow}
 use Rattle.rules.specs.Held.{Holds, memoryOf}
@@ -30,6 +30,7 @@ use Rattle.rules.proofs.Selves.{same-float}
 use Rattle.hypermath.specs.Answers.{unitNormal, distanceKind}
 use Rattle.hypermath.specs.declared.DistanceKind.{DistanceKind}
 use Rattle.hypermath.specs.declared.DistanceKind.the-variants.{Unfit, Finite, PlusInfinity, MinusInfinity}
+use Rattle.space.specs.Chains.{Indexed}
 use Rattle.space.specs.Shared.{rowOf}
 use Rattle.space.proofs.Lent.{memory-holds, memory-sound-table, holds-memory}
 use Rattle.space.proofs.RowAdds.{readable-desk}
@@ -113,112 +114,145 @@ row-is d h l z =
     ap (λ (p : List Float). p ++ h .distance ∷ []) (four-is (h .normal) l)
     ∙ ap (λ (p : List Float). p ++ h .distance ∷ []) (sym (zeros-back d (h .normal) z) ∙ ap (λ (n : ℕ). take d (h .normal) ++ replicate (n - length (take d (h .normal))) plusZero) l)
 
+-- ---- the tests
+
+-- the table is sound, the root is in use, and the normal is a unit normal
+pub record TestsPassed (h : Hyperplane) (root : ℕ) (cs : List ℕ) (ps hs : List Float) (es : List ℕ) : Type 0 where
+  pub long : length (h .normal) ≡ 4
+  pub sound : soundMemory desk (memoryOf cs ps hs es) ≡ true
+  pub used : root < getD cs 1 0
+  pub isUnit : unitNormal (getD cs 0 0) (h .normal) ≡ true
+
+abbrev tableOf : List ℕ → List Float → List Float → List ℕ → Table
+tableOf cs ps hs es = decode desk (memoryOf cs ps hs es)
+
+module _ (cs : List ℕ) (ps hs : List Float) (es : List ℕ) (sound : soundMemory desk (memoryOf cs ps hs es) ≡ true) where
+  held : Holds desk cs ps hs es (tableOf cs ps hs es)
+  held = memory-holds desk readable-desk (memoryOf cs ps hs es) sound
+
+  pub counts-four : length cs ≡ 4
+  counts-four = slices held .counts
+
+  in-use : {root : ℕ} → root < getD cs 1 0 → root < elementCount (tableOf cs ps hs es)
+  in-use l = le-trans l (le-of-eq (slices held .elementCount))
+
+divider-is : (d : ℕ) (h : Hyperplane) → length (h .normal) ≡ 4 → (u : Bool) (k : DistanceKind) → unitNormal d (h .normal) ≡ u → distanceKind (h .distance) ≡ k
+    → dividerFits desk d h ≡ (u && fit k)
+unfolding dividerFits
+divider-is d h long u k p q =
+    ap (λ (b : Bool). ((b && unit (take d (h .normal))) && all (sameBits plusZero) (drop d (h .normal))) && distanceFits (h .distance)) (test-eq (length (h .normal)) 4 long)
+    ∙ (λ l. p l && (kind-fits (h .distance) ∙ ap fit q) l)
+
 -- ---- the reply
 
-module _ (h : Hyperplane) (i o : Bool) (root : ℕ) (cs : List ℕ) (ps hs : List Float) (es : List ℕ) (long : length (h .normal) ≡ 4) where
+-- what a cut replies by the three tests
+abbrev replyBy : Hyperplane → Bool → Bool → ℕ → Memory → Bool → Bool → Bool → CutReply × Memory
+replyBy h i o root m a b c =
+    if not a then (reply.Refused 3, m)
+    else if not b then (reply.Refused 4, m)
+    else if not c then (reply.Refused 5, m) else written desk m (cut desk (dividerOf (decode desk m .dimension) h) i o root (decode desk m))
+
+module _ (h : Hyperplane) (i o : Bool) (root : ℕ) (cs : List ℕ) (ps hs : List Float) (es : List ℕ) where
   abbrev m : Memory
   m = memoryOf cs ps hs es
 
   abbrev t : Table
   t = decode desk m
 
-  abbrev d : ℕ
-  d = t .dimension
-
-  divider-is : (u : Bool) (k : DistanceKind) → unitNormal d (h .normal) ≡ u → distanceKind (h .distance) ≡ k → dividerFits desk d h ≡ (u && fit k)
-  unfolding dividerFits
-  divider-is u k p q =
-      ap (λ (b : Bool). ((b && unit (take d (h .normal))) && all (sameBits plusZero) (drop d (h .normal))) && distanceFits (h .distance)) (test-eq (length (h .normal)) 4 long)
-      ∙ (λ l. p l && (kind-fits (h .distance) ∙ ap fit q) l)
-
-  by-tests : (a b c : Bool) → soundMemory desk m ≡ a → ltb root (elementCount t) ≡ b → dividerFits desk d h ≡ c
-      → (if not a then (reply.Refused 3, m) else if not b then (reply.Refused 4, m) else if not c then (reply.Refused 5, m) else written desk m (cut desk (dividerOf d h) i o root t)) ≡ cutReply desk h i o root m
+  by-tests : (a b c : Bool) → soundMemory desk m ≡ a → ltb root (elementCount t) ≡ b → dividerFits desk (t .dimension) h ≡ c → replyBy h i o root m a b c ≡ cutReply desk h i o root m
   unfolding cutReply
-  by-tests a b c p q r l =
-      if not (sym p l) then (reply.Refused 3, m) else if not (sym q l) then (reply.Refused 4, m) else if not (sym r l) then (reply.Refused 5, m) else written desk m (cut desk (dividerOf d h) i o root t)
+  by-tests a b c p q r l = replyBy h i o root m (sym p l) (sym q l) (sym r l)
 
   pub unsound : soundMemory desk m ≡ false → (reply.Refused 3, m) ≡ cutReply desk h i o root m
   unsound q = by-tests false _ _ q refl refl
 
   module _ (sound : soundMemory desk m ≡ true) where
-    holds : Holds desk cs ps hs es t
-    holds = memory-holds desk readable-desk m sound
+    pub unused : getD cs 1 0 ≤ root → (reply.Refused 4, m) ≡ cutReply desk h i o root m
+    unused l = by-tests true false _ sound (le-ltb root (elementCount t) (le-trans (le-of-eq (sym (slices (held cs ps hs es sound) .elementCount))) l)) refl
 
-    pub counts-four : length cs ≡ 4
-    counts-four = slices holds .counts
+    pub not-unit : length (h .normal) ≡ 4 → root < getD cs 1 0 → unitNormal (getD cs 0 0) (h .normal) ≡ false → (reply.Refused 5, m) ≡ cutReply desk h i o root m
+    not-unit long l q =
+        let same : getD cs 0 0 ≡ t .dimension = slices (held cs ps hs es sound) .dimension in
+        by-tests true true false sound (lt-ltb root (elementCount t) (in-use cs ps hs es sound l))
+        (divider-is (t .dimension) h long false _ (ap (λ (x : ℕ). unitNormal x (h .normal)) (sym same) ∙ q) refl)
 
-    pub unused : (n : ℕ) → n ≡ getD cs 1 0 → n ≤ root → (reply.Refused 4, m) ≡ cutReply desk h i o root m
-    unused n e l = by-tests true false _ sound (le-ltb root (elementCount t) (le-trans (le-of-eq (sym (e ∙ slices holds .elementCount))) l)) refl
+module _ {h : Hyperplane} {root : ℕ} {cs : List ℕ} {ps hs : List Float} {es : List ℕ} (P : TestsPassed h root cs ps hs es) where
+  abbrev table : Table
+  table = tableOf cs ps hs es
 
-    module _ (n : ℕ) (e : n ≡ getD cs 1 0) (l : root < n) where
-      used : root < elementCount t
-      used = le-trans l (le-of-eq (e ∙ slices holds .elementCount))
+  abbrev plane : Plane
+  plane = dividerOf (table .dimension) h
 
-      module _ (k : ℕ) (g : k ≡ getD cs 0 0) where
-        same-dimension : k ≡ d
-        same-dimension = g ∙ slices holds .dimension
+  holds : Holds desk cs ps hs es table
+  holds = held cs ps hs es (P .sound)
 
-        pub not-unit : unitNormal k (h .normal) ≡ false → (reply.Refused 5, m) ≡ cutReply desk h i o root m
-        not-unit q =
-            by-tests true true false sound (lt-ltb root (elementCount t) used) (divider-is false _ (ap (λ (x : ℕ). unitNormal x (h .normal)) (sym same-dimension) ∙ q) refl)
+  used-now : root < elementCount table
+  used-now = in-use cs ps hs es (P .sound) (P .used)
 
-        module _ (q : unitNormal k (h .normal) ≡ true) where
-          unit-now : unitNormal d (h .normal) ≡ true
-          unit-now = ap (λ (x : ℕ). unitNormal x (h .normal)) (sym same-dimension) ∙ q
+  unit-now : unitNormal (table .dimension) (h .normal) ≡ true
+  unit-now = ap (λ (x : ℕ). unitNormal x (h .normal)) (sym (slices holds .dimension)) ∙ P .isUnit
 
-          pub unfit : distanceKind (h .distance) ≡ Unfit → (reply.Refused 5, m) ≡ cutReply desk h i o root m
-          unfit z = by-tests true true false sound (lt-ltb root (elementCount t) used) (divider-is true Unfit unit-now z)
+  -- by the kind of the distance
+  by-kind : (i o : Bool) (k : DistanceKind) → distanceKind (h .distance) ≡ k
+      → replyBy h i o root (memoryOf cs ps hs es) true true (fit k) ≡ cutReply desk h i o root (memoryOf cs ps hs es)
+  by-kind i o k z =
+      by-tests h i o root cs ps hs es true true (fit k) (P .sound) (lt-ltb root (elementCount table) used-now) (divider-is (table .dimension) h (P .long) true k unit-now z)
 
-          goes : fit (distanceKind (h .distance)) ≡ true → written desk m (cutAtDistance desk (dividerOf d h) (h .distance) i o root t) ≡ cutReply desk h i o root m
-          unfolding cut
-          goes z = by-tests true true true sound (lt-ltb root (elementCount t) used) (divider-is true _ unit-now refl ∙ z)
+  pub unfit : (i o : Bool) → distanceKind (h .distance) ≡ Unfit → (reply.Refused 5, memoryOf cs ps hs es) ≡ cutReply desk h i o root (memoryOf cs ps hs es)
+  unfit i o z = by-kind i o Unfit z
 
-          -- rule 1
-          pub all-inside : distanceKind (h .distance) ≡ PlusInfinity → (reply.Answered (NonFlush (given root) None None), m) ≡ cutReply desk h i o root m
-          all-inside z =
-              (λ j. (reply.Answered (NonFlush (given root) None None), holds-memory desk readable-desk holds j))
-              ∙ ap (λ (x : Float). written desk m (cutAtDistance desk (dividerOf d h) x i o root t)) (sym (plus-is (h .distance) z)) ∙ goes (ap fit z)
+  goes : (i o : Bool) → fit (distanceKind (h .distance)) ≡ true
+      → written desk (memoryOf cs ps hs es) (cutAtDistance desk plane (h .distance) i o root table) ≡ cutReply desk h i o root (memoryOf cs ps hs es)
+  unfolding cut
+  goes i o z = ap (replyBy h i o root (memoryOf cs ps hs es) true true) (sym z) ∙ by-kind i o _ refl
 
-          pub all-outside : distanceKind (h .distance) ≡ MinusInfinity → (reply.Answered (NonFlush None (given root) None), m) ≡ cutReply desk h i o root m
-          all-outside z =
-              (λ j. (reply.Answered (NonFlush None (given root) None), holds-memory desk readable-desk holds j))
-              ∙ ap (λ (x : Float). written desk m (cutAtDistance desk (dividerOf d h) x i o root t)) (sym (minus-is (h .distance) z)) ∙ goes (ap fit z)
+  -- rule 1
+  infinite : (i o : Bool) (x : Float) → h .distance ≡ x → fit (distanceKind (h .distance)) ≡ true
+      → written desk (memoryOf cs ps hs es) (cutAtDistance desk plane x i o root table) ≡ cutReply desk h i o root (memoryOf cs ps hs es)
+  infinite i o x e z = ap (λ (x : Float). written desk (memoryOf cs ps hs es) (cutAtDistance desk plane x i o root table)) (sym e) ∙ goes i o z
 
-          module _ (z : distanceKind (h .distance) ≡ Finite) where
-            cut-fit : CutFit cs ps hs es h root t
-            unfolding soundPlane
-            cut-fit =
-                let s = memory-sound-table desk readable-desk m sound in
-                let low : d ≤ 4 = le-test d 4 (sound-good desk t s .high) in
-                let units = and-left (unit (take d (h .normal))) (all (sameBits plusZero) (drop d (h .normal))) unit-now in
-                record {
-                  holds = holds;
-                  sound = s;
-                  used = used;
-                  plane =
-                      and-true _ _ (and-true _ _ (test-eq (length (take d (h .normal))) d (length-take-le d (h .normal) (le-trans low (le-of-eq (sym long))))) units)
-                      (finite-within (h .distance) z);
-                  row = row-is d h long (and-right (unit (take d (h .normal))) (all (sameBits plusZero) (drop d (h .normal))) unit-now);
-                }
+  pub all-inside : (i o : Bool) → distanceKind (h .distance) ≡ PlusInfinity
+      → (reply.Answered (NonFlush (given root) None None), memoryOf cs ps hs es) ≡ cutReply desk h i o root (memoryOf cs ps hs es)
+  all-inside i o z =
+      (λ j. (reply.Answered (NonFlush (given root) None None), holds-memory desk readable-desk holds j)) ∙ infinite i o (inf false) (plus-is (h .distance) z) (ap fit z)
 
-            pub cut-ready : CutReady cs ps hs es h root
-            cut-ready = record { table = t; fit = cut-fit }
+  pub all-outside : (i o : Bool) → distanceKind (h .distance) ≡ MinusInfinity
+      → (reply.Answered (NonFlush None (given root) None), memoryOf cs ps hs es) ≡ cutReply desk h i o root (memoryOf cs ps hs es)
+  all-outside i o z =
+      (λ j. (reply.Answered (NonFlush None (given root) None), holds-memory desk readable-desk holds j)) ∙ infinite i o (inf true) (minus-is (h .distance) z) (ap fit z)
 
-            by-finite : (x : Float) → distanceKind x ≡ Finite → cutFinite desk (dividerOf d h) i o root t ≡ cutAtDistance desk (dividerOf d h) x i o root t
-            unfolding distanceKind
-            by-finite nan w = refl
-            by-finite (inf false) w = absurd (let e = ap code w in let y : ⊥ = omega (arith, e) in y)
-            by-finite (inf true) w = absurd (let e = ap code w in let y : ⊥ = omega (arith, e) in y)
-            by-finite (fin s a b) w = refl
+  -- the rules from 2 on
+  module _ (z : distanceKind (h .distance) ≡ Finite) where
+    cut-fit : CutFit cs ps hs es h root table
+    unfolding soundPlane
+    cut-fit =
+        let d = table .dimension in
+        let s = memory-sound-table desk readable-desk (memoryOf cs ps hs es) (P .sound) in
+        let low : d ≤ 4 = le-test d 4 (sound-good desk table s .high) in
+        let units = and-left (unit (take d (h .normal))) (all (sameBits plusZero) (drop d (h .normal))) unit-now in
+        record {
+          holds = holds;
+          sound = s;
+          used = used-now;
+          plane =
+              and-true _ _ (and-true _ _ (test-eq (length (take d (h .normal))) d (length-take-le d (h .normal) (le-trans low (le-of-eq (sym (P .long)))))) units)
+              (finite-within (h .distance) z);
+          row = row-is d h (P .long) (and-right (unit (take d (h .normal))) (all (sameBits plusZero) (drop d (h .normal))) unit-now);
+        }
 
-            replied : {r : CutReply} {cs′ : List ℕ} {ps′ hs′ : List Float} {es′ : List ℕ} → WholeCut cs ps hs es h i o root r cs′ ps′ hs′ es′
-                → (r, memoryOf cs′ ps′ hs′ es′) ≡ cutReply desk h i o root m
-            replied W = W .of t cut-fit ∙ ap (written desk m) (by-finite (h .distance) z) ∙ goes (ap fit z)
+    pub cut-ready : {ix : List ℕ} → Indexed es (getD cs 1 0) ix → CutReady cs ps hs es ix h root
+    cut-ready X = record { table = table; fit = cut-fit; indexed = X }
 
--- the same where the sides are told by their fates
-pub replied-as : (h : Hyperplane) (i o : Bool) (root : ℕ) (cs : List ℕ) (ps hs : List Float) (es : List ℕ) (long : length (h .normal) ≡ 4) (sound : soundMemory desk (memoryOf cs ps hs es) ≡ true)
-    (n : ℕ) (e : n ≡ getD cs 1 0) (l : root < n) (k : ℕ) (g : k ≡ getD cs 0 0) (q : unitNormal k (h .normal) ≡ true) (z : distanceKind (h .distance) ≡ Finite)
-    {a b : Bool} → a ≡ i → b ≡ o → {r : CutReply} {cs′ : List ℕ} {ps′ hs′ : List Float} {es′ : List ℕ} → WholeCut cs ps hs es h a b root r cs′ ps′ hs′ es′
-    → (r, memoryOf cs′ ps′ hs′ es′) ≡ cutReply desk h i o root (memoryOf cs ps hs es)
-replied-as h i o root cs ps hs es long sound n e l k g q z {a} {b} ea eb W =
-    replied h a b root cs ps hs es long sound n e l k g q z W ∙ ap₂ (λ (x y : Bool). cutReply desk h x y root (memoryOf cs ps hs es)) ea eb
+    by-finite : (i o : Bool) (x : Float) → distanceKind x ≡ Finite → cutFinite desk plane i o root table ≡ cutAtDistance desk plane x i o root table
+    unfolding distanceKind
+    by-finite i o nan w = refl
+    by-finite i o (inf false) w = absurd (let e = ap code w in let y : ⊥ = omega (arith, e) in y)
+    by-finite i o (inf true) w = absurd (let e = ap code w in let y : ⊥ = omega (arith, e) in y)
+    by-finite i o (fin s a b) w = refl
+
+    -- with the sides as their fates tell
+    pub replied : {i o a b : Bool} → a ≡ i → b ≡ o → {r : CutReply} {cs′ : List ℕ} {ps′ hs′ : List Float} {es′ : List ℕ} → WholeCut cs ps hs es h a b root r cs′ ps′ hs′ es′
+        → (r, memoryOf cs′ ps′ hs′ es′) ≡ cutReply desk h i o root (memoryOf cs ps hs es)
+    replied {a = a} {b} ea eb W =
+        W .of table cut-fit ∙ ap (written desk (memoryOf cs ps hs es)) (by-finite a b (h .distance) z) ∙ goes a b (ap fit z)
+        ∙ ap₂ (λ (x y : Bool). cutReply desk h x y root (memoryOf cs ps hs es)) ea eb

@@ -6,7 +6,7 @@ use mathlib.Core.List.{List, [], _∷_}
 use native.Mathlib.Nat.{le-trans}
 use native.Mathlib.Omega.{arith}
 use lib.Dec.{eqb}
-use lib.ListN.{length, replicate, length-replicate}
+use lib.ListN.{length, getD, replicate, length-replicate}
 use lib.Ieee.{Float}
 use Rattle.rules.specs.Limits.{desk}
 use Rattle.rules.specs.Table.{Table, Element, elementCount, rank}
@@ -27,11 +27,12 @@ use Rattle.rules.proofs.Good.{Good, sound-good}
 use Rattle.rules.proofs.Later.{Later, Replays, same}
 use Rattle.rules.proofs.Laws.{eq-test, test-eq}
 use Rattle.rules.proofs.Repeat.{cut-any, rule6-later}
+use Rattle.space.specs.Chains.{Indexed}
 use Rattle.gathered.specs.Sets.{InRoom, OutputInRoom}
 use Rattle.gathered.specs.Cutting.{cutOf, Fit}
-use Rattle.gathered.specs.declared.answer.Cutter.{Cutter}
+use Rattle.rules.specs.declared.Cutter.{Cutter}
 use Rattle.ends.specs.Elements.{Ready, ElementCut}
-use Rattle.cut.specs.Known.{knownAt, outputAt, withAnswer, withReply, ReplyInRoom, askedBy, replyOf, Knows, HoldsKnown}
+use Rattle.cut.specs.Known.{knownAt, outputAt, withAnswer, withReply, ReplyInRoom, askedBy, KeepReady, ReplyKept, replyOf, Repeats, Knows, HoldsKnown}
 use Rattle.cut.specs.Rounds.{AskReady, ElementAsked}
 use Rattle.cut.specs.declared.known.Asked.{Asked}
 use Rattle.cut.specs.declared.known.Asked.the-variants as asked
@@ -39,13 +40,9 @@ use Rattle.cut.proofs.Words.{zeros-unknown, kept-long, kept-same, kept-
 
 -- nothing is known at first
 pub knows-nothing : (k : Cutter) (t : Table) → Knows k (replicate 1536 0) t
-knows-nothing k t = record { long = length-replicate {A = ℕ} 1536 0; of = λ e h p. absurd (true≢false (sym p ∙ zeros-unknown 1536 e)) }
+knows-nothing k t = record { long = length-replicate {A = ℕ} 1536 0; of = λ e h p. absurd (true≢false (sym p ∙ zeros-unknown e h)) }
 
 -- ---- an element that was asked
-
--- asking element j in table u gives that answer, and adds nothing
-abbrev Told : Cutter → Table → ElementCutOutput → ℕ → Type 0
-Told k u a j = (j < elementCount u) × (cutElement desk (cutOf (u .dimension) k) (rank u j) j u ≡ done a u)
 
 module _ (k : Cutter) (e : ℕ) (a : ElementCutOutput) {t u : Table} (g : Good desk t) (l : e < elementCount t) (o : cutElement desk (cutOf (t .dimension) k) (rank t e) e t ≡ done a u) where
   replays : Replays same OutputIn t (cutElement desk (cutOf (t .dimension) k) (rank t e) e) a u
@@ -55,10 +52,13 @@ module _ (k : Cutter) (e : ℕ) (a : ElementCutOutput) {t u : Table} (g : Good d
   asked-extends = replays .extends
 
   -- asked again, in any later table
-  pub asked-again : {v : Table} → Extends u v → Told k v a e
+  pub asked-again : {v : Table} → Extends u v → Repeats k v a e
   asked-again {v} x =
       let y : Extends t v = extends-trans (replays .extends) x in
-      (le-trans l (count-more y), ap₂ (λ (d n : ℕ). cutElement desk (cutOf d k) n e v) (y .dimension) (rank-same t v e y l) ∙ replays .replay v x)
+      record {
+        used = le-trans l (count-more y);
+        again = ap₂ (λ (d n : ℕ). cutElement desk (cutOf d k) n e v) (y .dimension) (rank-same t v e y l) ∙ replays .replay v x;
+      }
 
   -- what the answer names is within the room
   pub asked-room : elementCount u ≤ 512 → OutputInRoom a
@@ -79,16 +79,16 @@ module _ (k : Cutter) (e : ℕ) (a : ElementCutOutput) {t u : Table} (g : Good d
       there : outputAt (withAnswer ms e a) e ≡ a
       there = kept-same ms e a (let long = K .long in omega (arith, low, long))
 
-      go : (j : ℕ) → j < 512 → knownAt (withAnswer ms e a) j ≡ true → (c : Bool) → eqb j e ≡ c → Told k u (outputAt (withAnswer ms e a) j) j
+      go : (j : ℕ) → j < 512 → knownAt (withAnswer ms e a) j ≡ true → (c : Bool) → eqb j e ≡ c → Repeats k u (outputAt (withAnswer ms e a) j) j
       go j h q true p =
-          subst (λ (i : ℕ). Told k u (outputAt (withAnswer ms e a) i) i) (sym (eq-test j e p)) (subst (λ (y : ElementCutOutput). Told k u y e) (sym there) (asked-again (extends-refl u)))
+          subst (λ (i : ℕ). Repeats k u (outputAt (withAnswer ms e a) i) i) (sym (eq-test j e p)) (subst (λ (y : ElementCutOutput). Repeats k u y e) (sym there) (asked-again (extends-refl u)))
       go j h q false p =
           let other : j ≡ e → ⊥ = λ i. true≢false (sym (test-eq j e i) ∙ p) in
-          subst (λ (y : ElementCutOutput). Told k u y j) (sym (kept-other ms e a j other)) (K .of j h (sym (kept-other-known ms e a j other) ∙ q))
+          subst (λ (y : ElementCutOutput). Repeats k u y j) (sym (kept-other ms e a j other)) (K .of j h (sym (kept-other-known ms e a j other) ∙ q))
 
 -- what is known stays known
 pub knows-later : {k : Cutter} {ms : List ℕ} {t u : Table} → Good desk t → Extends t u → Knows k ms t → Knows k ms u
-knows-later {k} {ms} {t} {u} g x K = record { long = K .long; of = λ e h q. asked-again k e (outputAt ms e) g (K .of e h q .0) (K .of e h q .1) x }
+knows-later {k} {ms} {t} {u} g x K = record { long = K .long; of = λ e h q. asked-again k e (outputAt ms e) g (K .of e h q .used) (K .of e h q .again) x }
 
 -- ---- rule 6 only adds
 
@@ -119,70 +119,63 @@ module _ {cs : List ℕ} {ps hs : List Float} {es : List ℕ} {r e : ℕ} {k : C
   ranked-cut o = ap (λ (n : ℕ). cutElement desk (cutOf (t .dimension) k) n e t) (F .ranked) ∙ o
 
   -- it is within the room
-  pub reply-in-room : {H : Table → Type 0} {x : CutReply} → ((u : Table) → H u → elementCount u ≤ 512) → Came reply.Answered reply.Refused H t (cutElement desk (cutOf (t .dimension) k) r e t) x → ReplyInRoom x
+  pub reply-in-room : {H : Table → Type 0} {x : CutReply} → ((u : Table) → H u → elementCount u ≤ 512)
+      → Came reply.Answered reply.Refused H t (cutElement desk (cutOf (t .dimension) k) r e t) x → ReplyInRoom x
   reply-in-room m (held.went a u o w H) = subst ReplyInRoom (sym w) (asked-room k e a (sound-good desk t (F .sound)) (F .used) (ranked-cut o) (m u H))
   reply-in-room m (held.stopped n u o w y H) = subst ReplyInRoom (sym w) tt
 
   -- the words after an answer
-  pub kept-went : {u : Table} {a : ElementCutOutput} {ms ms′ : List ℕ} {x : CutReply} → cutElement desk (cutOf (t .dimension) k) r e t ≡ done a u
-      → Knows k ms u → x ≡ reply.Answered a → ms′ ≡ withReply ms e x → Knows k ms′ u
-  kept-went {u} {a} {ms} o K w q =
-      subst (λ (m : List ℕ). Knows k m u) (sym (q ∙ ap (withReply ms e) w))
+  pub kept-went : {u : Table} {a : ElementCutOutput} {ms ms′ : List ℕ} {x : CutReply} {y : Asked} → cutElement desk (cutOf (t .dimension) k) r e t ≡ done a u
+      → Knows k ms u → x ≡ reply.Answered a → ReplyKept ms e x y ms′ → Knows k ms′ u
+  kept-went {u} {a} {ms} o K w N =
+      subst (λ (m : List ℕ). Knows k m u) (sym (N .words ∙ ap (withReply ms e) w))
       (knows-more k e a (sound-good desk t (F .sound)) (F .used) (ranked-cut o) (le-trans (F .used) (F .holds .fits .elementRoom)) K)
 
   -- the words say the answer
-  pub replied-answer : {a : ElementCutOutput} {x : CutReply} {y : Asked} (ms ms′ : List ℕ) → length ms ≡ 1536 → y ≡ askedBy x → x ≡ reply.Answered a → ms′ ≡ withReply ms e x → replyOf y ms′ e ≡ reply.Answered a
-  replied-answer {a} ms ms′ long p w q =
+  pub replied-answer : {a : ElementCutOutput} {x : CutReply} {y : Asked} {ms ms′ : List ℕ} → length ms ≡ 1536 → ReplyKept ms e x y ms′ → x ≡ reply.Answered a
+      → replyOf y ms′ e ≡ reply.Answered a
+  replied-answer {a} {ms = ms} long N w =
       let low = le-trans (F .used) (F .holds .fits .elementRoom) in
-      ap₂ (λ (z : Asked) (m : List ℕ). replyOf z m e) (p ∙ ap askedBy w) (q ∙ ap (withReply ms e) w) ∙ ap reply.Answered (kept-same ms e a (omega (arith, low, long)))
-
-pub replied-refusal : (e : ℕ) (ms′ : List ℕ) {n : ℕ} {x : CutReply} {y : Asked} → y ≡ askedBy x → x ≡ reply.Refused n → replyOf y ms′ e ≡ reply.Refused n
-replied-refusal e ms′ p w = ap (λ (z : Asked). replyOf z ms′ e) (p ∙ ap askedBy w)
+      ap₂ (λ (z : Asked) (m : List ℕ). replyOf z m e) (N .asked ∙ ap askedBy w) (N .words ∙ ap (withReply ms e) w) ∙ ap reply.Answered (kept-same ms e a (omega (arith, low, long)))
 
 -- and after a refusal
-pub kept-stopped : {k : Cutter} (e : ℕ) {u : Table} {n : ℕ} {ms ms′ : List ℕ} {x : CutReply} → Knows k ms u → x ≡ reply.Refused n → ms′ ≡ withReply ms e x → Knows k ms′ u
-kept-stopped {k} e {u} {n} {ms} K w q = subst (λ (m : List ℕ). Knows k m u) (sym (q ∙ ap (withReply ms e) w)) K
+pub replied-refusal : {e n : ℕ} {x : CutReply} {y : Asked} {ms ms′ : List ℕ} → ReplyKept ms e x y ms′ → x ≡ reply.Refused n → replyOf y ms′ e ≡ reply.Refused n
+replied-refusal {e} {ms′ = ms′} N w = ap (λ (z : Asked). replyOf z ms′ e) (N .asked ∙ ap askedBy w)
+
+pub kept-stopped : {k : Cutter} {u : Table} {e n : ℕ} {x : CutReply} {y : Asked} {ms ms′ : List ℕ} → Knows k ms u → x ≡ reply.Refused n → ReplyKept ms e x y ms′ → Knows k ms′ u
+kept-stopped {k} {u} {e} {ms = ms} K w N = subst (λ (m : List ℕ). Knows k m u) (sym (N .words ∙ ap (withReply ms e) w)) K
 
 -- ---- what the code needs
 
 module _ {cs : List ℕ} {ps : List Float} {es ms : List ℕ} {r e : ℕ} {k : Cutter} where
-  pub ask-ready : AskReady cs ps es ms r e k → Ready cs ps es r e k
+  pub ask-ready : {ix : List ℕ} → AskReady cs ps es ix ms r e k → Ready cs ps es r e k
   ask-ready R = record { planes = R .planes; table = R .table; fit = R .fit }
 
-  pub ask-words : AskReady cs ps es ms r e k → length ms ≡ 1536
-  ask-words R = R .knows .long
-
-  pub ask-low : AskReady cs ps es ms r e k → e < 512
+  pub ask-low : {ix : List ℕ} → AskReady cs ps es ix ms r e k → e < 512
   ask-low R = le-trans (R .fit .used) (R .fit .holds .fits .elementRoom)
 
   -- a known answer is the answer
-  pub known-asked : (y : Bool) → e < 512 → y ≡ knownAt ms e → y ≡ true → ElementAsked cs ps es ms r e k asked.Done cs ps es ms
-  known-asked y low p q = record {
+  pub known-asked : {ix : List ℕ} (y : Bool) → AskReady cs ps es ix ms r e k → y ≡ knownAt ms e → y ≡ true → ElementAsked cs ps es ms r e k asked.Done cs ps es ix ms
+  known-asked y R p q = record {
     of = λ hs t F K.
-        held.went (outputAt ms e) t (ap (λ (n : ℕ). cutElement desk (cutOf (t .dimension) k) n e t) (sym (F .ranked)) ∙ K .of e low (sym p ∙ q) .1) refl (record { holds = F .holds; knows = K });
+        held.went (outputAt ms e) t (ap (λ (n : ℕ). cutElement desk (cutOf (t .dimension) k) n e t) (sym (F .ranked)) ∙ K .of e (ask-low R) (sym p ∙ q) .again) refl
+        (record { holds = F .holds; knows = K });
+    indexed = R .indexed;
   }
-
-  -- the words are as many after it
-  pub asked-words : {x : Asked} {cs′ : List ℕ} {ps′ : List Float} {es′ ms′ : List ℕ} → AskReady cs ps es ms r e k → ElementAsked cs ps es ms r e k x cs′ ps′ es′ ms′ → length ms′ ≡ 1536
-  asked-words {x} {cs′} {ps′} {es′} {ms′} R C = go (C .of (R .planes) (R .table) (R .fit) (R .knows))
-    where
-      go : Came reply.Answered reply.Refused (HoldsKnown cs′ ps′ (R .planes) es′ ms′ k) (R .table) (cutElement desk (cutOf (R .table .dimension) k) r e (R .table)) (replyOf x ms′ e) → length ms′ ≡ 1536
-      go (held.went a u o w H) = H .knows .long
-      go (held.stopped n u o w y H) = H .knows .long
 
   -- a vertex element or an edge
   module _ {x : CutReply} {cs′ : List ℕ} {ps′ : List Float} {es′ : List ℕ} (C : ElementCut cs ps es r e k x cs′ ps′ es′) where
-    pub low-room : AskReady cs ps es ms r e k → ReplyInRoom x
-    low-room R = reply-in-room (R .fit) (λ u H. H .fits .elementRoom) (C .of (R .planes) (R .table) (R .fit))
+    pub low-keep : {ix : List ℕ} → AskReady cs ps es ix ms r e k → KeepReady e x
+    low-keep R = record { low = ask-low R; room = reply-in-room (R .fit) (λ u H. H .fits .elementRoom) (C .of (R .planes) (R .table) (R .fit)) }
 
-    pub low-asked : {y : Asked} {ms′ : List ℕ} → y ≡ askedBy x → ms′ ≡ withReply ms e x → ElementAsked cs ps es ms r e k y cs′ ps′ es′ ms′
-    low-asked {y} {ms′} p q = record { of = λ hs t F K. go hs t F K (C .of hs t F) }
+    pub low-asked : {ix′ : List ℕ} {y : Asked} {ms′ : List ℕ} → Indexed es′ (getD cs′ 1 0) ix′ → ReplyKept ms e x y ms′ → ElementAsked cs ps es ms r e k y cs′ ps′ es′ ix′ ms′
+    low-asked {ix′} {y} {ms′} X N = record { of = λ hs t F K. go hs t F K (C .of hs t F); indexed = X }
       where
         go : (hs : List Float) (t : Table) → Fit cs ps hs es r e k t → Knows k ms t
             → Came reply.Answered reply.Refused (Holds desk cs′ ps′ hs es′) t (cutElement desk (cutOf (t .dimension) k) r e t) x
             → Came reply.Answered reply.Refused (HoldsKnown cs′ ps′ hs es′ ms′ k) t (cutElement desk (cutOf (t .dimension) k) r e t) (replyOf y ms′ e)
         go hs t F K (held.went a u o w H) =
             let g = sound-good desk t (F .sound) in
-            held.went a u o (replied-answer F ms ms′ (K .long) p w q) (record { holds = H; knows = kept-went F o (knows-later g (asked-extends k e a g (F .used) (ranked-cut F o)) K) w q })
+            held.went a u o (replied-answer F (K .long) N w) (record { holds = H; knows = kept-went F o (knows-later g (asked-extends k e a g (F .used) (ranked-cut F o)) K) w N })
         go hs t F K (held.stopped n u o w z H) =
-            held.stopped n u o (replied-refusal e ms′ p w) z (record { holds = H; knows = kept-stopped e (knows-later (sound-good desk t (F .sound)) z K) w q })
+            held.stopped n u o (replied-refusal N w) z (record { holds = H; knows = kept-stopped (knows-later (sound-good desk t (F .sound)) z K) w N })

@@ -1,5 +1,5 @@
 -- The whole cut: the hyperplane's step, then the root's; a refusal of either gives back the memory, since all that was done is to append.
-use Prim.Native.Nat.{ℕ, _*_, _≤_, _<_}
+use Prim.Native.Nat.{ℕ, _*_, _<_}
 use mathlib.Core.Path.{_≡_, sym, ap, ap₂, _∙_, subst}
 use mathlib.Core.Bool.{Bool}
 use mathlib.Core.List.{List}
@@ -25,15 +25,17 @@ use Rattle.rules.proofs.Laws.{le-test}
 use Rattle.rules.proofs.Missed.{Unmoved, plane-unmoved}
 use Rattle.rules.proofs.Stays.{Stays, Kept, plane-stays}
 use Rattle.space.specs.Shared.{HyperplaneAdded, hyperplaneAt}
+use Rattle.space.specs.Ready.{HyperplaneReady, RestoreReady}
 use Rattle.space.specs.Restored.{Restored}
 use Rattle.space.specs.declared.memo.PlacedHyperplane.{PlacedHyperplane}
 use Rattle.space.specs.declared.memo.PlacedHyperplane.the-variants as hyperplane
+use Rattle.space.proofs.Indexing.{index-count}
 use Rattle.space.proofs.Lent.{holds-memory}
 use Rattle.space.proofs.Room.{rank-word}
 use Rattle.space.proofs.RowAdds.{readable-desk}
 use Rattle.space.proofs.Slices.{slices}
 use Rattle.gathered.specs.Cutting.{Fit, cutOf}
-use Rattle.gathered.specs.declared.answer.Cutter.{Cutter}
+use Rattle.rules.specs.declared.Cutter.{Cutter}
 use Rattle.cut.specs.Known.{HoldsKnown, outputAt, replyOf}
 use Rattle.cut.specs.declared.known.Asked.{Asked}
 use Rattle.cut.specs.declared.known.Asked.the-variants as asked
@@ -42,14 +44,6 @@ use Rattle.cut.specs.Whole.{CutFit, CutReady, CutTried, WholeCut}
 use Rattle.cut.proofs.StaysKnown.{knows-nothing}
 
 -- ---- the hyperplane, then the root
-
-abbrev numberOf : PlacedHyperplane → ℕ
-numberOf (hyperplane.Refused n) = n
-numberOf (hyperplane.At n) = n .0
-
-abbrev isRefused : PlacedHyperplane → ℕ
-isRefused (hyperplane.Refused n) = 1
-isRefused (hyperplane.At n) = 0
 
 -- a hyperplane adds no element
 plane-count : (g : Plane) (t u : Table) (v : ℕ) → addPlane desk g t ≡ done v u → elementCount u ≡ elementCount t
@@ -71,14 +65,20 @@ abbrev cutter : Hyperplane → HyperplaneId → Bool → Bool → Cutter
 cutter h v i o = record { divider = h; number = v; «keep_inside» = i; «keep_outside» = o }
 
 module _ {cs : List ℕ} {ps hs : List Float} {es : List ℕ} {h : Hyperplane} {root : ℕ} where
-  pub counts-ready : CutReady cs ps hs es h root → length cs ≡ 4
+  pub counts-ready : {ix : List ℕ} → CutReady cs ps hs es ix h root → length cs ≡ 4
   counts-ready R = slices (R .fit .holds) .counts
 
-  pub plane-asked : CutReady cs ps hs es h root → (length cs ≡ 4) × (length hs ≡ 320) × (getD cs 0 0 ≤ 4) × (getD cs 3 0 ≤ 64)
+  pub plane-asked : {ix : List ℕ} → CutReady cs ps hs es ix h root → HyperplaneReady cs hs
   plane-asked R =
       let s = slices (R .fit .holds) in
       let g = sound-good desk (R .table) (R .fit .sound) in
-      (s .counts, s .planes, le-trans (le-of-eq (s .dimension)) (le-test (R .table .dimension) 4 (g .high)), s .planesFit)
+      record { counts = s .counts; planes = s .planes; dimension = le-trans (le-of-eq (s .dimension)) (le-test (R .table .dimension) 4 (g .high)); room = s .planesFit }
+
+  pub root-low : {ix : List ℕ} → CutReady cs ps hs es ix h root → root < 512
+  root-low R = le-trans (R .fit .used) (R .fit .holds .fits .elementRoom)
+
+  pub rank-asked : {ix : List ℕ} → CutReady cs ps hs es ix h root → (length es ≡ 18432) × (root < 512)
+  rank-asked R = (slices (R .fit .holds) .elements, root-low R)
 
   module _ {x : PlacedHyperplane} {cs₁ : List ℕ} {hs₁ : List Float} (P : HyperplaneAdded cs hs h x cs₁ hs₁) where
     added : {t : Table} → CutFit cs ps hs es h root t → Added ps es h x cs₁ hs₁ t
@@ -89,9 +89,9 @@ module _ {cs : List ℕ} {ps hs : List Float} {es : List ℕ} {h : Hyperplane} {
     plane-refused i o n q = record { of = λ t F. go t (added F) }
       where
         go : (t : Table) → Added ps es h x cs₁ hs₁ t → Came reply.Answered reply.Refused (Holds desk cs₁ ps hs₁ es) t (cutFinite desk (dividerOf (t .dimension) h) i o root t) (reply.Refused n)
-        go t (held.went j u m w H) = let z : _≡_ {A = ℕ} 1 0 = sym (ap isRefused q) ∙ ap isRefused w in absurd (omega (arith, z))
+        go t (held.went j u m w H) = let z : _≡_ {A = ℕ} 0 1 = cc in absurd (omega arith)
         go t (held.stopped j u m w y H) =
-            let z : n ≡ j = sym (ap numberOf q) ∙ ap numberOf w in
+            let z : n ≡ j = cc in
             held.stopped j u
             (ap (λ (p : Outcome ℕ). next p (λ v l. cutElement desk (record { divider = dividerOf (t .dimension) h; number = v; keepInside = i; keepOutside = o }) (rank l root) root l)) m)
             (ap reply.Refused z) y H
@@ -102,16 +102,14 @@ module _ {cs : List ℕ} {ps hs : List Float} {es : List ℕ} {h : Hyperplane} {
       named {t} F = go (added F)
         where
           go : Added ps es h x cs₁ hs₁ t → Named ps es h cs₁ hs₁ (v .0) t
-          go (held.stopped j u m w y H) = let z : _≡_ {A = ℕ} 0 1 = sym (ap isRefused q) ∙ ap isRefused w in absurd (omega (arith, z))
+          go (held.stopped j u m w y H) = let z : _≡_ {A = ℕ} 0 1 = cc in absurd (omega arith)
           go (held.went j u m w H) =
-              let z : j ≡ v .0 = sym (ap numberOf w) ∙ ap numberOf q in
+              let same : _≡_ {A = HyperplaneId} (record { 0 = j }) v = cc in
+              let z : j ≡ v .0 = ap (λ (n : HyperplaneId). n .0) same in
               let m′ : addPlane desk (dividerOf (t .dimension) h) t ≡ done (v .0) u = m ∙ ap (λ (n : ℕ). done n u) z in
               let K : Kept desk (λ (n : ℕ) (s : Table). n < length (s .planes)) t (v .0) u =
               subst (Stays desk (λ (n : ℕ) (s : Table). n < length (s .planes)) t) m′ (plane-stays desk t (sound-good desk t (F .sound)) (dividerOf (t .dimension) h) (F .plane)) in
               record { table = u; ended = m′; extends = K .extends; good = K .good; numbered = K .value; holds = H }
-
-      pub rank-asked : CutReady cs ps hs es h root → (length es ≡ 18432) × (root < 512)
-      rank-asked R = (slices (R .fit .holds) .elements, le-trans (R .fit .used) (R .fit .holds .fits .elementRoom))
 
       module _ (r : ℕ) (read : r ≡ getD es (root * 36) 0) (i o : Bool) where
         root-fit : {t : Table} → (F : CutFit cs ps hs es h root t) → Fit cs₁ ps hs₁ es r root (cutter h v i o) (named F .table)
@@ -126,18 +124,26 @@ module _ {cs : List ℕ} {ps hs : List Float} {es : List ℕ} {h : Hyperplane} {
               ranked = sym (read ∙ ap (λ (l : List ℕ). getD l (root * 36) 0) (A .holds .elements) ∙ rank-word desk (A .table) (A .holds .fits) root used);
             }
 
-        pub count-same : CutReady cs ps hs es h root → getD cs 1 0 ≡ getD cs₁ 1 0
+        -- the index is still of the rows
+        count-same : {ix : List ℕ} → CutReady cs ps hs es ix h root → getD cs 1 0 ≡ getD cs₁ 1 0
         count-same R =
             let A = named (R .fit) in
-            slices (R .fit .holds) .elementCount ∙ sym (plane-count (dividerOf (R .table .dimension) h) (R .table) (A .table) (v .0) (A .ended)) ∙ sym (slices (A .holds) .elementCount)
+            slices (R .fit .holds) .elementCount ∙ sym (plane-count (dividerOf (R .table .dimension) h) (R .table) (A .table) (v .0) (A .ended))
+            ∙ sym (slices (A .holds) .elementCount)
 
         -- nothing is known yet
-        pub root-ready : CutReady cs ps hs es h root → AskReady cs₁ ps es (replicate 1536 0) r root (cutter h v i o)
-        root-ready R = record { planes = hs₁; table = named (R .fit) .table; fit = root-fit (R .fit); knows = knows-nothing (cutter h v i o) (named (R .fit) .table) }
+        pub root-ready : {ix : List ℕ} → CutReady cs ps hs es ix h root → AskReady cs₁ ps es ix (replicate 1536 0) r root (cutter h v i o)
+        root-ready R = record {
+          planes = hs₁;
+          table = named (R .fit) .table;
+          fit = root-fit (R .fit);
+          knows = knows-nothing (cutter h v i o) (named (R .fit) .table);
+          indexed = index-count _ _ _ _ (count-same R) (R .indexed);
+        }
 
-        pub root-cut : {x : Asked} {cs₂ : List ℕ} {ps₂ : List Float} {es₂ ms₂ : List ℕ} → ElementAsked cs₁ ps es (replicate 1536 0) r root (cutter h v i o) x cs₂ ps₂ es₂ ms₂
+        pub root-cut : {x : Asked} {cs₂ : List ℕ} {ps₂ : List Float} {es₂ ix₂ ms₂ : List ℕ} → ElementAsked cs₁ ps es (replicate 1536 0) r root (cutter h v i o) x cs₂ ps₂ es₂ ix₂ ms₂
             → (y : CutReply) → replyOf x ms₂ root ≡ y → CutTried cs ps hs es h i o root y cs₂ ps₂ hs₁ es₂
-        root-cut {x} {cs₂} {ps₂} {es₂} {ms₂} C y told = record { of = λ t F. go t F (C .of hs₁ (named F .table) (root-fit F) (knows-nothing (cutter h v i o) (named F .table))) }
+        root-cut {x} {cs₂} {ps₂} {es₂} {ix₂} {ms₂} C y told = record { of = λ t F. go t F (C .of hs₁ (named F .table) (root-fit F) (knows-nothing (cutter h v i o) (named F .table))) }
           where
             steps : (t : Table) (F : CutFit cs ps hs es h root t)
                 → cutFinite desk (dividerOf (t .dimension) h) i o root t ≡ cutElement desk (cutOf (named F .table .dimension) (cutter h v i o)) r root (named F .table)
@@ -146,7 +152,8 @@ module _ {cs : List ℕ} {ps hs : List Float} {es : List ℕ} {h : Hyperplane} {
                 ∙ ap₂ (λ (d n : ℕ). cutElement desk (cutOf d (cutter h v i o)) n root (named F .table)) (sym (named F .extends .dimension)) (root-fit F .ranked)
 
             go : (t : Table) (F : CutFit cs ps hs es h root t)
-                → Came reply.Answered reply.Refused (HoldsKnown cs₂ ps₂ hs₁ es₂ ms₂ (cutter h v i o)) (named F .table) (cutElement desk (cutOf (named F .table .dimension) (cutter h v i o)) r root (named F .table)) (replyOf x ms₂ root)
+                → Came reply.Answered reply.Refused (HoldsKnown cs₂ ps₂ hs₁ es₂ ms₂ (cutter h v i o)) (named F .table)
+                (cutElement desk (cutOf (named F .table .dimension) (cutter h v i o)) r root (named F .table)) (replyOf x ms₂ root)
                 → Came reply.Answered reply.Refused (Holds desk cs₂ ps₂ hs₁ es₂) t (cutFinite desk (dividerOf (t .dimension) h) i o root t) y
             go t F (held.went a u m w H) = held.went a u (steps t F ∙ m) (sym told ∙ w) (H .holds)
             go t F (held.stopped j u m w z H) = held.stopped j u (steps t F ∙ m) (sym told ∙ w) (extends-trans (named F .extends) z) (H .holds)
@@ -160,36 +167,27 @@ root-answered ms root q told = ap (λ (y : Asked). replyOf y ms root) q ∙ ap r
 
 -- ---- the memory given back
 
-abbrev refusal : CutReply → ℕ
-refusal (reply.Refused n) = n
-refusal (reply.Answered a) = 0
-
-abbrev isNo : CutReply → ℕ
-isNo (reply.Refused n) = 1
-isNo (reply.Answered a) = 0
-
 -- what restoring asks
 abbrev RestoreAsks : List ℕ → List ℕ → List Float → List Float → List ℕ → Type 0
-RestoreAsks cs₀ cs ps hs es =
-    (length cs ≡ 4) × (length ps ≡ 1024) × (length hs ≡ 320) × (length es ≡ 18432) × (getD cs₀ 1 0 ≤ getD cs 1 0) × (getD cs₀ 2 0 ≤ getD cs 2 0) × (getD cs₀ 3 0 ≤ getD cs 3 0)
-    × (getD cs 1 0 ≤ 512) × (getD cs 2 0 ≤ 256) × (getD cs 3 0 ≤ 64)
+RestoreAsks cs₀ cs ps hs es = RestoreReady cs ps hs es (getD cs₀ 1 0) (getD cs₀ 2 0) (getD cs₀ 3 0)
 
 restore-asks : {cs₀ : List ℕ} {ps₀ hs₀ : List Float} {es₀ : List ℕ} {t u : Table} {cs : List ℕ} {ps hs : List Float} {es : List ℕ}
     → Holds desk cs₀ ps₀ hs₀ es₀ t → Extends t u → Holds desk cs ps hs es u → RestoreAsks cs₀ cs ps hs es
 restore-asks {t = t} {u} H₀ X H =
     let a = slices H₀ in
-    let b = slices H in (
-      b .counts,
-      b .points,
-      b .planes,
-      b .elements,
-      le-trans (le-of-eq (a .elementCount)) (le-trans (count-more X) (le-of-eq (sym (b .elementCount)))),
-      le-trans (le-of-eq (a .pointCount)) (le-trans (begins-length (t .points) (u .points) (X .points)) (le-of-eq (sym (b .pointCount)))),
-      le-trans (le-of-eq (a .planeCount)) (le-trans (begins-length (t .planes) (u .planes) (X .planes)) (le-of-eq (sym (b .planeCount)))),
-      b .elementsFit,
-      b .pointsFit,
-      b .planesFit,
-    )
+    let b = slices H in
+    record {
+      counts = b .counts;
+      points = b .points;
+      planes = b .planes;
+      elements = b .elements;
+      fromElement = le-trans (le-of-eq (a .elementCount)) (le-trans (count-more X) (le-of-eq (sym (b .elementCount))));
+      fromVertex = le-trans (le-of-eq (a .pointCount)) (le-trans (begins-length (t .points) (u .points) (X .points)) (le-of-eq (sym (b .pointCount))));
+      fromHyperplane = le-trans (le-of-eq (a .planeCount)) (le-trans (begins-length (t .planes) (u .planes) (X .planes)) (le-of-eq (sym (b .planeCount))));
+      room = b .elementsFit;
+      vertexRoom = b .pointsFit;
+      planeRoom = b .planesFit;
+    }
 
 module _ {cs : List ℕ} {ps hs : List Float} {es : List ℕ} {h : Hyperplane} {i o : Bool} {root : ℕ} {y : CutReply} {cs₁ : List ℕ} {ps₁ hs₁ : List Float} {es₁ : List ℕ}
     (T : CutTried cs ps hs es h i o root y cs₁ ps₁ hs₁ es₁) where
@@ -201,15 +199,15 @@ module _ {cs : List ℕ} {ps hs : List Float} {es : List ℕ} {h : Hyperplane} {
     where
       go : (t : Table) → Tried t
           → _≡_ {A = CutReply × Memory} (reply.Answered a, memoryOf cs₁ ps₁ hs₁ es₁) (written desk (memoryOf cs ps hs es) (cutFinite desk (dividerOf (t .dimension) h) i o root t))
-      go t (held.stopped j u m w′ z H) = let e : _≡_ {A = ℕ} 0 1 = sym (ap isNo w) ∙ ap isNo w′ in absurd (omega (arith, e))
+      go t (held.stopped j u m w′ z H) = let e : _≡_ {A = ℕ} 0 1 = cc in absurd (omega arith)
       go t (held.went b u m w′ H) = (λ l. ((sym w ∙ w′) l, holds-memory desk readable-desk H l)) ∙ sym (ap (written desk (memoryOf cs ps hs es)) m)
 
   module _ (n : ℕ) (w : y ≡ reply.Refused n) where
-    pub whole-asks : CutReady cs ps hs es h root → RestoreAsks cs cs₁ ps₁ hs₁ es₁
+    pub whole-asks : {ix : List ℕ} → CutReady cs ps hs es ix h root → RestoreAsks cs cs₁ ps₁ hs₁ es₁
     whole-asks R = go (T .of (R .table) (R .fit))
       where
         go : Tried (R .table) → RestoreAsks cs cs₁ ps₁ hs₁ es₁
-        go (held.went b u m w′ H) = let e : _≡_ {A = ℕ} 1 0 = sym (ap isNo w) ∙ ap isNo w′ in absurd (omega (arith, e))
+        go (held.went b u m w′ H) = let e : _≡_ {A = ℕ} 0 1 = cc in absurd (omega arith)
         go (held.stopped j u m w′ z H) = restore-asks (R .fit .holds) z H
 
     pub whole-refused : {cs′ : List ℕ} {ps′ hs′ : List Float} {es′ : List ℕ} → Restored cs₁ ps₁ hs₁ es₁ (getD cs 1 0) (getD cs 2 0) (getD cs 3 0) cs′ ps′ hs′ es′
@@ -218,9 +216,9 @@ module _ {cs : List ℕ} {ps hs : List Float} {es : List ℕ} {h : Hyperplane} {
       where
         go : (t : Table) → CutFit cs ps hs es h root t → Tried t
             → _≡_ {A = CutReply × Memory} (reply.Refused n, memoryOf cs′ ps′ hs′ es′) (written desk (memoryOf cs ps hs es) (cutFinite desk (dividerOf (t .dimension) h) i o root t))
-        go t F (held.went b u m w′ H) = let e : _≡_ {A = ℕ} 1 0 = sym (ap isNo w) ∙ ap isNo w′ in absurd (omega (arith, e))
+        go t F (held.went b u m w′ H) = let e : _≡_ {A = ℕ} 0 1 = cc in absurd (omega arith)
         go t F (held.stopped j u m w′ z H) =
-            let e : n ≡ j = sym (ap refusal w) ∙ ap refusal w′ in
+            let e : n ≡ j = cc in
             let s = slices (F .holds) in
             let back : _≡_ {A = Memory} (memoryOf cs′ ps′ hs′ es′) (memoryOf cs ps hs es) =
             holds-memory desk readable-desk (R .of t u z H (s .elementCount) (s .pointCount) (s .planeCount)) ∙ sym (holds-memory desk readable-desk (F .holds)) in

@@ -5,7 +5,7 @@ use mathlib.Core.Bool.{false}
 use mathlib.Core.List.{List}
 use native.Mathlib.Omega.{arith}
 use lib.Dec.{ltb}
-use lib.ListN.{length, getD, set, length-set, replicate}
+use lib.ListN.{length, getD, set, length-set, replicate, getD-replicate}
 use lib.Seq.{getD-set-same, getD-set-other}
 use Rattle.rules.specs.declared.ElementOrNone.{ElementOrNone}
 use Rattle.rules.specs.declared.ElementOrNone.the-variants.{None, Some}
@@ -19,10 +19,6 @@ use Rattle.cut.specs.Known.{wordOf, someOf, outputOf, knownAt, outputAt,
 use Rattle.cut.specs.declared.known.Asked.the-variants as asked
 
 -- ---- a word and its element
-
-pub word-room : (x : ElementOrNone) (e : ElementId) → x ≡ Some e → InRoom x → e .0 < 512
-word-room None e q h = let z : _≡_ {A = ℕ} 0 1 = cc in absurd (omega arith)
-word-room (Some d) e q h = let z : d ≡ e = cc in let y = ap (λ (f : ElementId). f .0) z in omega (arith, h, y)
 
 pub word-none : (x : ElementOrNone) → x ≡ None → 1 ≡ wordOf x
 word-none x q = ap wordOf (sym q)
@@ -62,14 +58,9 @@ output-sides ms e i o x q hi ho hx =
 
 -- ---- nothing is kept yet
 
-zero-get : (n i : ℕ) → _≡_ {A = ℕ} (getD (replicate n 0) i 0) 0
-zero-get zero i = refl
-zero-get (suc n) zero = refl
-zero-get (suc n) (suc i) = zero-get n i
-
-pub zeros-unknown : (n e : ℕ) → knownAt (replicate n 0) e ≡ false
+pub zeros-unknown : (e : ℕ) → e < 512 → knownAt (replicate 1536 0) e ≡ false
 unfolding knownAt
-zeros-unknown n e = ap (ltb 0) (zero-get n (e * 3))
+zeros-unknown e h = ap (ltb 0) (getD-replicate {A = ℕ} 1536 (e * 3) 0 0 (omega arith))
 
 -- ---- three words are written
 

@@ -18,7 +18,7 @@ use Rattle.rules.specs.declared.CutReply.{CutReply}
 use Rattle.rules.specs.declared.CutReply.the-variants as reply
 use Rattle.gathered.specs.Sets.{OutputInRoom}
 use Rattle.gathered.specs.Cutting.{cutOf}
-use Rattle.gathered.specs.declared.answer.Cutter.{Cutter}
+use Rattle.rules.specs.declared.Cutter.{Cutter}
 use Rattle.cut.specs.declared.known.Asked.{Asked}
 use Rattle.cut.specs.declared.known.Asked.the-variants as asked
 
@@ -74,17 +74,32 @@ abbrev pub askedBy : CutReply → Asked
 askedBy (reply.Refused n) = asked.Refused n
 askedBy (reply.Answered a) = asked.Done
 
--- and put back from the words of element e
+-- what keeping a reply to element e asks
+pub record KeepReady (e : ℕ) (x : CutReply) : Type 0 where
+  pub low : e < 512
+  pub room : ReplyInRoom x
+
+-- and what it does: how asking ended, and the words after it
+pub record ReplyKept (ms : List ℕ) (e : ℕ) (x : CutReply) (y : Asked) (ms′ : List ℕ) : Type 0 where
+  pub asked : y ≡ askedBy x
+  pub words : ms′ ≡ withReply ms e x
+
+-- the reply is put back from the words of element e
 abbrev pub replyOf : Asked → List ℕ → ℕ → CutReply
 replyOf (asked.Refused n) ms e = reply.Refused n
 replyOf asked.Done ms e = reply.Answered (outputAt ms e)
 
 -- ---- what is known is true
 
--- asking in the table as it is now gives the answer that is known, and adds nothing
+-- asking element e in table t gives answer a, and adds nothing
+pub record Repeats (k : Cutter) (t : Table) (a : ElementCutOutput) (e : ℕ) : Type 0 where
+  pub used : e < elementCount t
+  pub again : cutElement desk (cutOf (t .dimension) k) (rank t e) e t ≡ done a t
+
+-- all that is known is repeated by the table as it is now
 pub record Knows (k : Cutter) (ms : List ℕ) (t : Table) : Type 0 where
   pub long : length ms ≡ 1536
-  pub of : (e : ℕ) → e < 512 → knownAt ms e ≡ true → (e < elementCount t) × (cutElement desk (cutOf (t .dimension) k) (rank t e) e t ≡ done (outputAt ms e) t)
+  pub of : (e : ℕ) → e < 512 → knownAt ms e ≡ true → Repeats k t (outputAt ms e) e
 
 -- the memory holds the table, and what is known is true of it
 pub record HoldsKnown (cs : List ℕ) (ps hs : List Float) (es ms : List ℕ) (k : Cutter) (t : Table) : Type 0 where

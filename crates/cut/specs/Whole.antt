@@ -3,6 +3,7 @@ use Prim.Native.Nat.{ℕ, _<_}
 use mathlib.Core.Path.{_≡_}
 use mathlib.Core.Bool.{Bool, true}
 use mathlib.Core.List.{List}
+use lib.ListN.{getD}
 use lib.Ieee.{Float}
 use Rattle.rules.specs.Limits.{desk}
 use Rattle.rules.specs.Memory.{Memory, planeRow}
@@ -14,6 +15,7 @@ use Rattle.rules.specs.Replies.{dividerOf, written}
 use Rattle.rules.specs.declared.Hyperplane.{Hyperplane}
 use Rattle.rules.specs.declared.CutReply.{CutReply}
 use Rattle.rules.specs.declared.CutReply.the-variants as reply
+use Rattle.space.specs.Chains.{Indexed}
 use Rattle.space.specs.Shared.{rowOf}
 
 -- a sound table that the memory holds, a root in use, and a divider that fits and is not infinite
@@ -24,10 +26,11 @@ pub record CutFit (cs : List ℕ) (ps hs : List Float) (es : List ℕ) (h : Hype
   pub plane : soundPlane (t .dimension) (dividerOf (t .dimension) h) ≡ true
   pub row : rowOf h ≡ planeRow desk (dividerOf (t .dimension) h)
 
--- there is such a table
-pub record CutReady (cs : List ℕ) (ps hs : List Float) (es : List ℕ) (h : Hyperplane) (root : ℕ) : Type 0 where
+-- there is such a table, and the index is of its rows
+pub record CutReady (cs : List ℕ) (ps hs : List Float) (es ix : List ℕ) (h : Hyperplane) (root : ℕ) : Type 0 where
   pub table : Table
   pub fit : CutFit cs ps hs es h root table
+  pub indexed : Indexed es (getD cs 1 0) ix
 
 -- whatever such table the memory holds: the steps of the cut, and after a refusal the entries that it has appended
 pub record CutTried (cs : List ℕ) (ps hs : List Float) (es : List ℕ) (h : Hyperplane) (i o : Bool) (root : ℕ) (r : CutReply) (cs′ : List ℕ) (ps′ hs′ : List Float) (es′ : List ℕ) : Type 0 where

@@ -5,18 +5,15 @@ use crate::known::is_known;
 use crate::known::keep;
 use crate::known::output_at;
 use gathered::answer;
-use gathered::answer::Cutter;
 use gathered::sets;
 use gathered::sets::FLUSH;
+use rules::Cutter;
 use rules::ElementId;
 use space::rows;
 use space::words::SET;
 use space::words::wide;
-ghost use Prim.Native.Nat.{_<_};
-ghost use lib.ListN.{getD};
-ghost use Rattle.space.specs.Chains.{Indexed};
-ghost use Rattle.gathered.specs.Sets.{answersIn, NothingYet};
-ghost use Rattle.cut.specs.Rounds.{AskReady, ElementAsked, BoundaryCut};
+ghost use Rattle.gathered.specs.Sets.{answersIn};
+ghost use Rattle.cut.specs.Rounds.{AskReady, RoundReady, ElementAsked, BoundaryCut};
 
 pub fn cut_element(
     counts: &mut [u16],
@@ -28,8 +25,9 @@ pub fn cut_element(
     rank: usize,
     k: Cutter,
 ) -> Asked
-    requires { ⌜ AskReady (now counts) (now points) (now elements) (now known) rank (e .0) k × Indexed (now elements) (getD (now counts) 1 0) (now index) ⌝ }
-    ensures { λ r. ⌜ ElementAsked (now (counts .entry)) (now (points .entry)) (now (elements .entry)) (now (known .entry)) rank (e .0) k r (now (counts .exit)) (now (points .exit)) (now (elements .exit)) (now (known .exit)) × Indexed (now (elements .exit)) (getD (now (counts .exit)) 1 0) (now (index .exit)) ⌝ }
+    requires { ⌜ AskReady (now counts) (now points) (now elements) (now index) (now known) rank (e .0) k ⌝ }
+    ensures { λ r. ⌜ ElementAsked (now (counts .entry)) (now (points .entry)) (now (elements .entry)) (now (known .entry)) rank (e .0) k r
+        (now (counts .exit)) (now (points .exit)) (now (elements .exit)) (now (index .exit)) (now (known .exit)) ⌝ }
 {
     if is_known(known, e) {
         return Asked::Done;
@@ -80,8 +78,11 @@ fn cut_boundary(
     outside: &mut [u16; SET],
     intersections: &mut [u16; SET],
 ) -> Asked
-    requires { ⌜ AskReady (now counts) (now points) (now elements) (now known) rank (e .0) k × (1 < rank) × NothingYet (answersIn (now flush) (now inside) (now outside) (now intersections)) × Indexed (now elements) (getD (now counts) 1 0) (now index) ⌝ }
-    ensures { λ r. ⌜ BoundaryCut (now (counts .entry)) (now (points .entry)) (now (elements .entry)) (now (known .entry)) rank (e .0) k r (answersIn (now (flush .exit)) (now (inside .exit)) (now (outside .exit)) (now (intersections .exit))) (now (counts .exit)) (now (points .exit)) (now (elements .exit)) (now (known .exit)) × Indexed (now (elements .exit)) (getD (now (counts .exit)) 1 0) (now (index .exit)) ⌝ }
+    requires { ⌜ RoundReady (now counts) (now points) (now elements) (now index) (now known) rank (e .0) k
+        (answersIn (now flush) (now inside) (now outside) (now intersections)) ⌝ }
+    ensures { λ r. ⌜ BoundaryCut (now (counts .entry)) (now (points .entry)) (now (elements .entry)) (now (known .entry)) rank (e .0) k r
+        (answersIn (now (flush .exit)) (now (inside .exit)) (now (outside .exit)) (now (intersections .exit)))
+        (now (counts .exit)) (now (points .exit)) (now (elements .exit)) (now (index .exit)) (now (known .exit)) ⌝ }
 {
     let n = rows::size_of(elements, e);
     for i in 0..n {

@@ -6,9 +6,8 @@ use rules::ElementOrNone;
 use space::words::wide;
 ghost use Prim.Native.Nat.{_<_};
 ghost use mathlib.Core.Path.{_≡_};
-ghost use lib.ListN.{length};
 ghost use Rattle.gathered.specs.Sets.{InRoom};
-ghost use Rattle.cut.specs.Known.{wordOf, someOf, knownAt, outputAt, askedBy, threeAt, ReplyInRoom, withReply};
+ghost use Rattle.cut.specs.Known.{wordOf, someOf, knownAt, outputAt, threeAt, KeepReady, ReplyKept};
 
 // The words of an answer, and of the answers of all elements.
 const ANSWER: usize = 3;
@@ -43,7 +42,7 @@ fn some_of(word: u16) -> ElementOrNone
 
 // Whether an element was asked before.
 pub fn is_known(known: &[u16; KNOWN], e: ElementId) -> bool
-    requires { ⌜ (length (now known) ≡ 1536) × (e .0 < 512) ⌝ }
+    requires { ⌜ e .0 < 512 ⌝ }
     ensures { λ r. ⌜ r ≡ knownAt (now (known .entry)) (e .0) ⌝ }
 {
     0 < known[e.0 * ANSWER]
@@ -51,7 +50,7 @@ pub fn is_known(known: &[u16; KNOWN], e: ElementId) -> bool
 
 // What the words of an element that was asked say.
 pub fn output_at(known: &[u16; KNOWN], e: ElementId) -> ElementCutOutput
-    requires { ⌜ (length (now known) ≡ 1536) × (e .0 < 512) ⌝ }
+    requires { ⌜ e .0 < 512 ⌝ }
     ensures { λ r. ⌜ r ≡ outputAt (now (known .entry)) (e .0) ⌝ }
 {
     let at = e.0 * ANSWER;
@@ -72,7 +71,7 @@ pub fn output_at(known: &[u16; KNOWN], e: ElementId) -> ElementCutOutput
 }
 
 fn put_words(known: &mut [u16; KNOWN], e: ElementId, a: u16, b: u16, c: u16)
-    requires { ⌜ (length (now known) ≡ 1536) × (e .0 < 512) ⌝ }
+    requires { ⌜ e .0 < 512 ⌝ }
     ensures { λ r. ⌜ now (known .exit) ≡ threeAt (now (known .entry)) (e .0) a b c ⌝ }
 {
     let first = e.0 * ANSWER;
@@ -83,8 +82,8 @@ fn put_words(known: &mut [u16; KNOWN], e: ElementId, a: u16, b: u16, c: u16)
 
 // An answer is kept.
 pub fn keep(known: &mut [u16; KNOWN], e: ElementId, reply: CutReply) -> Asked
-    requires { ⌜ (length (now known) ≡ 1536) × (e .0 < 512) × ReplyInRoom reply ⌝ }
-    ensures { λ r. ⌜ (r ≡ askedBy reply) × (now (known .exit) ≡ withReply (now (known .entry)) (e .0) reply) ⌝ }
+    requires { ⌜ KeepReady (e .0) reply ⌝ }
+    ensures { λ r. ⌜ ReplyKept (now (known .entry)) (e .0) reply r (now (known .exit)) ⌝ }
 {
     match reply {
         CutReply::Refused(no) => Asked::Refused(no),

@@ -42,7 +42,8 @@ pub fn cut(
     outside: PolytopeFate,
     root: ElementId,
 ) -> CutReply
-    ensures { λ r. ⌜ (r, memoryOf (now (counts .exit)) (now (points .exit)) (now (planes .exit)) (now (elements .exit))) ≡ cutReply desk divider (isKept inside) (isKept outside) (root .0) (memoryOf (now (counts .entry)) (now (points .entry)) (now (planes .entry)) (now (elements .entry))) ⌝ }
+    ensures { λ r. ⌜ (r, memoryOf (now (counts .exit)) (now (points .exit)) (now (planes .exit)) (now (elements .exit)))
+        ≡ cutReply desk divider (isKept inside) (isKept outside) (root .0) (memoryOf (now (counts .entry)) (now (points .entry)) (now (planes .entry)) (now (elements .entry))) ⌝ }
 {
     let mut index = [0u16; INDEX];
     if !memory_indexed(counts, points, planes, elements, &mut index) {
@@ -86,16 +87,19 @@ pub fn carve(
     divider: Hyperplane,
     root: ElementId,
 ) -> CutReply
-    ensures { λ r. ⌜ (r, memoryOf (now (counts .exit)) (now (points .exit)) (now (planes .exit)) (now (elements .exit))) ≡ cutReply desk divider true false (root .0) (memoryOf (now (counts .entry)) (now (points .entry)) (now (planes .entry)) (now (elements .entry))) ⌝ }
+    ensures { λ r. ⌜ (r, memoryOf (now (counts .exit)) (now (points .exit)) (now (planes .exit)) (now (elements .exit)))
+        ≡ cutReply desk divider true false (root .0) (memoryOf (now (counts .entry)) (now (points .entry)) (now (planes .entry)) (now (elements .entry))) ⌝ }
 {
+    let inside = PolytopeFate::Keep;
+    let outside = PolytopeFate::Remove;
     cut(
         counts,
         points,
         planes,
         elements,
         divider,
-        PolytopeFate::Keep,
-        PolytopeFate::Remove,
+        inside,
+        outside,
         root,
     )
 }
@@ -109,16 +113,9 @@ pub fn slice(
     divider: Hyperplane,
     root: ElementId,
 ) -> CutReply
-    ensures { λ r. ⌜ (r, memoryOf (now (counts .exit)) (now (points .exit)) (now (planes .exit)) (now (elements .exit))) ≡ cutReply desk divider true true (root .0) (memoryOf (now (counts .entry)) (now (points .entry)) (now (planes .entry)) (now (elements .entry))) ⌝ }
+    ensures { λ r. ⌜ (r, memoryOf (now (counts .exit)) (now (points .exit)) (now (planes .exit)) (now (elements .exit)))
+        ≡ cutReply desk divider true true (root .0) (memoryOf (now (counts .entry)) (now (points .entry)) (now (planes .entry)) (now (elements .entry))) ⌝ }
 {
-    cut(
-        counts,
-        points,
-        planes,
-        elements,
-        divider,
-        PolytopeFate::Keep,
-        PolytopeFate::Keep,
-        root,
-    )
+    let both = PolytopeFate::Keep;
+    cut(counts, points, planes, elements, divider, both, both, root)
 }

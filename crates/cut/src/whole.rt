@@ -3,16 +3,14 @@ use crate::elements::cut_element;
 use crate::known::Asked;
 use crate::known::KNOWN;
 use crate::known::output_at;
-use gathered::answer::Cutter;
 use rules::CutReply;
+use rules::Cutter;
 use rules::ElementId;
 use rules::Hyperplane;
 use space::memo::PlacedHyperplane;
 use space::memo::add_hyperplane;
 use space::restore::restore;
 use space::rows::rank_of;
-ghost use lib.ListN.{getD};
-ghost use Rattle.space.specs.Chains.{Indexed};
 ghost use Rattle.cut.specs.Whole.{CutReady, CutTried, WholeCut};
 
 // The divider is matched or appended first, also for a flush or vertex root.
@@ -27,8 +25,9 @@ fn cut_named(
     keep_outside: bool,
     root: ElementId,
 ) -> CutReply
-    requires { ⌜ CutReady (now counts) (now points) (now planes) (now elements) h (root .0) × Indexed (now elements) (getD (now counts) 1 0) (now index) ⌝ }
-    ensures { λ r. ⌜ CutTried (now (counts .entry)) (now (points .entry)) (now (planes .entry)) (now (elements .entry)) h «keep_inside» «keep_outside» (root .0) r (now (counts .exit)) (now (points .exit)) (now (planes .exit)) (now (elements .exit)) ⌝ }
+    requires { ⌜ CutReady (now counts) (now points) (now planes) (now elements) (now index) h (root .0) ⌝ }
+    ensures { λ r. ⌜ CutTried (now (counts .entry)) (now (points .entry)) (now (planes .entry)) (now (elements .entry)) h «keep_inside» «keep_outside» (root .0) r
+        (now (counts .exit)) (now (points .exit)) (now (planes .exit)) (now (elements .exit)) ⌝ }
 {
     let named = add_hyperplane(counts, planes, h);
     match named {
@@ -63,8 +62,9 @@ pub fn cut_finite(
     keep_outside: bool,
     root: ElementId,
 ) -> CutReply
-    requires { ⌜ CutReady (now counts) (now points) (now planes) (now elements) h (root .0) × Indexed (now elements) (getD (now counts) 1 0) (now index) ⌝ }
-    ensures { λ r. ⌜ WholeCut (now (counts .entry)) (now (points .entry)) (now (planes .entry)) (now (elements .entry)) h «keep_inside» «keep_outside» (root .0) r (now (counts .exit)) (now (points .exit)) (now (planes .exit)) (now (elements .exit)) ⌝ }
+    requires { ⌜ CutReady (now counts) (now points) (now planes) (now elements) (now index) h (root .0) ⌝ }
+    ensures { λ r. ⌜ WholeCut (now (counts .entry)) (now (points .entry)) (now (planes .entry)) (now (elements .entry)) h «keep_inside» «keep_outside» (root .0) r
+        (now (counts .exit)) (now (points .exit)) (now (planes .exit)) (now (elements .exit)) ⌝ }
 {
     let e = counts[1];
     let v = counts[2];

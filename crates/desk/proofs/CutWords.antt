@@ -24,20 +24,25 @@ use Rattle.desk.specs.Words.{elementWord, outputWord, cutWord, keptBy}
 pub word-none : (e : ElementOrNone) → e ≡ None → (0xffff ≡ elementWord e) × (0xffff < 65536)
 word-none e q = (sym (ap elementWord q), lit≤ tt)
 
-pub word-some : (e : ElementOrNone) (id : ElementId) → e ≡ Some id → OneBelow 512 e → (id .0 ≡ elementWord e) × (id .0 < 65536)
-word-some e id q h = (sym (ap elementWord q), (let l : id .0 < 512 = subst (OneBelow 512) q h in let z : id .0 < 65536 = omega (arith, l) in z))
+pub word-some : (e : ElementOrNone) (id : ElementId) → e ≡ Some id → OneBelow (desk .elements) e → (id .0 ≡ elementWord e) × (id .0 < 65536)
+word-some e id q h = (sym (ap elementWord q), (let l : id .0 < desk .elements = subst (OneBelow (desk .elements)) q h in let z : id .0 < 65536 = omega (arith, l) in z))
 
-pub kept-none : (byte : ℕ) → byte ≡ 0 → false ≡ keptBy byte
-kept-none byte q = sym (ap not (test-eq byte 0 q))
+pub kept-none : (n : ℕ) → n ≡ 0 → false ≡ keptBy n
+kept-none n q = sym (ap not (test-eq n 0 q))
 
-pub kept-some : (byte : ℕ) → (byte ≡ 0 → ⊥) → true ≡ keptBy byte
-kept-some byte q = sym (ap not (not-eq byte 0 q))
+pub kept-some : (n : ℕ) → (n ≡ 0 → ⊥) → true ≡ keptBy n
+kept-some n q = sym (ap not (not-eq n 0 q))
 
 -- ---- three numbers
 
 module _ (a : ElementCutOutput) (i o x : ElementOrNone) (q : a ≡ NonFlush i o x) where
-  pub places-low : NamesBelow 512 a → OneBelow 512 i × OneBelow 512 o × OneBelow 512 x
-  places-low h = subst (NamesBelow 512) q h
+  pub record PlacesLow : Type 0 where
+    pub inside : OneBelow (desk .elements) i
+    pub outside : OneBelow (desk .elements) o
+    pub intersection : OneBelow (desk .elements) x
+
+  pub places-low : NamesBelow (desk .elements) a → PlacesLow
+  places-low h = let all = subst (NamesBelow (desk .elements)) q h in record { inside = all .0; outside = all .1; intersection = all .2 }
 
   pub places-word : (u v w : ℕ) → u ≡ elementWord i → v ≡ elementWord o → w ≡ elementWord x → u * 0x10000 + v * 0x100000000 + w * 0x1000000000000 ≡ outputWord a
   places-word u v w eu ev ew = (λ j. eu j * 0x10000 + ev j * 0x100000000 + ew j * 0x1000000000000) ∙ sym (ap outputWord q)

@@ -1,2 +1,3 @@
 pub mod CutWords
 pub mod ListWords
+pub mod RankWords

@@ -1,4 +1,4 @@
--- No list that a question gives has more than 512 numbers, so its size fits above the reply's number.
+-- No list that a question gives has more numbers than there is room for elements, so its size fits above the reply's number.
 use Prim.Native.Nat.{ℕ, zero, suc, _+_, _*_, _≤_, _<_}
 use mathlib.Core.Bool.{Bool, true, false, not, _&&_}
 use mathlib.Core.List.{List, [], _∷_, _++_, map}
@@ -22,12 +22,12 @@ use Rattle.rules.proofs.Growing.{all-get}
 use Rattle.rules.proofs.Laws.{le-test, and-left}
 use Rattle.rules.proofs.OneCall.{sound-table}
 use Rattle.rules.proofs.RingWalked.{kept-length}
-use Rattle.desk.specs.Words.{SizeFits, listNumber, listWord}
+use Rattle.desk.specs.Words.{SizeFits, sizeWord, listWord}
 
--- no longer than 512, where it is answered
+-- no longer than that, where it is answered
 abbrev Short : Asked (List ℕ) → Type 0
 Short (no-answer n) = Unit {0}
-Short (answer xs) = length xs ≤ 512
+Short (answer xs) = length xs ≤ desk .elements
 
 list-fits : (q : Asked (List ℕ)) (room : List ℕ) → Short q → SizeFits (listed q room .0)
 list-fits (no-answer n) room h = tt
@@ -51,17 +51,17 @@ module _ (m : Memory) where
   abbrev t : Table
   t = decode desk m
 
-  up-fits : soundMemory desk m ≡ true → length (upTo (elementCount t)) ≤ 512
-  up-fits s = le-trans (le-of-eq (length-up 0 (elementCount t))) (le-test (elementCount t) 512 (sound-good desk t (sound-table desk m s) .elementRoom))
+  up-fits : soundMemory desk m ≡ true → length (upTo (elementCount t)) ≤ desk .elements
+  up-fits s = le-trans (le-of-eq (length-up 0 (elementCount t))) (le-test (elementCount t) (desk .elements) (sound-good desk t (sound-table desk m s) .elementRoom))
 
-  kept-fits : (p : ℕ → Bool) → soundMemory desk m ≡ true → length (keep p (upTo (elementCount t))) ≤ 512
+  kept-fits : (p : ℕ → Bool) → soundMemory desk m ≡ true → length (keep p (upTo (elementCount t))) ≤ desk .elements
   kept-fits p s = le-trans (kept-length p (upTo (elementCount t))) (up-fits s)
 
   pub sub-fits : (e : ℕ) (room : List ℕ) → SizeFits (subElementsReply desk m e room .0)
   unfolding subElementsReply subElements
   sub-fits e room = list-fits (asked desk m (e ∷ []) (answer (subElements t e))) room (asked-fits m (e ∷ []) (answer (subElements t e)) (λ s u. kept-fits (isBelow t e) s))
 
-  rank-fits-list : (k e : ℕ) → soundMemory desk m ≡ true → length (withRank t k e) ≤ 512
+  rank-fits-list : (k e : ℕ) → soundMemory desk m ≡ true → length (withRank t k e) ≤ desk .elements
   unfolding withRank subElements
   rank-fits-list k e s = le-trans (kept-length (λ x. eqb (rank t x) k) (subElements t e)) (kept-fits (isBelow t e) s)
 
@@ -75,12 +75,12 @@ module _ (m : Memory) where
       list-fits (asked desk m (e ∷ []) (answer (vertexSet t e))) room (asked-fits m (e ∷ []) (answer (vertexSet t e))
       (λ s u. le-trans (le-of-eq (length-map (withRank t 0 e) (λ x. vertexOf (element t x)))) (rank-fits-list 0 e s)))
 
-  greatest-fits : (r : ℕ) (es : List ℕ) → soundMemory desk m ≡ true → length (greatestFrom t r es) ≤ 512
+  greatest-fits : (r : ℕ) (es : List ℕ) → soundMemory desk m ≡ true → length (greatestFrom t r es) ≤ desk .elements
   unfolding greatestFrom commonWithRank
-  greatest-fits zero es s = let z : 0 ≤ 512 = omega arith in z
+  greatest-fits zero es s = let z : 0 ≤ desk .elements = omega arith in z
   greatest-fits (suc r) es s = go (commonWithRank t (suc r) es) (kept-fits (λ x. eqb (rank t x) (suc r) && all (λ e. isBelow t e x) es) s) (greatest-fits r es s)
     where
-      go : (xs : List ℕ) → length xs ≤ 512 → length (greatestFrom t r es) ≤ 512 → length (someOr xs (greatestFrom t r es)) ≤ 512
+      go : (xs : List ℕ) → length xs ≤ desk .elements → length (greatestFrom t r es) ≤ desk .elements → length (someOr xs (greatestFrom t r es)) ≤ desk .elements
       go [] h k = k
       go (x ∷ xs) h k = h
 
@@ -127,23 +127,23 @@ module _ (m : Memory) where
       steps : List (ℕ × ℕ)
       steps = walk (length es) t es start start (firstEdge t start es)
 
-      most : soundMemory desk m ≡ true → e < elementCount t → length steps ≤ 32
+      most : soundMemory desk m ≡ true → e < elementCount t → length steps ≤ desk .boundary
       most s u =
           le-trans (walk-short (length es) es start start (firstEdge t start es))
-          (le-test (length es) 32 (all-get (λ x. leb (length (boundaryOf x)) 32) (t .elements) e (corner 0) u (sound-good desk t (sound-table desk m s) .boundaryRoom)))
+          (le-test (length es) (desk .boundary) (all-get (λ x. leb (length (boundaryOf x)) (desk .boundary)) (t .elements) e (corner 0) u (sound-good desk t (sound-table desk m s) .boundaryRoom)))
 
-      by : (a b : Bool) → length steps ≤ 32 → Short (inNumbers (if a then no-answer 6 else if b then answer (pairs t start steps) else no-answer 7))
+      by : (a b : Bool) → length steps ≤ desk .boundary → Short (inNumbers (if a then no-answer 6 else if b then answer (pairs t start steps) else no-answer 7))
       by true b h = tt
       by false false h = tt
-      by false true h = let k = pairs-long start steps in let z : length (joined (map (λ (p : ℕ × ℕ). p .0 ∷ p .1 ∷ []) (pairs t start steps))) ≤ 512 = omega (arith, k, h) in z
+      by false true h = let k = pairs-long start steps in let z : length (joined (map (λ (p : ℕ × ℕ). p .0 ∷ p .1 ∷ []) (pairs t start steps))) ≤ desk .elements = omega (arith, k, h) in z
 
 -- ---- the number
 
-pub list-said : {r : ListReply} {room : List ℕ} {w : ListReply × List ℕ} (x : ℕ) → (r, room) ≡ w → x ≡ listNumber r → (x, room) ≡ listWord w
+pub list-said : {r : ListReply} {room : List ℕ} {w : ListReply × List ℕ} (x : ℕ) → (r, room) ≡ w → x ≡ sizeWord r → (x, room) ≡ listWord w
 list-said {room = room} x e q = (λ j. (q j, room)) ∙ ap listWord e
 
 pub fits-as : {r : ListReply} {room : List ℕ} {w : ListReply × List ℕ} → (r, room) ≡ w → SizeFits (w .0) → SizeFits r
 fits-as e h = subst SizeFits (sym (ap (λ (x : ListReply × List ℕ). x .0) e)) h
 
-pub listed-low : {r : ListReply} (n : ℕ) → r ≡ Listed n → SizeFits r → n ≤ 512
+pub listed-low : {r : ListReply} (n : ℕ) → r ≡ Listed n → SizeFits r → n ≤ desk .elements
 listed-low n q h = subst SizeFits q h

@@ -2,8 +2,9 @@
 use Prim.Native.Nat.{ℕ, _+_, _*_, _≤_}
 use mathlib.Core.Bool.{Bool, not, cond}
 use mathlib.Core.List.{List, [], _∷_}
-use lib.Dec.{eqb}
+use lib.Dec.{eqb, leb}
 use lib.Ieee.{Float}
+use Rattle.rules.specs.Limits.{desk}
 use Rattle.rules.specs.Memory.{Memory}
 use Rattle.rules.specs.declared.Hyperplane.{Hyperplane}
 use Rattle.rules.specs.declared.ElementOrNone.{ElementOrNone}
@@ -33,13 +34,13 @@ cutWord (Refused n, m) = (n, m)
 cutWord (Answered a, m) = (outputWord a, m)
 
 -- bits 0 to 7 are the reply's number, and above them stands the size of the list
-abbrev pub listNumber : ListReply → ℕ
-listNumber (ListRefused n) = n
-listNumber (Listed n) = n * 0x100
+abbrev pub sizeWord : ListReply → ℕ
+sizeWord (ListRefused n) = n
+sizeWord (Listed n) = n * 0x100
 
 -- beside it, the list room
 abbrev pub listWord : ListReply × List ℕ → ℕ × List ℕ
-listWord (r, room) = (listNumber r, room)
+listWord (r, room) = (sizeWord r, room)
 
 -- bits 0 to 7 are the reply's number, bit 8 the answer
 abbrev pub facetWord : FacetReply → ℕ
@@ -50,11 +51,15 @@ facetWord (Has b) = cond b 0x100 0
 abbrev pub dividerWith : Float → Float → Float → Float → Float → Hyperplane
 dividerWith n0 n1 n2 n3 distance = record { normal = n0 ∷ n1 ∷ n2 ∷ n3 ∷ []; distance = distance }
 
--- 0 removes a side, and any other byte keeps it
+-- 0 removes a side, and any other number keeps it
 abbrev pub keptBy : ℕ → Bool
-keptBy byte = not (eqb byte 0)
+keptBy n = not (eqb n 0)
 
--- a list of no more than 512 numbers, or a refusal
+-- a rank as a byte; one that no byte holds is 255, which no element has either
+abbrev pub rankByte : ℕ → ℕ
+rankByte k = cond (leb k 255) k 255
+
+-- a list of no more numbers than there is room for elements, or a refusal
 abbrev pub SizeFits : ListReply → Type 0
 SizeFits (ListRefused n) = Unit {0}
-SizeFits (Listed n) = n ≤ 512
+SizeFits (Listed n) = n ≤ desk .elements

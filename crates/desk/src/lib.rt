@@ -1,4 +1,4 @@
-// Every entry point for hosts in C and Rust: plain numbers, and slices as a pointer and a length.
+// Every entry point for hosts: slices as a pointer and a length, and numbers of 32 bits, so that none is cut to another on its way.
 use elements::questions;
 use rules::CutReply;
 use rules::ElementCutOutput;
@@ -15,20 +15,30 @@ ghost use Rattle.rules.specs.Limits.{desk};
 ghost use Rattle.rules.specs.Held.{memoryOf};
 ghost use Rattle.rules.specs.Replies.{isKept, isSoundReply, cubeReply, cutReply, subElementsReply, withRankReply, vertexSetReply, greatestCommonReply, edgesInOrderReply, primordialFacetReply};
 ghost use Rattle.rules.specs.Promises.{OneBelow, NamesBelow};
-ghost use Rattle.desk.specs.Words.{elementWord, outputWord, cutWord, listNumber, SizeFits, listWord, facetWord, dividerWith, keptBy};
+ghost use Rattle.desk.specs.Words.{elementWord, outputWord, cutWord, sizeWord, SizeFits, listWord, facetWord, dividerWith, keptBy, rankByte};
 
-// 0 removes a side, and any other byte keeps it.
-fn fate(byte: u8) -> PolytopeFate
-    ensures { λ r. ⌜ isKept r ≡ keptBy byte ⌝ }
+// 0 removes a side, and any other number keeps it.
+fn fate(kept: u32) -> PolytopeFate
+    ensures { λ r. ⌜ isKept r ≡ keptBy kept ⌝ }
 {
-    if byte == 0 {
+    if kept == 0 {
         return PolytopeFate::Remove;
     }
     PolytopeFate::Keep
 }
 
+// A rank that no byte holds is nobody's, as 255 is.
+fn rank_byte(rank: u32) -> u8
+    ensures { λ r. ⌜ r ≡ rankByte rank ⌝ }
+{
+    if rank > 255 {
+        return 255;
+    }
+    rank as u8
+}
+
 fn element_word(e: ElementOrNone) -> u64
-    requires { ⌜ OneBelow 512 e ⌝ }
+    requires { ⌜ OneBelow (desk .elements) e ⌝ }
     ensures { λ r. ⌜ (r ≡ elementWord e) × (r < 65536) ⌝ }
 {
     match e {
@@ -38,7 +48,7 @@ fn element_word(e: ElementOrNone) -> u64
 }
 
 fn output_word(a: ElementCutOutput) -> u64
-    requires { ⌜ NamesBelow 512 a ⌝ }
+    requires { ⌜ NamesBelow (desk .elements) a ⌝ }
     ensures { λ r. ⌜ r ≡ outputWord a ⌝ }
 {
     match a {
@@ -59,7 +69,7 @@ fn output_word(a: ElementCutOutput) -> u64
 // The reply's number, or the size of the list above its eight bits.
 fn list_word(r: ListReply) -> u32
     requires { ⌜ SizeFits r ⌝ }
-    ensures { λ w. ⌜ w ≡ listNumber r ⌝ }
+    ensures { λ w. ⌜ w ≡ sizeWord r ⌝ }
 {
     match r {
         ListReply::Refused(no) => no as u32,
@@ -85,10 +95,11 @@ pub extern "C" fn desk_cube(
     points: &mut [f64],
     planes: &mut [f64],
     elements: &mut [u16],
-    ndim: u8,
+    ndim: u32,
     radius: f64,
 ) -> u32
-    ensures { λ r. ⌜ (r, memoryOf (now (counts .exit)) (now (points .exit)) (now (planes .exit)) (now (elements .exit))) ≡ cubeReply desk ndim radius (memoryOf (now (counts .entry)) (now (points .entry)) (now (planes .entry)) (now (elements .entry))) ⌝ }
+    ensures { λ r. ⌜ (r, memoryOf (now (counts .exit)) (now (points .exit)) (now (planes .exit)) (now (elements .exit))) ≡
+        cubeReply desk ndim radius (memoryOf (now (counts .entry)) (now (points .entry)) (now (planes .entry)) (now (elements .entry))) ⌝ }
 {
     let dimension = ndim as u64;
     cube::with_primordial_cube_radius(dimension, radius, counts, points, planes, elements) as u32
@@ -105,11 +116,12 @@ pub extern "C" fn desk_cut(
     n2: f64,
     n3: f64,
     distance: f64,
-    inside: u8,
-    outside: u8,
-    root: u16,
+    inside: u32,
+    outside: u32,
+    root: u32,
 ) -> u64
-    ensures { λ r. ⌜ (r, memoryOf (now (counts .exit)) (now (points .exit)) (now (planes .exit)) (now (elements .exit))) ≡ cutWord (cutReply desk (dividerWith n0 n1 n2 n3 distance) (keptBy inside) (keptBy outside) root (memoryOf (now (counts .entry)) (now (points .entry)) (now (planes .entry)) (now (elements .entry)))) ⌝ }
+    ensures { λ r. ⌜ (r, memoryOf (now (counts .exit)) (now (points .exit)) (now (planes .exit)) (now (elements .exit))) ≡
+        cutWord (cutReply desk (dividerWith n0 n1 n2 n3 distance) (keptBy inside) (keptBy outside) root (memoryOf (now (counts .entry)) (now (points .entry)) (now (planes .entry)) (now (elements .entry)))) ⌝ }
 {
     let normal = [n0, n1, n2, n3];
     let divider = Hyperplane { normal, distance };
@@ -129,7 +141,7 @@ pub extern "C" fn desk_subelements_of(
     points: &[f64],
     planes: &[f64],
     elements: &[u16],
-    root: u16,
+    root: u32,
     list: &mut [u16],
 ) -> u32
     ensures { λ r. ⌜ (r, now (list .exit)) ≡ listWord (subElementsReply desk (memoryOf (now (counts .entry)) (now (points .entry)) (now (planes .entry)) (now (elements .entry))) root (now (list .entry))) ⌝ }
@@ -151,12 +163,13 @@ pub extern "C" fn desk_subelements_with_rank(
     points: &[f64],
     planes: &[f64],
     elements: &[u16],
-    root: u16,
-    rank: u8,
+    root: u32,
+    rank: u32,
     list: &mut [u16],
 ) -> u32
     ensures { λ r. ⌜ (r, now (list .exit)) ≡ listWord (withRankReply desk (memoryOf (now (counts .entry)) (now (points .entry)) (now (planes .entry)) (now (elements .entry))) rank root (now (list .entry))) ⌝ }
 {
+    let rank = rank_byte(rank);
     let reply = questions::subelements_with_rank(
         counts,
         points,
@@ -175,7 +188,7 @@ pub extern "C" fn desk_vertex_set(
     points: &[f64],
     planes: &[f64],
     elements: &[u16],
-    root: u16,
+    root: u32,
     list: &mut [u16],
 ) -> u32
     ensures { λ r. ⌜ (r, now (list .exit)) ≡ listWord (vertexSetReply desk (memoryOf (now (counts .entry)) (now (points .entry)) (now (planes .entry)) (now (elements .entry))) root (now (list .entry))) ⌝ }
@@ -219,7 +232,7 @@ pub extern "C" fn desk_edges_in_order(
     points: &[f64],
     planes: &[f64],
     elements: &[u16],
-    root: u16,
+    root: u32,
     list: &mut [u16],
 ) -> u32
     ensures { λ r. ⌜ (r, now (list .exit)) ≡ listWord (edgesInOrderReply desk (memoryOf (now (counts .entry)) (now (points .entry)) (now (planes .entry)) (now (elements .entry))) root (now (list .entry))) ⌝ }
@@ -241,7 +254,7 @@ pub extern "C" fn desk_has_primordial_facet(
     points: &[f64],
     planes: &[f64],
     elements: &[u16],
-    root: u16,
+    root: u32,
 ) -> u32
     ensures { λ r. ⌜ r ≡ facetWord (primordialFacetReply desk (memoryOf (now (counts .entry)) (now (points .entry)) (now (planes .entry)) (now (elements .entry))) root) ⌝ }
 {

@@ -16,11 +16,12 @@ use Rattle.rules.specs.Promises.{Reaches, itself, lower, border, Bordered}
 use Rattle.rules.proofs.Borders.{sound-bordered}
 use Rattle.rules.proofs.Good.{above-zero, sound-good}
 use Rattle.rules.proofs.Growing.{all-get}
+use Rattle.rules.proofs.FaceEdges.{member-at}
 use Rattle.rules.proofs.Laws.{or-case, or-left, or-right, eq-test, test-le, le-test, not-le, and-true, refute, eqb-self, unlike-eq, both-ways}
 use Rattle.rules.proofs.Reach.{some-at, is-below}
 use Rattle.space.proofs.Room.{elements-size, sizeOf, listOf, rank-word, size-word, list-word}
-use Rattle.elements.specs.Marks.{isMarked, marking, markingAll, NoneMarked, DownTo, members}
-use Rattle.elements.specs.Below.{Lent, Used, boundaryWord, boundaryWords, BoundaryReady, Passed, Onward, Below}
+use Rattle.elements.specs.Marks.{isMarked, marking, markingAll, NoneMarked, DownTo, markedNumbers}
+use Rattle.elements.specs.Below.{Lent, Used, boundaryWord, boundaryNumbers, BoundaryReady, PassedFrom, Onward, Below}
 use Rattle.elements.proofs.MarkLaws.{marking-long, marked-one, marking-all-long, marked-all}
 use Rattle.elements.proofs.MemberLaws.{members-are}
 
@@ -28,7 +29,7 @@ use Rattle.elements.proofs.MemberLaws.{members-are}
 
 -- those from i on are left to mark
 pub record Marking (es : List ℕ) (e n : ℕ) (ws₀ ws : List ℕ) (i : ℕ) : Type 0 where
-  pub of : markingAll ws₀ (boundaryWords es e) ≡ markingAll ws (map (boundaryWord es e) (upFrom i (n - i)))
+  pub of : markingAll ws₀ (boundaryNumbers es e) ≡ markingAll ws (map (boundaryWord es e) (upFrom i (n - i)))
 
 marking-on : (ws xs : List ℕ) (x : ℕ) → markingAll ws (x ∷ xs) ≡ markingAll (marking ws x) xs
 unfolding markingAll
@@ -39,7 +40,7 @@ unfolding markingAll
 marking-none ws = refl
 
 pub marking-start : (es : List ℕ) (e n : ℕ) (ws : List ℕ) → n ≡ getD es (e * 36 + 3) 0 → Marking es e n ws ws 0
-unfolding boundaryWords
+unfolding boundaryNumbers
 marking-start es e n ws q = record { of = ap (λ (k : ℕ). markingAll ws (map (boundaryWord es e) (upFrom 0 k))) (let z : getD es (e * 36 + 3) 0 ≡ n - 0 = omega (arith, q) in z) }
 
 module _ (es : List ℕ) (e n : ℕ) (ws₀ ws : List ℕ) (i : ℕ) (m : Marking es e n ws₀ ws i) where
@@ -52,7 +53,7 @@ module _ (es : List ℕ) (e n : ℕ) (ws₀ ws : List ℕ) (i : ℕ) (m : Markin
         ∙ ap₂ (λ (v : List ℕ) (k : ℕ). markingAll v (map (boundaryWord es e) (upFrom k (n - (i + 1))))) (sym (q ∙ ap (marking ws) p)) (sym (add-one i));
   }
 
-  pub marking-end : n ≤ i → ws ≡ markingAll ws₀ (boundaryWords es e)
+  pub marking-end : n ≤ i → ws ≡ markingAll ws₀ (boundaryNumbers es e)
   marking-end l =
       sym (m .of ∙ ap (λ (k : ℕ). markingAll ws (map (boundaryWord es e) (upFrom i k))) (let z : n - i ≡ 0 = omega (arith, l) in z) ∙ marking-none ws)
 
@@ -109,8 +110,8 @@ module _ (es : List ℕ) (t : Table) (lent : Lent es t) (e : ℕ) (u : e < eleme
         ∙ list-word desk t (lent .fits) e u i (subst (λ (b : List ℕ). i < length b) (sym (same-list .0)) l) (omega (arith, f, l))
         ∙ ap (λ (b : List ℕ). getD b i 0) (same-list .0)
 
-    pub boundary-is : boundaryWords es e ≡ boundary t e
-    unfolding boundaryWords
+    pub boundary-is : boundaryNumbers es e ≡ boundary t e
+    unfolding boundaryNumbers
     boundary-is =
         ap (λ (n : ℕ). map (boundaryWord es e) (upTo n)) size-is
         ∙ places (boundaryWord es e) 0 (boundary t e) (λ i l. ap (boundaryWord es e) (let q : 0 + i ≡ i = omega arith in q) ∙ word-is i l)
@@ -140,18 +141,13 @@ all-reached : {t : Table} (ws : List ℕ) {r x : ℕ} → ((y n : ℕ) → isMar
 all-reached ws c (itself e) m = m
 all-reached ws c (lower e n x l h) m = all-reached ws c h (c e n m l)
 
-member-at : (b : List ℕ) (n : ℕ) → n < length b → member (getD b n 0) b ≡ true
-member-at [] n l = absurd (not-suc-le-zero l)
-member-at (y ∷ ys) zero l = or-left (eqb y y) (member y ys) (eqb-self y)
-member-at (y ∷ ys) (suc n) l = or-right (eqb (getD ys n 0) y) (member (getD ys n 0) ys) (member-at ys n (omega (arith, l)))
-
 each-at : (p : ℕ → Bool) (b : List ℕ) → ((n : ℕ) → n < length b → p (getD b n 0) ≡ true) → all p b ≡ true
 each-at p [] h = refl
 each-at p (y ∷ ys) h = and-true (p y) (all p ys) (h 0 (zero-lt-suc (length ys))) (each-at p ys (λ n l. h (suc n) (omega (arith, l))))
 
 -- ---- one element further
 
-module _ (es : List ℕ) (t : Table) (lent : Lent es t) (e : ℕ) (u : e < elementCount t) (root : ℕ) (ws : List ℕ) (P : Passed t root (suc e) ws) where
+module _ (es : List ℕ) (t : Table) (lent : Lent es t) (e : ℕ) (u : e < elementCount t) (root : ℕ) (ws : List ℕ) (P : PassedFrom t root (suc e) ws) where
   -- it is this element, or one that the pass has gone by
   here-or-past : (A : Type 0) (x : ℕ) → e ≤ x → (x ≡ e → A) → (suc e ≤ x → A) → A
   here-or-past A x l f g = go (eqb x e) refl
@@ -160,7 +156,7 @@ module _ (es : List ℕ) (t : Table) (lent : Lent es t) (e : ℕ) (u : e < eleme
       go true q = f (eq-test x e q)
       go false q = g (let n = unlike-eq x e q in omega (arith, l, n))
 
-  stay : ((n : ℕ) → isMarked ws e ≡ true → n < length (boundary t e) → ⊥) → Passed t root e ws
+  stay : ((n : ℕ) → isMarked ws e ≡ true → n < length (boundary t e) → ⊥) → PassedFrom t root e ws
   stay none = record {
     long = P .long;
     top = P .top;
@@ -170,19 +166,19 @@ module _ (es : List ℕ) (t : Table) (lent : Lent es t) (e : ℕ) (u : e < eleme
         (λ h. P .closed x n h m k);
   }
 
-  pub not-below : isMarked ws e ≡ false → Passed t root e ws
+  pub not-below : isMarked ws e ≡ false → PassedFrom t root e ws
   not-below f = stay (λ n m k. false≢true (sym f ∙ m))
 
-  pub a-vertex : getD es (e * 36) 0 ≡ 0 → Passed t root e ws
+  pub a-vertex : getD es (e * 36) 0 ≡ 0 → PassedFrom t root e ws
   a-vertex z = stay (λ n m k. no-border es t lent e u n (sym (lent-rank es t lent e u) ∙ z) k)
 
   module _ (m : isMarked ws e ≡ true) (z : getD es (e * 36) 0 ≡ 0 → ⊥) where
     ranked : 0 < rank t e
     ranked = polytope-ranked es t lent e u z
 
-    pub go-on : (ws′ : List ℕ) → ws′ ≡ markingAll ws (boundaryWords es e) → Passed t root e ws′
+    pub go-on : (ws′ : List ℕ) → ws′ ≡ markingAll ws (boundaryNumbers es e) → PassedFrom t root e ws′
     go-on ws′ q = record {
-      long = ap length q ∙ marking-all-long ws (boundaryWords es e) ∙ P .long;
+      long = ap length q ∙ marking-all-long ws (boundaryNumbers es e) ∙ P .long;
       top = told root ∙ or-right (member root b) (isMarked ws root) (P .top);
       reached = λ x h. or-case (member x b) (isMarked ws x) (sym (told x) ∙ h) (Reaches t root x)
           (λ k. let s = some-at (eqb x) b k in subst (Reaches t root) (sym (eq-test x (border t e (s .0)) (s .2))) (further (P .reached e m) (s .0) (s .1)))
@@ -208,7 +204,7 @@ module _ (es : List ℕ) (t : Table) (lent : Lent es t) (e : ℕ) (u : e < eleme
 
 -- whatever table is lent, the pass has come down to y
 pub record Going (es : List ℕ) (root y : ℕ) (ws : List ℕ) : Type 0 where
-  pub of : (t : Table) → Lent es t → root < elementCount t → Passed t root y ws
+  pub of : (t : Table) → Lent es t → root < elementCount t → PassedFrom t root y ws
 
 pub going-start : (es : List ℕ) (root : ℕ) (none ws : List ℕ) → length none ≡ 8 → NoneMarked none → root < 512 → ws ≡ marking none root → Going es (root + 1 - 1) (root + 1) ws
 going-start es root none ws l none′ r q = subst (λ (k : ℕ). Going es k (root + 1) ws) (let z : root ≡ root + 1 - 1 = omega arith in z) record {
@@ -230,7 +226,7 @@ going-start es root none ws l none′ r q = subst (λ (k : ℕ). Going es k (roo
 pub going-next : (es : List ℕ) (root y e : ℕ) (ws ws′ : List ℕ) → 0 < y → y ≤ root + 1 → DownTo ws (y - 1) e → Onward es e ws ws′ → Going es root y ws → Going es root e ws′
 going-next es root y e ws ws′ p h d o g = record { of = λ t lent u. o .of t lent (let l = d .low in omega (arith, l, h, u)) root (skipped t (g .of t lent u)) }
   where
-    skipped : (t : Table) → Passed t root y ws → Passed t root (suc e) ws
+    skipped : (t : Table) → PassedFrom t root y ws → PassedFrom t root (suc e) ws
     skipped t P = record {
       long = P .long;
       top = P .top;
@@ -268,6 +264,6 @@ reached-earlier es t lent (lower e n x l h) u =
 pub none-below : (es : List ℕ) (t : Table) (root x : ℕ) → Lent es t → root < elementCount t → elementCount t ≤ x → isBelow t root x ≡ false
 none-below es t root x lent u h = refute (isBelow t root x) (λ k. let r = reached-earlier es t lent (is-below desk t (lent .sound) root x u .0 k) u in omega (arith, r, u, h))
 
-pub sub-elements-marked : (es : List ℕ) (t : Table) (root : ℕ) (ws : List ℕ) → Lent es t → root < elementCount t → Below es root ws → members ws ≡ subElements t root
+pub sub-elements-marked : (es : List ℕ) (t : Table) (root : ℕ) (ws : List ℕ) → Lent es t → root < elementCount t → Below es root ws → markedNumbers ws ≡ subElements t root
 unfolding subElements
 sub-elements-marked es t root ws lent u b = members-are ws (elementCount t) (isBelow t root) (lent .fits .elementRoom) (b .of t lent u) (λ x h. none-below es t root x lent u h)

@@ -14,15 +14,14 @@ use Rattle.rules.specs.Lists.{all}
 use Rattle.rules.specs.Table.{Table, elementCount, rank}
 use Rattle.rules.specs.Questions.{no-answer, answer, isBelow, commonWithRank, someOr, greatestFrom, greatestCommon}
 use Rattle.rules.proofs.Borders.{at-each}
-use Rattle.rules.proofs.Laws.{eq-test, unlike-eq, and-left, and-right, eqb-self, le-test, not-le, if-true, if-false}
+use Rattle.rules.proofs.Laws.{eq-test, unlike-eq, and-left, and-right, and-swap, and-when, eqb-self, le-test, not-le, if-true, if-false}
 use Rattle.soundness.proofs.ReadBack.{and-assoc, and-one}
-use Rattle.elements.specs.Marks.{bit, isMarked, members, NoneMarked, Both}
+use Rattle.elements.specs.Marks.{bit, isMarked, markedNumbers, NoneMarked, Both}
 use Rattle.elements.specs.Below.{Lent, Used, Below}
 use Rattle.elements.specs.Ranks.{OfRank, AllUsed, Common, Greatest}
 use Rattle.elements.proofs.MarkLaws.{marked-high}
 use Rattle.elements.proofs.MemberLaws.{members-are, true-below}
 use Rattle.elements.proofs.BelowLoops.{in-room, lent-rank, none-below}
-use Rattle.elements.proofs.RankLoops.{and-when}
 
 -- ---- two sets, word by word
 
@@ -129,12 +128,6 @@ first-fails : (p : ℕ → Bool) (xs : List ℕ) → 0 < length xs → p (getD x
 first-fails p [] h e = absurd (not-suc-le-zero h)
 first-fails p (x ∷ xs) h e = ap (λ (b : Bool). b && all p xs) e
 
-and-swap : (a b : Bool) → (a && b) ≡ (b && a)
-and-swap true true = refl
-and-swap true false = refl
-and-swap false true = refl
-and-swap false false = refl
-
 module _ (es : List ℕ) (t : Table) (roots : List ℕ) (lent : Lent es t) (u : all (λ e. ltb e (elementCount t)) roots ≡ true) (some : 0 < length roots) where
   abbrev shared : ℕ → Bool
   shared x = all (λ e. isBelow t e x) roots
@@ -145,7 +138,7 @@ module _ (es : List ℕ) (t : Table) (roots : List ℕ) (lent : Lent es t) (u : 
   shared-used : (x : ℕ) → shared x ≡ true → x < elementCount t
   shared-used = true-below shared (elementCount t) none-shared
 
-  common-marked : (ws out : List ℕ) (k : ℕ) → ((x : ℕ) → isMarked ws x ≡ shared x) → OfRank es ws k out → members out ≡ commonWithRank t k roots
+  common-marked : (ws out : List ℕ) (k : ℕ) → ((x : ℕ) → isMarked ws x ≡ shared x) → OfRank es ws k out → markedNumbers out ≡ commonWithRank t k roots
   unfolding commonWithRank
   common-marked ws out k same r =
       members-are out (elementCount t) (λ x. eqb (rank t x) k && shared x) (lent .fits .elementRoom)
@@ -185,14 +178,14 @@ module _ (es ws : List ℕ) (r i : ℕ) (d : Descending es ws r i) where
         let q : r - i ≡ suc (r - (i + 1)) = omega (arith, l) in
         subst (λ (j : ℕ). greatestFrom t j roots ≡ someOr (commonWithRank t j roots) (greatestFrom t (r - (i + 1)) roots)) (sym q) (greatest-on t roots (r - (i + 1)))
 
-    pub descending-next : length (members out) ≡ 0 → Descending es ws r (i + 1)
+    pub descending-next : length (markedNumbers out) ≡ 0 → Descending es ws r (i + 1)
     descending-next z = record {
       of = λ t roots lent u s m.
           let c = common-marked es t roots lent u s ws out (r - i) m k in
           d .of t roots lent u s m ∙ at-rank t roots ∙ none-first (commonWithRank t (r - i) roots) (greatestFrom t (r - (i + 1)) roots) (sym (ap length c) ∙ z);
     }
 
-    pub descending-found : 0 < length (members out) → Greatest es ws r out
+    pub descending-found : 0 < length (markedNumbers out) → Greatest es ws r out
     descending-found z = record {
       of = λ t roots lent u s m.
           let c = common-marked es t roots lent u s ws out (r - i) m k in
@@ -239,7 +232,7 @@ module _ (es : List ℕ) (t : Table) (lent : Lent es t) (k : ℕ) where
   unlike-roots (e ∷ roots) u q f = sym (if-false (all (λ y. eqb (rank t y) (rank t e)) roots) (answer (greatestFrom t (rank t e) (e ∷ roots))) (no-answer 6) (one-rank e roots u q ∙ f))
 
   pub greatest-answered : (roots ws out : List ℕ) → all (λ y. ltb y (elementCount t)) roots ≡ true → 0 < length roots → k ≡ getD es (getD roots 0 0 * 36) 0
-      → all (λ y. eqb (getD es (y * 36) 0) k) roots ≡ true → Common es roots ws → Greatest es ws k out → answer (members out) ≡ greatestCommon t roots
+      → all (λ y. eqb (getD es (y * 36) 0) k) roots ≡ true → Common es roots ws → Greatest es ws k out → answer (markedNumbers out) ≡ greatestCommon t roots
   unfolding greatestCommon
   greatest-answered [] ws out u s q f c g = absurd (not-suc-le-zero s)
   greatest-answered (e ∷ roots) ws out u s q f c g =

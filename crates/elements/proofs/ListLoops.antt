@@ -14,7 +14,7 @@ use Rattle.rules.specs.Questions.{answer}
 use Rattle.rules.specs.Replies.{listed}
 use Rattle.rules.specs.declared.ListReply.the-variants.{Refused, Listed}
 use Rattle.rules.proofs.Laws.{if-true, if-false, test-le, test-above}
-use Rattle.elements.specs.Marks.{bitsFrom, wordsFrom, members, CountOf}
+use Rattle.elements.specs.Marks.{bitsFrom, wordsFrom, markedNumbers, CountOf, WordListed}
 use Rattle.elements.proofs.MemberLaws.{bits-none, first-bit, first-place}
 
 -- ---- one word
@@ -40,10 +40,10 @@ listing-start l from word base h =
     }
 
 module _ (l₀ : List ℕ) (from word base : ℕ) (l : List ℕ) (at x left : ℕ) (i : Listing l₀ from word base l at x left) where
-  pub listing-end : left ≡ 0 → (at ≡ from + length (bitsFrom 64 word base)) × (l ≡ sets l₀ from (bitsFrom 64 word base))
+  pub listing-end : left ≡ 0 → WordListed l₀ from word base at l
   listing-end e =
       let none : bitsFrom (base + 64 - x) left x ≡ [] = ap (λ (w : ℕ). bitsFrom (base + 64 - x) w x) e ∙ bits-none (base + 64 - x) x in
-      ((let s = i .size in let n = ap length none in omega (arith, s, n)), sym (ap (sets l at) none) ∙ i .list)
+      record { next = let s = i .size in let n = ap length none in omega (arith, s, n); written = sym (ap (sets l at) none) ∙ i .list }
 
   module _ (z : ℕ) (q : z ≡ trailingZeros 64 left) (n : left ≡ 0 → ⊥) where
     abbrev width : ℕ
@@ -107,15 +107,15 @@ sets-append (x ∷ xs) ys l at = sets-append xs ys (set l at x) (suc at) ∙ ap 
 -- the words from w on are left, and go to the places from at on
 pub record Filling (ws l₀ l : List ℕ) (at w : ℕ) : Type 0 where
   pub long : length l ≡ length l₀
-  pub size : at + length (wordsFrom (8 - w) w ws) ≡ length (members ws)
-  pub list : sets l at (wordsFrom (8 - w) w ws) ≡ sets l₀ 0 (members ws)
+  pub size : at + length (wordsFrom (8 - w) w ws) ≡ length (markedNumbers ws)
+  pub list : sets l at (wordsFrom (8 - w) w ws) ≡ sets l₀ 0 (markedNumbers ws)
 
 pub filling-start : (ws l : List ℕ) → Filling ws l l 0 0
-unfolding members
+unfolding markedNumbers
 filling-start ws l = record { long = refl; size = omega arith; list = refl }
 
 module _ (ws l₀ l : List ℕ) (at w : ℕ) (f : Filling ws l₀ l at w) where
-  pub filling-end : w ≡ 8 → l ≡ sets l₀ 0 (members ws)
+  pub filling-end : w ≡ 8 → l ≡ sets l₀ 0 (markedNumbers ws)
   filling-end e =
       let none : wordsFrom (8 - w) w ws ≡ [] = ap (λ (n : ℕ). wordsFrom n w ws) (let q : 8 - w ≡ 0 = omega (arith, e) in q) ∙ words-end w ws in
       sym (ap (sets l at) none) ∙ f .list
@@ -128,10 +128,10 @@ module _ (ws l₀ l : List ℕ) (at w : ℕ) (f : Filling ws l₀ l at w) where
     unfolding word
     word-split = ap (λ (n : ℕ). wordsFrom n w ws) (let q : 8 - w ≡ suc (8 - (w + 1)) = omega (arith, less) in q) ∙ words-on (8 - (w + 1)) w ws
 
-    lengths : at + length word + length (wordsFrom (8 - (w + 1)) (w + 1) ws) ≡ length (members ws)
+    lengths : at + length word + length (wordsFrom (8 - (w + 1)) (w + 1) ws) ≡ length (markedNumbers ws)
     lengths = let e = ap length word-split in let s = length-append word (wordsFrom (8 - (w + 1)) (w + 1) ws) in let z = f .size in omega (arith, e, s, z)
 
-    pub filling-room : length (members ws) ≤ length l₀ → at + length (bitsFrom 64 (getD ws w 0) (w * 64)) ≤ length l
+    pub filling-room : length (markedNumbers ws) ≤ length l₀ → at + length (bitsFrom 64 (getD ws w 0) (w * 64)) ≤ length l
     unfolding word
     filling-room r = let e = lengths in let m = f .long in omega (arith, e, m, r)
 
@@ -151,11 +151,11 @@ module _ (ws l₀ l : List ℕ) (at w : ℕ) (f : Filling ws l₀ l at w) where
 
 -- n marks so far, the words from w on are left
 pub record Counting (ws : List ℕ) (n w : ℕ) : Type 0 where
-  pub size : n + length (wordsFrom (8 - w) w ws) ≡ length (members ws)
+  pub size : n + length (wordsFrom (8 - w) w ws) ≡ length (markedNumbers ws)
   pub most : n ≤ 64 * w
 
 pub counting-start : (ws : List ℕ) → Counting ws 0 0
-unfolding members
+unfolding markedNumbers
 counting-start ws = record { size = omega arith; most = omega arith }
 
 pub counting-next : (ws : List ℕ) (n w c : ℕ) → w < 8 → CountOf (getD ws w 0) c → Counting ws n w → Counting ws (n + c) (w + 1)
@@ -170,7 +170,7 @@ counting-next ws n w c less h k = record {
   most = let z = k .most in let m = h .most in omega (arith, z, m);
 }
 
-pub counting-end : (ws : List ℕ) (n w : ℕ) → w ≡ 8 → Counting ws n w → n ≡ length (members ws)
+pub counting-end : (ws : List ℕ) (n w : ℕ) → w ≡ 8 → Counting ws n w → n ≡ length (markedNumbers ws)
 counting-end ws n w e k =
     let z = k .size in
     let s = ap (λ (j : ℕ). length (wordsFrom j w ws)) (let q : 8 - w ≡ 0 = omega (arith, e) in q) in

@@ -1,15 +1,15 @@
 -- A mark is one digit of one word: setting it leaves every other digit, and a set of both has the digits of both. The zeros at the top of a shifted word are digits with no mark.
 use Prim.Native.Nat.{ℕ, zero, suc, _+_, _*_, _-_, _/_, _%_, _^_, _<_, _≤_}
-use mathlib.Core.Bool.{Bool, true, false, _||_}
+use mathlib.Core.Bool.{Bool, true, false, _||_, false≢true}
 use mathlib.Core.List.{List, [], _∷_}
 use mathlib.Core.Logic.{inl, inr}
-use mathlib.Core.Path.{_≡_, refl, sym, ap, subst, _∙_}
-use native.Mathlib.Nat.{div-self, div-eq-of-lt, mod-lt, mod-eq-of-lt, one-mul, div-add-mod', eq-zero-or-pos, div-eq-of-eq-mul-left, lt-of-lt-of-le, pow-suc, mul-mod-left}
+use mathlib.Core.Path.{_≡_, refl, sym, ap, ap₂, subst, _∙_}
+use native.Mathlib.Nat.{div-self, div-eq-of-lt, mod-lt, mod-eq-of-lt, one-mul, div-add-mod', eq-zero-or-pos, div-eq-of-eq-mul-left, lt-of-lt-of-le, le-trans, le-of-eq, pow-suc, mul-comm, mul-mod-left, le-div-iff-mul-le, div-lt-iff-lt-mul}
 use native.Mathlib.Omega.{arith}
 use lib.Bits.{bitOr, bitAnd, and-mask, or-shr, or-mod, or-zero-r}
-use lib.Count.{leadingZeros, leading-length}
+use lib.Count.{leadingZeros, leading-length, leading-top, leading-of-zero}
 use lib.Dec.{eqb, ltb}
-use lib.ListN.{length, getD, set, length-set, replicate, List·getD-eq-default}
+use lib.ListN.{length, getD, length-set, replicate, List·getD-eq-default}
 use lib.Pow.{pow-pos, pow-mono, pow-lt, pow-add, shr-shr, shl-shr, field, mod-mod-pow}
 use lib.Seq.{getD-set-same, getD-set-other}
 use Rattle.rules.specs.Lists.{all, member}
@@ -132,37 +132,114 @@ marked-high ws x l h = word-zero ws x (List·getD-eq-default ws 0 (omega (arith,
 
 -- ---- down to the next mark
 
--- shifted until the digit b is the top one, a word of z leading zeros has no digit set of the z from b down
-zeros-from : (w b z c : ℕ) → b < 64 → z ≡ leadingZeros 64 (w * 2 ^ (63 - b) % 2 ^ 64) → c ≤ b → b < c + z → bit w c ≡ 0
-zeros-from w b z c h q l m =
-    let n = leading-length 64 v (mod-lt (w * 2 ^ k) (pow-pos 64)) in
-    let few : n .0 ≤ k + c = let s = n .1 in omega (arith, s, q, m, h) in
-    let none : v / 2 ^ (k + c) ≡ 0 = div-eq-of-lt (lt-of-lt-of-le (n .2) (pow-mono few)) in
-    sym (mod-mod-pow (w / 2 ^ c) (b - c) 1) ∙ ap (λ (x : ℕ). x % 2) (sym digits ∙ none)
-  where
-    k : ℕ
-    k = 63 - b
+-- the word, shifted until its digit b is the top one
+abbrev topped : ℕ → ℕ → ℕ
+topped w b = w * 2 ^ (63 - b) % 2 ^ 64
 
-    v : ℕ
-    v = w * 2 ^ k % 2 ^ 64
+module _ (w b z : ℕ) (h : b < 64) (q : z ≡ leadingZeros 64 (topped w b)) where
+  -- the digits of w from c up to b
+  digits : (c : ℕ) → c ≤ b → topped w b / 2 ^ (63 - b + c) ≡ w / 2 ^ c % 2 ^ (b - c + 1)
+  digits c l =
+      ap (λ (n : ℕ). w * 2 ^ (63 - b) % 2 ^ n / 2 ^ (63 - b + c)) (let e : 64 ≡ b - c + 1 + (63 - b + c) = omega (arith, h, l) in e)
+      ∙ field (w * 2 ^ (63 - b)) (b - c + 1) (63 - b + c)
+      ∙ ap (λ (x : ℕ). x % 2 ^ (b - c + 1)) (sym (shr-shr (w * 2 ^ (63 - b)) (63 - b) c) ∙ ap (λ (x : ℕ). x / 2 ^ c) (shl-shr w (63 - b)))
 
-    -- the digits of w from c up to b
-    digits : v / 2 ^ (k + c) ≡ w / 2 ^ c % 2 ^ (b - c + 1)
-    digits =
-        ap (λ (n : ℕ). w * 2 ^ k % 2 ^ n / 2 ^ (k + c)) (let e : 64 ≡ b - c + 1 + (k + c) = omega (arith, h, l) in e)
-        ∙ field (w * 2 ^ k) (b - c + 1) (k + c)
-        ∙ ap (λ (x : ℕ). x % 2 ^ (b - c + 1)) (sym (shr-shr (w * 2 ^ k) k c) ∙ ap (λ (x : ℕ). x / 2 ^ c) (shl-shr w k))
+  digit-is : (c : ℕ) → c ≤ b → bit w c ≡ topped w b / 2 ^ (63 - b + c) % 2
+  digit-is c l = sym (mod-mod-pow (w / 2 ^ c) (b - c) 1) ∙ ap (λ (x : ℕ). x % 2) (sym (digits c l))
 
-pub down-to : (ws : List ℕ) (i z r : ℕ) → z ≡ leadingZeros 64 (getD ws (i / 64) 0 * 2 ^ (63 - i % 64) % 2 ^ 64) → r ≤ i → i ≤ r + i % 64 → i ≤ r + z → DownTo ws i r
-unfolding isMarked
-down-to ws i z r q l m n = record {
-  low = l;
-  none = λ x a b.
+  -- no digit is set of as many as there are leading zeros, from b down
+  zeros-from : (c : ℕ) → c ≤ b → b < c + z → bit w c ≡ 0
+  zeros-from c l m =
+      let n = leading-length 64 (topped w b) (mod-lt (w * 2 ^ (63 - b)) (pow-pos 64)) in
+      let few : n .0 ≤ 63 - b + c = let s = n .1 in omega (arith, s, q, m, h) in
+      digit-is c l ∙ ap (λ (x : ℕ). x % 2) (div-eq-of-lt (lt-of-lt-of-le (n .2) (pow-mono few)))
+
+  -- and the digit below them is
+  one-below : z ≤ b → bit w (b - z) ≡ 1
+  one-below l = digit-is (b - z) (omega arith) ∙ ap (λ (x : ℕ). x % 2) (ap (λ (n : ℕ). topped w b / 2 ^ n) place ∙ one)
+    where
+      some : 0 < topped w b
+      some = elim (eq-zero-or-pos (topped w b)) [
+        | inl e ↦ let f : z ≡ 64 = q ∙ ap (leadingZeros 64) e ∙ leading-of-zero 64 in absurd (omega (arith, f, l, h))
+        | inr p ↦ p
+      ]
+
+      t : (j : ℕ) × (leadingZeros 64 (topped w b) + suc j ≡ 64) × (2 ^ j ≤ topped w b) × (topped w b < 2 ^ suc j)
+      t = leading-top 64 (topped w b) some (mod-lt (w * 2 ^ (63 - b)) (pow-pos 64))
+
+      place : 63 - b + (b - z) ≡ t .0
+      place = let s = t .1 in omega (arith, s, q, l, h)
+
+      one : topped w b / 2 ^ t .0 ≡ 1
+      one =
+          let a = le-div-iff-mul-le {k = 2 ^ t .0} {x = 1} {y = topped w b} (pow-pos (t .0)) .1 (le-trans (le-of-eq (one-mul (2 ^ t .0))) (t .2)) in
+          let d = div-lt-iff-lt-mul {k = 2 ^ t .0} {x = topped w b} {y = 2} (pow-pos (t .0)) .1 (lt-of-lt-of-le (t .3) (le-of-eq (pow-suc 2 (t .0) ∙ mul-comm (2 ^ t .0) 2))) in
+          omega (arith, a, d)
+
+module _ (ws : List ℕ) (i z : ℕ) (q : z ≡ leadingZeros 64 (topped (getD ws (i / 64) 0) (i % 64))) where
+  low-part : i % 64 < 64
+  low-part = mod-lt i (omega arith)
+
+  -- what is passed over is not marked
+  passed : (r : ℕ) → i ≤ r + i % 64 → i ≤ r + z → (x : ℕ) → r < x → x ≤ i → isMarked ws x ≡ false
+  unfolding isMarked
+  passed r m n x a b =
       let p = div-add-mod' x 64 in
       let o = div-add-mod' i 64 in
       let u : x % 64 < 64 = mod-lt x (omega arith) in
-      let v : i % 64 < 64 = mod-lt i (omega arith) in
+      let v = low-part in
       let word : x / 64 ≡ i / 64 = omega (arith, p, o, u, v, a, b, m) in
       ap (λ (j : ℕ). eqb (bit (getD ws j 0) (x % 64)) 1) word
-      ∙ ap (λ (d : ℕ). eqb d 1) (zeros-from (getD ws (i / 64) 0) (i % 64) z (x % 64) v q (omega (arith, p, o, word, b)) (omega (arith, p, o, word, a, n)));
-}
+      ∙ ap (λ (d : ℕ). eqb d 1) (zeros-from (getD ws (i / 64) 0) (i % 64) z v q (x % 64) (omega (arith, p, o, word, b)) (omega (arith, p, o, word, a, n)))
+
+  pub down-to-mark : z < i % 64 → DownTo ws i (i - z)
+  unfolding isMarked
+  down-to-mark l = record {
+    low = omega arith;
+    within = let o = div-add-mod' i 64 in omega (arith, o, l);
+    none = passed (i - z) (let o = div-add-mod' i 64 in omega (arith, o, l)) (omega arith);
+    stops = λ s. marked;
+  }
+    where
+      word : (i - z) / 64 ≡ i / 64
+      word =
+          let o = div-add-mod' i 64 in
+          let p = div-add-mod' (i - z) 64 in
+          let u : (i - z) % 64 < 64 = mod-lt (i - z) (omega arith) in
+          let v = low-part in
+          omega (arith, o, p, u, v, l)
+
+      digit : (i - z) % 64 ≡ i % 64 - z
+      digit =
+          let o = div-add-mod' i 64 in
+          let p = div-add-mod' (i - z) 64 in
+          let w = word in
+          omega (arith, o, p, w, l)
+
+      marked : isMarked ws (i - z) ≡ true
+      marked =
+          ap₂ (λ (j k : ℕ). eqb (bit (getD ws j 0) k) 1) word digit
+          ∙ ap (λ (d : ℕ). eqb d 1) (one-below (getD ws (i / 64) 0) (i % 64) z low-part q (omega (arith, l)))
+
+  pub down-to-first : i % 64 ≤ z → DownTo ws i (i - i % 64)
+  down-to-first l =
+      let o = div-add-mod' i 64 in
+      record {
+        low = omega arith;
+        within = omega (arith, o);
+        none = passed (i - i % 64) (omega arith) (omega (arith, l));
+        stops = λ s. absurd (omega (arith, o, s));
+      }
+
+-- there is one such number
+pub down-to-one : (ws : List ℕ) (i r s : ℕ) → DownTo ws i r → DownTo ws i s → r ≡ s
+down-to-one ws i r s d e = elim (eq-zero-or-pos (s - r)) [
+  | inr l ↦ absurd (apart r s d e (omega (arith, l)))
+  | inl m ↦ elim (eq-zero-or-pos (r - s)) [
+    | inr l ↦ absurd (apart s r e d (omega (arith, l)))
+    | inl n ↦ omega (arith, m, n)
+  ]
+]
+  where
+    apart : (x y : ℕ) → DownTo ws i x → DownTo ws i y → x < y → ⊥
+    apart x y f g l = let w = f .within in false≢true (sym (f .none y l (g .low)) ∙ g .stops (omega (arith, w, l)))

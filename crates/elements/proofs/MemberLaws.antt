@@ -14,7 +14,7 @@ use Rattle.rules.specs.Lists.{if_then_else_, all, keep, upFrom, upTo}
 use Rattle.rules.proofs.Growing.{keep-append}
 use Rattle.rules.proofs.Laws.{le-test, not-le}
 use Rattle.rules.proofs.VertexSet.{keep-all, up-under}
-use Rattle.elements.specs.Marks.{bit, isMarked, put, bitsFrom, wordsFrom, members}
+use Rattle.elements.specs.Marks.{bit, isMarked, put, bitsFrom, wordsFrom, markedNumbers}
 
 -- ---- what is kept of numbers that rise
 
@@ -108,8 +108,8 @@ words-are ws q n p e l same high =
     ∙ append-nil (keep p (upFrom 0 n))
 
 -- the numbers of a set of what p holds of, where it holds of none from n on
-pub members-are : (ws : List ℕ) (n : ℕ) (p : ℕ → Bool) → n ≤ 512 → ((x : ℕ) → isMarked ws x ≡ p x) → ((x : ℕ) → n ≤ x → p x ≡ false) → members ws ≡ keep p (upTo n)
-unfolding members
+pub members-are : (ws : List ℕ) (n : ℕ) (p : ℕ → Bool) → n ≤ 512 → ((x : ℕ) → isMarked ws x ≡ p x) → ((x : ℕ) → n ≤ x → p x ≡ false) → markedNumbers ws ≡ keep p (upTo n)
+unfolding markedNumbers
 members-are ws n p l same high = words-are ws 64 n p refl l same high
 
 words-low : (ws : List ℕ) (q : ℕ) → 64 ≡ q → all (λ x. ltb x 512) (wordsFrom 8 0 ws) ≡ true
@@ -117,8 +117,8 @@ words-low ws q e =
     ap (all (λ x. ltb x 512)) (words-keep ws q e 8 0)
     ∙ keep-all (λ x. ltb x 512) (isMarked ws) (upFrom (0 * q) (8 * q)) (up-under (0 * q) (8 * q) 512 (omega (arith, e)))
 
-pub members-low : (ws : List ℕ) → all (λ x. ltb x 512) (members ws) ≡ true
-unfolding members
+pub members-low : (ws : List ℕ) → all (λ x. ltb x 512) (markedNumbers ws) ≡ true
+unfolding markedNumbers
 members-low ws = words-low ws 64 refl
 
 -- ---- how many, and the lowest

@@ -7,14 +7,14 @@ use native.Mathlib.Omega.{arith}
 use lib.Dec.{eqb, leb}
 use lib.ListN.{length, getD}
 use Rattle.rules.specs.Limits.{desk}
-use Rattle.rules.specs.Lists.{if_then_else_, all, keep, upTo}
+use Rattle.rules.specs.Lists.{if_then_else_, keep, upTo}
 use Rattle.rules.specs.Table.{Table, Element, corner, polytope, element, elementCount, rank, vertexOf}
 use Rattle.rules.specs.Held.{elementsOf}
 use Rattle.rules.specs.Questions.{isBelow, subElements, withRank, vertexSet}
 use Rattle.rules.proofs.Good.{above-zero, sound-good}
-use Rattle.rules.proofs.Laws.{eqb-self, eq-test, test-eq, unlike-eq, not-eq, and-left, and-right, le-test, not-le}
+use Rattle.rules.proofs.Laws.{eqb-self, eq-test, test-eq, unlike-eq, not-eq, and-left, and-right, and-when, le-test, not-le}
 use Rattle.space.proofs.Room.{listOf, list-word}
-use Rattle.elements.specs.Marks.{isMarked, marking, members, NoneMarked, DownTo}
+use Rattle.elements.specs.Marks.{isMarked, marking, markedNumbers, NoneMarked, DownTo}
 use Rattle.elements.specs.Below.{Lent, Below}
 use Rattle.elements.specs.Ranks.{isOfRank, oneMore, OfRank, vertexWord}
 use Rattle.elements.proofs.MarkLaws.{marking-long, marked-one, marked-high}
@@ -112,10 +112,6 @@ module _ (es ws : List ℕ) (rank : ℕ) (out : List ℕ) (y : ℕ) (r : Ranking
 
 -- ---- sub-elements of a rank
 
-pub and-when : (a b c : Bool) → (a ≡ true → b ≡ c) → (a && b) ≡ (a && c)
-and-when true b c h = h refl
-and-when false b c h = refl
-
 keep-keep : (p q : ℕ → Bool) (xs : List ℕ) → keep (λ x. p x && q x) xs ≡ keep q (keep p xs)
 keep-keep p q [] = refl
 keep-keep p q (x ∷ xs) = go (p x) (keep-keep p q xs)
@@ -132,7 +128,7 @@ module _ (es : List ℕ) (t : Table) (lent : Lent es t) (root : ℕ) (u : root <
   abbrev wanted : ℕ → Bool
   wanted x = isBelow t root x && eqb (rank t x) k
 
-  ranked-kept : members out ≡ keep wanted (upTo (elementCount t))
+  ranked-kept : markedNumbers out ≡ keep wanted (upTo (elementCount t))
   ranked-kept =
       members-are out (elementCount t) wanted (lent .fits .elementRoom)
       (λ x. r .of x ∙ ap (λ (c : Bool). c && eqb (getD es (x * 36) 0) k) (b .of t lent u x)
@@ -143,7 +139,7 @@ module _ (es : List ℕ) (t : Table) (lent : Lent es t) (root : ℕ) (u : root <
   unfolding withRank subElements
   kept-ranked = keep-keep (isBelow t root) (λ x. eqb (rank t x) k) (upTo (elementCount t))
 
-  pub with-rank-marked : members out ≡ withRank t k root
+  pub with-rank-marked : markedNumbers out ≡ withRank t k root
   with-rank-marked = ranked-kept ∙ kept-ranked
 
   -- ---- vertices
@@ -160,7 +156,7 @@ module _ (es : List ℕ) (t : Table) (lent : Lent es t) (root : ℕ) (u : root <
           ∙ ap (λ (y : Element). getD (listOf y) 0 0) q
       go v z (polytope p c h m) q = absurd (above-zero desk t x p c h m (sound-good desk t (lent .sound)) v q z)
 
-  pub vertices-named : k ≡ 0 → map (vertexWord es) (members out) ≡ vertexSet t root
+  pub vertices-named : k ≡ 0 → map (vertexWord es) (markedNumbers out) ≡ vertexSet t root
   unfolding vertexSet
   vertices-named z =
       ap (map (vertexWord es)) ranked-kept

@@ -11,7 +11,7 @@ use Rattle.rules.specs.Lists.{all}
 use Rattle.rules.proofs.Borders.{at-each}
 use Rattle.rules.proofs.Laws.{le-test}
 use Rattle.space.proofs.RowWords.{sets-more, sets-all}
-use Rattle.elements.specs.Marks.{members}
+use Rattle.elements.specs.Marks.{markedNumbers}
 use Rattle.elements.specs.Ranks.{vertexWord}
 use Rattle.elements.proofs.MemberLaws.{members-low}
 
@@ -55,25 +55,25 @@ module _ (es l₀ : List ℕ) (n : ℕ) (l : List ℕ) (i : ℕ) (fit : n ≤ le
 
 -- ---- after the elements are listed
 
-module _ (ws l l′ : List ℕ) (n : ℕ) (e : n ≡ length (members ws)) (h : n ≤ length l) (q : l′ ≡ sets l 0 (members ws)) where
-  split : l′ ≡ members ws ++ drop n l
-  split = q ∙ sets-eq (members ws) l 0 (omega (arith, e, h)) ∙ ap (λ (k : ℕ). members ws ++ drop k l) (let z : 0 + length (members ws) ≡ n = omega (arith, e) in z)
+module _ (ws l l′ : List ℕ) (n : ℕ) (e : n ≡ length (markedNumbers ws)) (h : n ≤ length l) (q : l′ ≡ sets l 0 (markedNumbers ws)) where
+  split : l′ ≡ markedNumbers ws ++ drop n l
+  split = q ∙ sets-eq (markedNumbers ws) l 0 (omega (arith, e, h)) ∙ ap (λ (k : ℕ). markedNumbers ws ++ drop k l) (let z : 0 + length (markedNumbers ws) ≡ n = omega (arith, e) in z)
 
   pub still-long : n ≤ length l′
-  still-long = let k = ap length q ∙ length-sets l 0 (members ws) in omega (arith, k, h)
+  still-long = let k = ap length q ∙ length-sets l 0 (markedNumbers ws) in omega (arith, k, h)
 
-  front : take n l′ ≡ members ws
-  front = ap (take n) split ∙ ap (λ (k : ℕ). take k (members ws ++ drop n l)) e ∙ take-append-seam (members ws) (drop n l)
+  front : take n l′ ≡ markedNumbers ws
+  front = ap (take n) split ∙ ap (λ (k : ℕ). take k (markedNumbers ws ++ drop n l)) e ∙ take-append-seam (markedNumbers ws) (drop n l)
 
   pub listed-low : all (λ x. ltb x 512) (take n l′) ≡ true
   listed-low = ap (all (λ x. ltb x 512)) front ∙ members-low ws
 
-  pub replaced : (es l″ : List ℕ) → l″ ≡ sets l′ 0 (map (vertexWord es) (take n l′)) → l″ ≡ sets l 0 (map (vertexWord es) (members ws))
+  pub replaced : (es l″ : List ℕ) → l″ ≡ sets l′ 0 (map (vertexWord es) (take n l′)) → l″ ≡ sets l 0 (map (vertexWord es) (markedNumbers ws))
   replaced es l″ r =
-      let names = map (vertexWord es) (members ws) in
-      let k : length names ≡ n = length-map (members ws) (vertexWord es) ∙ sym e in
+      let names = map (vertexWord es) (markedNumbers ws) in
+      let k : length names ≡ n = length-map (markedNumbers ws) (vertexWord es) ∙ sym e in
       r ∙ ap (λ (xs : List ℕ). sets l′ 0 (map (vertexWord es) xs)) front
       ∙ sets-eq names l′ 0 (let s = still-long in omega (arith, k, s))
       ∙ ap (λ (j : ℕ). names ++ drop j l′) (let z : 0 + length names ≡ n = omega (arith, k) in z)
-      ∙ ap (λ (xs : List ℕ). names ++ xs) (ap (drop n) split ∙ ap (λ (j : ℕ). drop j (members ws ++ drop n l)) e ∙ drop-append-seam (members ws) (drop n l))
+      ∙ ap (λ (xs : List ℕ). names ++ xs) (ap (drop n) split ∙ ap (λ (j : ℕ). drop j (markedNumbers ws ++ drop n l)) e ∙ drop-append-seam (markedNumbers ws) (drop n l))
       ∙ sym (sets-eq names l 0 (omega (arith, k, h)) ∙ ap (λ (j : ℕ). names ++ drop j l) (let z : 0 + length names ≡ n = omega (arith, k) in z))

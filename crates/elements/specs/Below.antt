@@ -34,8 +34,8 @@ abbrev pub boundaryWord : List ℕ → ℕ → ℕ → ℕ
 boundaryWord es e i = getD es (e * 36 + (4 + i)) 0
 
 -- all of them
-unfoldable pub boundaryWords : List ℕ → ℕ → List ℕ
-boundaryWords es e = map (boundaryWord es e) (upTo (getD es (e * 36 + 3) 0))
+unfoldable pub boundaryNumbers : List ℕ → ℕ → List ℕ
+boundaryNumbers es e = map (boundaryWord es e) (upTo (getD es (e * 36 + 3) 0))
 
 -- they are no more than the room has, and each is an element's number
 pub record BoundaryReady (es : List ℕ) (e : ℕ) : Type 0 where
@@ -47,7 +47,7 @@ pub record BoundaryReady (es : List ℕ) (e : ℕ) : Type 0 where
 -- ---- the pass
 
 -- the root is marked; what is marked is reached from it; and from y on, with each its boundary is marked
-pub record Passed (t : Table) (root y : ℕ) (ws : List ℕ) : Type 0 where
+pub record PassedFrom (t : Table) (root y : ℕ) (ws : List ℕ) : Type 0 where
   pub long : length ws ≡ 8
   pub top : isMarked ws root ≡ true
   pub reached : (x : ℕ) → isMarked ws x ≡ true → Reaches t root x
@@ -55,7 +55,7 @@ pub record Passed (t : Table) (root y : ℕ) (ws : List ℕ) : Type 0 where
 
 -- whatever such table is lent: the pass goes on by element e
 pub record Onward (es : List ℕ) (e : ℕ) (ws ws′ : List ℕ) : Type 0 where
-  pub of : (t : Table) → Lent es t → e < elementCount t → (root : ℕ) → Passed t root (suc e) ws → Passed t root e ws′
+  pub of : (t : Table) → Lent es t → e < elementCount t → (root : ℕ) → PassedFrom t root (suc e) ws → PassedFrom t root e ws′
 
 -- whatever such table is lent: exactly what is below the root is marked
 pub record Below (es : List ℕ) (root : ℕ) (ws : List ℕ) : Type 0 where

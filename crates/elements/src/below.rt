@@ -10,11 +10,11 @@ use space::rows::size_of;
 use space::words::wide;
 ghost use mathlib.Core.Path.{_≡_};
 ghost use Rattle.elements.specs.Marks.{markingAll};
-ghost use Rattle.elements.specs.Below.{boundaryWords, BoundaryReady, Used, Onward, Below};
+ghost use Rattle.elements.specs.Below.{boundaryNumbers, BoundaryReady, Used, Onward, Below};
 
 fn mark_boundary(elements: &[u16], e: ElementId, words: &mut [u64; 8])
     requires { ⌜ BoundaryReady (now elements) (e .0) ⌝ }
-    ensures { λ _. ⌜ now (words .exit) ≡ markingAll (now (words .entry)) (boundaryWords (now (elements .entry)) (e .0)) ⌝ }
+    ensures { λ _. ⌜ now (words .exit) ≡ markingAll (now (words .entry)) (boundaryNumbers (now (elements .entry)) (e .0)) ⌝ }
 {
     let n = size_of(elements, e);
     for i in 0..n {

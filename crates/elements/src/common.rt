@@ -5,12 +5,12 @@ use crate::marks::both;
 use rules::ElementId;
 use space::rows::rank_of;
 use space::words::wide;
-ghost use Prim.Native.Nat.{_*_, _<_};
+ghost use Prim.Native.Nat.{_*_};
 ghost use mathlib.Core.Path.{_≡_};
 ghost use lib.Dec.{eqb};
-ghost use lib.ListN.{length, getD};
+ghost use lib.ListN.{getD};
 ghost use Rattle.rules.specs.Lists.{all};
-ghost use Rattle.elements.specs.Ranks.{AllUsed, Common};
+ghost use Rattle.elements.specs.Ranks.{AllUsed, SomeUsed, Common};
 
 pub fn all_of_rank(elements: &[u16], roots: &[u16], rank: usize) -> bool
     requires { ⌜ AllUsed (now elements) (now roots) ⌝ }
@@ -25,7 +25,7 @@ pub fn all_of_rank(elements: &[u16], roots: &[u16], rank: usize) -> bool
 }
 
 pub fn common(elements: &[u16], roots: &[u16]) -> Marks
-    requires { ⌜ AllUsed (now elements) (now roots) × (0 < length (now roots)) ⌝ }
+    requires { ⌜ SomeUsed (now elements) (now roots) ⌝ }
     ensures { λ r. ⌜ Common (now (elements .entry)) (now (roots .entry)) (r .words) ⌝ }
 {
     let mut s = below(elements, ElementId(wide(roots[0])));

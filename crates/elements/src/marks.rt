@@ -1,10 +1,9 @@
 // Sets of numbers below 512 as marks in eight words: the size is the number of marks set, and what is not marked is passed over.
-ghost use Prim.Native.Nat.{_+_, _<_, _≤_};
+ghost use Prim.Native.Nat.{_<_, _≤_};
 ghost use mathlib.Core.Path.{_≡_};
-ghost use lib.Count.{leadingZeros, trailingZeros};
 ghost use lib.ListN.{length};
 ghost use lib.Seq.{sets};
-ghost use Rattle.elements.specs.Marks.{isMarked, marking, bitsFrom, members, CountOf, NoneMarked, Both, DownTo};
+ghost use Rattle.elements.specs.Marks.{isMarked, marking, markedNumbers, CountOf, NoneMarked, Both, DownTo, ZerosBelow, ZerosAbove, WordFits, WordListed};
 
 // How many words a set has, and how many marks a word.
 const WORDS: usize = 8;
@@ -61,18 +60,18 @@ fn ones_of(x: u64) -> usize
 }
 
 fn zeros_below(x: u64) -> usize
-    ensures { λ r. ⌜ (r ≡ trailingZeros 64 x) × (r ≤ 64) ⌝ }
+    ensures { λ r. ⌜ ZerosBelow x r ⌝ }
 {
     u64::trailing_zeros(x) as usize
 }
 
 fn zeros_above(x: u64) -> usize
-    ensures { λ r. ⌜ (r ≡ leadingZeros 64 x) × (r ≤ 64) ⌝ }
+    ensures { λ r. ⌜ ZerosAbove x r ⌝ }
 {
     u64::leading_zeros(x) as usize
 }
 
-// From a number down to the next mark, or to its word's first number: what lies between is not marked.
+// From a number down to the highest mark of its word, or to the word's first number where there is none.
 pub fn down_to(words: &[u64; 8], i: usize) -> usize
     requires { ⌜ i < 512 ⌝ }
     ensures { λ r. ⌜ DownTo (now (words .entry)) i r ⌝ }
@@ -83,7 +82,7 @@ pub fn down_to(words: &[u64; 8], i: usize) -> usize
 }
 
 pub fn size(s: Marks) -> usize
-    ensures { λ r. ⌜ r ≡ length (members (s .words)) ⌝ }
+    ensures { λ r. ⌜ r ≡ length (markedNumbers (s .words)) ⌝ }
 {
     let words = s.words;
     let mut n = 0usize;
@@ -95,8 +94,8 @@ pub fn size(s: Marks) -> usize
 
 // The numbers of a word's marks, in rising order; the place behind them.
 fn list_word(list: &mut [u16], from: usize, word: u64, base: usize) -> usize
-    requires { ⌜ (base ≤ 448) × (from + length (bitsFrom 64 word base) ≤ length (now list)) ⌝ }
-    ensures { λ r. ⌜ (r ≡ from + length (bitsFrom 64 word base)) × (now (list .exit) ≡ sets (now (list .entry)) from (bitsFrom 64 word base)) ⌝ }
+    requires { ⌜ WordFits (now list) from word base ⌝ }
+    ensures { λ r. ⌜ WordListed (now (list .entry)) from word base r (now (list .exit)) ⌝ }
 {
     let mut at = from;
     let mut x = base;
@@ -114,8 +113,8 @@ fn list_word(list: &mut [u16], from: usize, word: u64, base: usize) -> usize
 
 // The front of the list becomes the numbers of the set, in rising order.
 pub fn list_all(s: Marks, list: &mut [u16])
-    requires { ⌜ length (members (s .words)) ≤ length (now list) ⌝ }
-    ensures { λ _. ⌜ now (list .exit) ≡ sets (now (list .entry)) 0 (members (s .words)) ⌝ }
+    requires { ⌜ length (markedNumbers (s .words)) ≤ length (now list) ⌝ }
+    ensures { λ _. ⌜ now (list .exit) ≡ sets (now (list .entry)) 0 (markedNumbers (s .words)) ⌝ }
 {
     let words = s.words;
     let mut at = 0usize;

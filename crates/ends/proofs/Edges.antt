@@ -1,6 +1,6 @@
 -- Rule 4: the two numbers of an edge's row are its ends, and each call is at a table that goes on from the one before.
-use Prim.Native.Nat.{ℕ, suc, _+_, _*_, _≤_, _<_}
-use mathlib.Core.Path.{_≡_, refl, sym, ap, ap₂, _∙_, subst}
+use Prim.Native.Nat.{ℕ, _+_, _*_, _≤_, _<_}
+use mathlib.Core.Path.{_≡_, sym, ap, ap₂, _∙_, subst}
 use mathlib.Core.List.{List, [], _∷_}
 use native.Mathlib.Nat.{le-trans, le-of-eq}
 use native.Mathlib.Omega.{arith}
@@ -10,7 +10,7 @@ use lib.Ieee.{Float}
 use Rattle.rules.specs.Limits.{desk}
 use Rattle.rules.specs.Lists.{pad}
 use Rattle.rules.specs.Floats.{plusZero, sideOf, edgeTest, crossingPoint}
-use Rattle.rules.specs.Table.{Element, corner, polytope, Table, rankOf, boundaryOf, rank, boundary, element, pointAt}
+use Rattle.rules.specs.Table.{Element, Table, rankOf, rank, boundary, element, pointAt}
 use Rattle.rules.specs.Held.{Extends, Holds, Came, went, stopped, Sets, Ranked}
 use Rattle.rules.specs.Cut.{Outcome, done, next, give, Cutting, Gathered, cornerAnswer, nothingYet, addVertex, crossEdge, cutEnds, cutEdge, cutElement, rule6}
 use Rattle.rules.specs.declared.Side.{Side}
@@ -26,20 +26,22 @@ use Rattle.rules.proofs.Good.{Good, sound-good, good-sound}
 use Rattle.rules.proofs.Ranked.{corner-answer, sets-gathering, sets-none}
 use Rattle.rules.proofs.Stays.{Kept, Stays}
 use Rattle.rules.proofs.StaysCut.{Facts, facts, ranked-get, crossing-sound, cross-stays}
+use Rattle.hypermath.specs.Answers.{distanceTo}
 use Rattle.space.specs.Found.{placedAt}
+use Rattle.space.specs.Ready.{VertexReady}
 use Rattle.space.specs.Shared.{VertexAdded}
 use Rattle.space.specs.declared.rows.Placed.{Placed}
 use Rattle.space.specs.declared.rows.Placed.the-variants as placed
-use Rattle.space.proofs.Room.{listOf, list-word}
+use Rattle.space.proofs.Room.{listOf, list-bound, list-word}
 use Rattle.space.proofs.VertexMemo.{dimension-is}
 use Rattle.space.proofs.Slices.{slices}
 use Rattle.gathered.specs.Sets.{Answers, answersIn, Gathers, Sized, NothingYet, OutputInRoom, GatheredIn}
 use Rattle.gathered.specs.Cutting.{Fit, cutOf, Rule6Fit, Rule6Ready, Rule6Done}
-use Rattle.gathered.specs.declared.answer.Cutter.{Cutter}
+use Rattle.rules.specs.declared.Cutter.{Cutter}
 use Rattle.gathered.proofs.Gathering.{at-most, said-count, said-last, said-long}
-use Rattle.ends.specs.Ends.{EndsReady, EndsRead, endsOf, EndsGathered, crossedOf, afterEnds, CrossedFit, CrossedReady, CrossedCut}
+use Rattle.ends.specs.Ends.{PointAsked, EndsReady, EndsRead, EndsAsked, endsOf, EndsGathered, crossedOf, afterEnds, CrossedFit, CrossedReady, CrossedAsked, CrossedCut}
 use Rattle.ends.specs.declared.EdgeEnds.{EdgeEnds}
-use Rattle.ends.specs.Elements.{Ready, ElementCut}
+use Rattle.ends.specs.Elements.{Ready, ElementCut, LowLeft}
 use Rattle.ends.proofs.Vertices as vertex
 
 -- ---- what is gathered
@@ -97,16 +99,17 @@ fit-later {e = e} {t = t} {u} F x g H = record {
   ranked = ap rankOf (element-same t u e x (F .used)) ∙ F .ranked;
 }
 
-pub vertex-asked : {cs : List ℕ} {ps : List Float} {es : List ℕ} {e : ℕ} {k : Cutter} {s : Answers} {x : List Float} → CrossedReady cs ps es e k s x
-    → (length cs ≡ 4) × (length ps ≡ 1024) × (length es ≡ 18432) × (getD cs 1 0 ≤ 512) × (getD cs 2 0 ≤ 256)
-vertex-asked R =
-    let H = R .fit .fit .holds in (
-      slices H .counts,
-      slices H .points,
-      slices H .elements,
-      slices H .elementsFit,
-      slices H .pointsFit,
-    )
+pub vertex-asked : {cs : List ℕ} {ps : List Float} {es ix : List ℕ} {e : ℕ} {k : Cutter} {s : Answers} {x : List Float} → CrossedAsked cs ps es ix e k s x → VertexReady cs ps es ix
+vertex-asked A =
+    let H = A .ready .fit .fit .holds in
+    record {
+      counts = slices H .counts;
+      points = slices H .points;
+      elements = slices H .elements;
+      room = slices H .elementsFit;
+      vertexRoom = slices H .pointsFit;
+      index = A .indexed;
+    }
 
 abbrev numberOf : Placed → ℕ
 numberOf (placed.Refused n) = 0
@@ -198,10 +201,6 @@ module _ {cs : List ℕ} {ps : List Float} {es : List ℕ} {e : ℕ} {k : Cutter
 
 -- ---- what is read of an edge
 
-pub list-bound : (y : Element) (n : ℕ) → rankOf y ≡ suc n → listOf y ≡ boundaryOf y
-list-bound (corner v) n q = absurd (let z : ⊥ = omega (arith, q) in z)
-list-bound (polytope r b h m) n q = refl
-
 module _ {cs : List ℕ} {ps hs : List Float} {es : List ℕ} {e : ℕ} {k : Cutter} {t : Table} (F : Fit cs ps hs es 1 e k t) where
   own : Facts t 0 (element t e)
   own = facts desk t e 0 (sound-good desk t (F .sound)) (F .used) (F .ranked)
@@ -236,14 +235,18 @@ module _ {ps : List Float} {es : List ℕ} {e : ℕ} (R : EndsReady ps es e) whe
   pub number-asked : (i : ℕ) → i < 2 → (length es ≡ 18432) × (e < 512) × (i < 32)
   number-asked i l = (slices (R .fit .holds) .elements, le-trans (R .fit .used) (R .fit .holds .fits .elementRoom), (let z : i < 32 = omega (arith, l) in z))
 
-  pub end-asked : (i x : ℕ) → i < 2 → x ≡ getD es (e * 36 + (4 + i)) 0 → (length ps ≡ 1024) × (length es ≡ 18432) × (x < 512) × (getD es (x * 36 + 4) 0 < 256)
+  pub end-asked : (i x : ℕ) → i < 2 → x ≡ getD es (e * 36 + (4 + i)) 0 → PointAsked ps es x
   end-asked i x l h = vertex.point-asked (end-fit (R .fit) i x l h)
 
   -- both numbers are within the room
-  pub ends-low : {r : EdgeEnds} → EndsRead ps es e r → (r .a .0 < 512) × (r .b .0 < 512)
-  ends-low E = (end-asked 0 _ (lit≤ tt) (E .first) .2, end-asked 1 _ (lit≤ tt) (E .second) .2)
+  pub ends-asked : {r : EdgeEnds} {s : Answers} → EndsRead ps es e r → NothingYet s → EndsAsked (r .a .0) (r .b .0) s
+  ends-asked E N = record { first = end-asked 0 _ (lit≤ tt) (E .first) .low; second = end-asked 1 _ (lit≤ tt) (E .second) .low; nothing = N }
 
 -- ---- the edge
+
+-- what the edge test says of the two ends
+abbrev pub tested : ℕ → Cutter → EdgeEnds → Crossing
+tested d k r = edgeTest (distanceTo d (k .divider) (r .p)) (distanceTo d (k .divider) (r .q))
 
 module _ (k : Cutter) (d : ℕ) (r : EdgeEnds) (sa sb : Float) where
   abbrev a : ℕ
@@ -255,8 +258,8 @@ module _ (k : Cutter) (d : ℕ) (r : EdgeEnds) (sa sb : Float) where
   abbrev answered : Gathered
   answered = endsOf a b sa sb
 
-  module _ {cs : List ℕ} {ps : List Float} {es : List ℕ} {e : ℕ} (hd : d ≡ getD cs 0 0) (E : EndsRead ps es e r) (ha : sa ≡ vertex.distanceTo d (k .divider) (r .p))
-      (hb : sb ≡ vertex.distanceTo d (k .divider) (r .q)) where
+  module _ {cs : List ℕ} {ps : List Float} {es : List ℕ} {e : ℕ} (hd : d ≡ getD cs 0 0) (E : EndsRead ps es e r) (ha : sa ≡ distanceTo d (k .divider) (r .p))
+      (hb : sb ≡ distanceTo d (k .divider) (r .q)) where
     module _ {hs : List Float} {t : Table} (F : Fit cs ps hs es 1 e k t) where
       abbrev c : Cutting
       c = cutOf (t .dimension) k
@@ -268,13 +271,14 @@ module _ (k : Cutter) (d : ℕ) (r : EdgeEnds) (sa sb : Float) where
       fb = end-fit F 1 b (lit≤ tt) (E .second)
 
       -- the rule, on the ends as they were read
-      opened : (z : Crossing) → z ≡ edgeTest sa sb → cutElement desk c 1 e t ≡ afterEnds c (element t e) (crossEdge desk (pointAt t a) (pointAt t b) z answered t)
+      opened : (z : Crossing) → z ≡ tested d k r → cutElement desk c 1 e t ≡ afterEnds c (element t e) (crossEdge desk (pointAt t a) (pointAt t b) z answered t)
       unfolding cutElement cutEdge cutEnds
       opened z h =
-          ap₂ (λ (x y : ℕ). afterEnds c (element t e) (cutEnds desk c x y (pointAt t x) (pointAt t y) t)) (sym (end-is F 0 a (lit≤ tt) (E .first))) (sym (end-is F 1 b (lit≤ tt) (E .second)))
+          ap₂ (λ (x y : ℕ). afterEnds c (element t e) (cutEnds desk c x y (pointAt t x) (pointAt t y) t))
+          (sym (end-is F 0 a (lit≤ tt) (E .first))) (sym (end-is F 1 b (lit≤ tt) (E .second)))
           ∙ ap₂ (λ (x y : Float). afterEnds c (element t e) (crossEdge desk (pointAt t a) (pointAt t b) (edgeTest x y) (endsOf a b x y) t))
           (sym (ha ∙ vertex.distance-is fa d (r .p) hd (E .firstPoint))) (sym (hb ∙ vertex.distance-is fb d (r .q) hd (E .secondPoint)))
-          ∙ ap (λ (x : Crossing). afterEnds c (element t e) (crossEdge desk (pointAt t a) (pointAt t b) x answered t)) (sym h)
+          ∙ ap (λ (x : Crossing). afterEnds c (element t e) (crossEdge desk (pointAt t a) (pointAt t b) x answered t)) (sym (h ∙ ap₂ edgeTest (sym ha) (sym hb)))
 
       ends-sets : Sets 0 answered t
       ends-sets =
@@ -291,7 +295,8 @@ module _ (k : Cutter) (d : ℕ) (r : EdgeEnds) (sa sb : Float) where
       pub missed-ready : Ready cs ps es 1 e k → Rule6Ready cs es 1 e k s
       missed-ready R = record { points = ps; planes = R .planes; table = R .table; gathered = answered; fit = missed-fit (R .fit) }
 
-      pub missed-cut : {y : CutReply} {cs′ es′ : List ℕ} → (z : Crossing) → z ≡ edgeTest sa sb → z ≡ NoCrossing → Rule6Done cs es 1 e k s y cs′ es′ → ElementCut cs ps es 1 e k y cs′ ps es′
+      pub missed-cut : {y : CutReply} {cs′ es′ : List ℕ} → (z : Crossing) → z ≡ tested d k r → z ≡ NoCrossing → Rule6Done cs es 1 e k s y cs′ es′
+          → ElementCut cs ps es 1 e k y cs′ ps es′
       missed-cut {y} {cs′} {es′} z h m D = record {
         of = λ hs t F.
             subst (λ (o : Outcome ElementCutOutput). Came reply.Answered reply.Refused (Holds desk cs′ ps hs es′) t o y) (sym (opened F NoCrossing (sym m ∙ h)))
@@ -323,7 +328,7 @@ module _ (k : Cutter) (d : ℕ) (r : EdgeEnds) (sa sb : Float) where
           fit = crossing-fit (R .fit);
         }
 
-        pub crossing-cut : {y : CutReply} {cs′ : List ℕ} {ps′ : List Float} {es′ : List ℕ} → (z : Crossing) → z ≡ edgeTest sa sb → z ≡ At f → CrossedCut cs ps es e k s x y cs′ ps′ es′
+        pub crossing-cut : {y : CutReply} {cs′ : List ℕ} {ps′ : List Float} {es′ : List ℕ} → (z : Crossing) → z ≡ tested d k r → z ≡ At f → CrossedCut cs ps es e k s x y cs′ ps′ es′
             → ElementCut cs ps es 1 e k y cs′ ps′ es′
         crossing-cut {y} {cs′} {ps′} {es′} z h m D = record {
           of = λ hs t F.
@@ -333,6 +338,6 @@ module _ (k : Cutter) (d : ℕ) (r : EdgeEnds) (sa sb : Float) where
 
 -- ---- an element of rank 1
 
-pub edge-done : {cs : List ℕ} {ps : List Float} {es : List ℕ} {r e : ℕ} {k : Cutter} {y : CutReply} {cs′ : List ℕ} {ps′ : List Float} {es′ : List ℕ} → r ≡ 1
-    → ElementCut cs ps es 1 e k y cs′ ps′ es′ → ElementCut cs ps es r e k y cs′ ps′ es′
-edge-done {cs} {ps} {es} {r} {e} {k} {y} {cs′} {ps′} {es′} q C = subst (λ (n : ℕ). ElementCut cs ps es n e k y cs′ ps′ es′) (sym q) C
+pub edge-left : {cs : List ℕ} {ps : List Float} {es : List ℕ} {r e : ℕ} {k : Cutter} {y : CutReply} {cs′ : List ℕ} {ps′ : List Float} {es′ ix′ : List ℕ} → r ≡ 1
+    → LowLeft cs ps es 1 e k y cs′ ps′ es′ ix′ → LowLeft cs ps es r e k y cs′ ps′ es′ ix′
+edge-left {cs} {ps} {es} {r} {e} {k} {y} {cs′} {ps′} {es′} {ix′} q C = subst (λ (n : ℕ). LowLeft cs ps es n e k y cs′ ps′ es′ ix′) (sym q) C

@@ -14,27 +14,24 @@ use Rattle.rules.specs.Table.{Element, corner, polytope, Table, element, pointA
 use Rattle.rules.specs.Sound.{soundPoint}
 use Rattle.rules.specs.Held.{pointsOf, went}
 use Rattle.rules.specs.Cut.{cornerAnswer, distanceOf, done, cutElement, cutCorner}
-use Rattle.rules.specs.declared.Hyperplane.{Hyperplane}
 use Rattle.rules.specs.declared.ElementCutOutput.{ElementCutOutput}
 use Rattle.rules.specs.declared.CutReply.the-variants as reply
+use Rattle.hypermath.specs.Answers.{distanceTo}
 use Rattle.rules.proofs.Corners.{corner-named}
 use Rattle.rules.proofs.Good.{Good, sound-good, above-zero}
 use Rattle.rules.proofs.Laws.{le-test}
 use Rattle.rules.proofs.RoundTrip.{point-back, point-long}
 use Rattle.rules.proofs.StaysCut.{point-at-sound}
+use Rattle.space.specs.Chains.{Indexed}
 use Rattle.space.specs.Shared.{storedPoint}
 use Rattle.space.proofs.Room.{listOf, list-word, point-word-or}
 use Rattle.space.proofs.RowAdds.{readable-desk}
 use Rattle.space.proofs.VertexMemo.{four-is, dimension-is}
 use Rattle.space.proofs.Slices.{slices}
 use Rattle.gathered.specs.Cutting.{Fit, cutOf}
-use Rattle.gathered.specs.declared.answer.Cutter.{Cutter}
-use Rattle.ends.specs.Ends.{CornerCut}
-use Rattle.ends.specs.Elements.{Ready, ElementCut}
-
--- the signed distance of a lent point from a lent hyperplane, in a space of d dimensions
-abbrev pub distanceTo : ℕ → Hyperplane → List Float → Float
-distanceTo d h p = signedDistance (take d (h .normal)) (h .distance) (take d p)
+use Rattle.rules.specs.declared.Cutter.{Cutter}
+use Rattle.ends.specs.Ends.{PointAsked, CornerCut}
+use Rattle.ends.specs.Elements.{LowAsked, LowLeft}
 
 module _ {cs : List ℕ} {ps hs : List Float} {es : List ℕ} {e : ℕ} {k : Cutter} {t : Table} (F : Fit cs ps hs es 0 e k t) where
   good : Good desk t
@@ -58,16 +55,16 @@ module _ {cs : List ℕ} {ps hs : List Float} {es : List ℕ} {e : ℕ} {k : Cut
       ∙ ap (λ (l : List ℕ). getD l 0 0) x
 
   -- what the point's reader asks
-  pub point-asked : (length ps ≡ 1024) × (length es ≡ 18432) × (e < 512) × (getD es (e * 36 + 4) 0 < 256)
-  point-asked = (
-    slices (F .holds) .points,
-    slices (F .holds) .elements,
-    le-trans (F .used) (F .holds .fits .elementRoom),
-    le-trans (subst (λ (i : ℕ). i < length (t .points)) (sym number-is) used) (F .holds .fits .pointRoom),
-  )
+  pub point-asked : PointAsked ps es e
+  point-asked = record {
+    points = slices (F .holds) .points;
+    elements = slices (F .holds) .elements;
+    low = le-trans (F .used) (F .holds .fits .elementRoom);
+    vertex = le-trans (subst (λ (i : ℕ). i < length (t .points)) (sym number-is) used) (F .holds .fits .pointRoom);
+  }
 
   pub point-sound : soundPoint (t .dimension) (pointAt t e) ≡ true
-  point-sound = point-at-sound desk (cutOf (t .dimension) k) t e good (F .used, ap suc (F .ranked))
+  point-sound = point-at-sound desk t e good (F .used, ap suc (F .ranked))
 
   float-is : (j : ℕ) → j < 4 → getD (pointsOf desk t) (found .0 * 4 + j) nan ≡ getD (pad plusZero 4 (pointAt t e)) j nan
   float-is j l =
@@ -98,16 +95,19 @@ corner-cut {e = e} d p s hd hp hs hr = record {
 
 -- ---- an element of rank 0
 
-pub ready-at : {cs : List ℕ} {ps : List Float} {es : List ℕ} {r e : ℕ} {k : Cutter} (n : ℕ) → r ≡ n → Ready cs ps es r e k → Ready cs ps es n e k
-ready-at {cs} {ps} {es} {r} {e} {k} n q R = subst (λ (i : ℕ). Ready cs ps es i e k) q R
+pub low-at : {cs : List ℕ} {ps : List Float} {es ix : List ℕ} {r e : ℕ} {k : Cutter} (n : ℕ) → r ≡ n → LowAsked cs ps es ix r e k → LowAsked cs ps es ix n e k
+low-at {cs} {ps} {es} {ix} {r} {e} {k} n q A = subst (λ (i : ℕ). LowAsked cs ps es ix i e k) q A
 
-pub corner-done : {cs : List ℕ} {ps : List Float} {es : List ℕ} {r e : ℕ} {k : Cutter} {a : ElementCutOutput} → r ≡ 0 → CornerCut cs ps es e k a
-    → ElementCut cs ps es r e k (reply.Answered a) cs ps es
+pub corner-left : {cs : List ℕ} {ps : List Float} {es ix : List ℕ} {r e : ℕ} {k : Cutter} {a : ElementCutOutput} → r ≡ 0 → CornerCut cs ps es e k a
+    → Indexed es (getD cs 1 0) ix → LowLeft cs ps es r e k (reply.Answered a) cs ps es ix
 unfolding cutElement cutCorner
-corner-done {cs} {ps} {es} {r} {e} {k} {a} q C = record {
-  of = λ hs t F.
-      (let G : Fit cs ps hs es 0 e k t = subst (λ (n : ℕ). Fit cs ps hs es n e k t) q F in
-      went a t
-      (ap (λ (n : ℕ). cutElement desk (cutOf (t .dimension) k) n e t) q ∙ ap (λ (x : ElementCutOutput). done x t) (sym (C .of hs t G)))
-      refl (F .holds));
+corner-left {cs} {ps} {es} {ix} {r} {e} {k} {a} q C I = record {
+  cut = record {
+    of = λ hs t F.
+        (let G : Fit cs ps hs es 0 e k t = subst (λ (n : ℕ). Fit cs ps hs es n e k t) q F in
+        went a t
+        (ap (λ (n : ℕ). cutElement desk (cutOf (t .dimension) k) n e t) q ∙ ap (λ (x : ElementCutOutput). done x t) (sym (C .of hs t G)))
+        refl (F .holds));
+  };
+  indexed = I;
 }

@@ -1,9 +1,9 @@
 -- What rules 3 and 4 do: the cut of a vertex, and of an edge by its two ends. Definitions only.
-use Prim.Native.Nat.{ℕ, _+_, _*_}
+use Prim.Native.Nat.{ℕ, _+_, _*_, _<_}
 use mathlib.Core.Path.{_≡_}
 use mathlib.Core.Bool.{true}
 use mathlib.Core.List.{List, [], _∷_}
-use lib.ListN.{getD}
+use lib.ListN.{length, getD}
 use lib.Ieee.{Float}
 use Rattle.rules.specs.Limits.{desk}
 use Rattle.rules.specs.Lists.{pad}
@@ -16,13 +16,21 @@ use Rattle.rules.specs.declared.Crossing.the-variants.{At}
 use Rattle.rules.specs.declared.ElementCutOutput.{ElementCutOutput}
 use Rattle.rules.specs.declared.CutReply.{CutReply}
 use Rattle.rules.specs.declared.CutReply.the-variants as reply
+use Rattle.space.specs.Chains.{Indexed}
 use Rattle.space.specs.Shared.{storedPoint}
-use Rattle.gathered.specs.Sets.{Answers, Gathers, Sized}
+use Rattle.gathered.specs.Sets.{Answers, Gathers, Sized, NothingYet}
 use Rattle.gathered.specs.Cutting.{Fit, cutOf}
-use Rattle.gathered.specs.declared.answer.Cutter.{Cutter}
+use Rattle.rules.specs.declared.Cutter.{Cutter}
 use Rattle.ends.specs.declared.EdgeEnds.{EdgeEnds}
 
 -- ---- a vertex
+
+-- element e, and the vertex that its row names, are within the room
+pub record PointAsked (ps : List Float) (es : List ℕ) (e : ℕ) : Type 0 where
+  pub points : length ps ≡ 1024
+  pub elements : length es ≡ 18432
+  pub low : e < 512
+  pub vertex : getD es (e * 36 + 4) 0 < 256
 
 -- whatever table that may be cut the memory holds, in which element e is a vertex: its answer
 pub record CornerCut (cs : List ℕ) (ps : List Float) (es : List ℕ) (e : ℕ) (k : Cutter) (r : ElementCutOutput) : Type 0 where
@@ -45,6 +53,12 @@ pub record EndsRead (ps : List Float) (es : List ℕ) (e : ℕ) (r : EdgeEnds) :
   pub firstPoint : r .p ≡ storedPoint ps (getD es (r .a .0 * 36 + 4) 0)
   pub secondPoint : r .q ≡ storedPoint ps (getD es (r .b .0 * 36 + 4) 0)
 
+-- both ends fit a word, and nothing is gathered yet
+pub record EndsAsked (a b : ℕ) (s : Answers) : Type 0 where
+  pub first : a < 512
+  pub second : b < 512
+  pub nothing : NothingYet s
+
 -- what the ends a and b answer, gathered
 abbrev pub endsOf : ℕ → ℕ → Float → Float → Gathered
 endsOf a b sa sb = gathering b (cornerAnswer b (sideOf sb)) (gathering a (cornerAnswer a (sideOf sa)) nothingYet)
@@ -65,7 +79,8 @@ abbrev pub afterEnds : Cutting → Element → Outcome Gathered → Outcome Elem
 afterEnds c y o = next o (λ g. rule6 desk c y g (g .flush))
 
 -- in a table that may be cut, x is the point at parameter f of an edge with ends at p and q, and the code holds what the ends answered
-pub record CrossedFit (cs : List ℕ) (ps hs : List Float) (es : List ℕ) (e : ℕ) (k : Cutter) (s : Answers) (x : List Float) (t : Table) (p q : List Float) (f : Float) (g : Gathered) : Type 0 where
+pub record CrossedFit (cs : List ℕ) (ps hs : List Float) (es : List ℕ) (e : ℕ) (k : Cutter) (s : Answers) (x : List Float) (t : Table)
+    (p q : List Float) (f : Float) (g : Gathered) : Type 0 where
   pub fit : Fit cs ps hs es 1 e k t
   pub point : x ≡ pad plusZero 4 (crossingPoint f p q)
   pub first : soundPoint (t .dimension) p ≡ true
@@ -85,6 +100,18 @@ pub record CrossedReady (cs : List ℕ) (ps : List Float) (es : List ℕ) (e : �
   pub fit : CrossedFit cs ps planes es e k s x table low high parameter gathered
 
 -- whatever such table the memory holds: the crossing is matched or appended, and then rule 6
-pub record CrossedCut (cs : List ℕ) (ps : List Float) (es : List ℕ) (e : ℕ) (k : Cutter) (s : Answers) (x : List Float) (y : CutReply) (cs′ : List ℕ) (ps′ : List Float) (es′ : List ℕ) : Type 0 where
+pub record CrossedCut (cs : List ℕ) (ps : List Float) (es : List ℕ) (e : ℕ) (k : Cutter) (s : Answers) (x : List Float) (y : CutReply)
+    (cs′ : List ℕ) (ps′ : List Float) (es′ : List ℕ) : Type 0 where
   pub of : (hs : List Float) (t : Table) (p q : List Float) (f : Float) (g : Gathered) → CrossedFit cs ps hs es e k s x t p q f g
       → Came reply.Answered reply.Refused (Holds desk cs′ ps′ hs es′) t (afterEnds (cutOf (t .dimension) k) (element t e) (crossEdge desk p q (At f) g t)) y
+
+-- such a memory, with its rows indexed
+pub record CrossedAsked (cs : List ℕ) (ps : List Float) (es ix : List ℕ) (e : ℕ) (k : Cutter) (s : Answers) (x : List Float) : Type 0 where
+  pub ready : CrossedReady cs ps es e k s x
+  pub indexed : Indexed es (getD cs 1 0) ix
+
+-- what stands afterwards, its rows indexed as well
+pub record CrossedLeft (cs : List ℕ) (ps : List Float) (es : List ℕ) (e : ℕ) (k : Cutter) (s : Answers) (x : List Float) (y : CutReply)
+    (cs′ : List ℕ) (ps′ : List Float) (es′ ix′ : List ℕ) : Type 0 where
+  pub cut : CrossedCut cs ps es e k s x y cs′ ps′ es′
+  pub indexed : Indexed es′ (getD cs′ 1 0) ix′

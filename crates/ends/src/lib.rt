@@ -1,10 +1,10 @@
 // Rules 3 and 4: the cut of a vertex, and of an edge by its two ends.
 use gathered::answer;
-use gathered::answer::Cutter;
 use gathered::sets;
 use gathered::sets::FLUSH;
 use rules::Crossing;
 use rules::CutReply;
+use rules::Cutter;
 use rules::ElementCutOutput;
 use rules::ElementId;
 use rules::ElementOrNone;
@@ -15,28 +15,27 @@ use space::rows;
 use space::rows::Placed;
 use space::words::SET;
 use space::words::wide;
-ghost use Prim.Native.Nat.{_+_, _*_, _<_};
+ghost use Prim.Native.Nat.{_+_, _*_};
 ghost use mathlib.Core.Path.{_≡_};
-ghost use lib.ListN.{length, getD};
+ghost use lib.ListN.{getD};
 ghost use Rattle.rules.specs.Floats.{sideOf};
 ghost use Rattle.rules.specs.Cut.{cornerAnswer};
-ghost use Rattle.space.specs.Chains.{Indexed};
 ghost use Rattle.space.specs.Shared.{storedPoint};
-ghost use Rattle.gathered.specs.Sets.{answersIn, NothingYet};
-ghost use Rattle.ends.specs.Ends.{CornerCut, EndsReady, EndsRead, EndsGathered, CrossedReady, CrossedCut};
-ghost use Rattle.ends.specs.Elements.{Ready, ElementCut};
+ghost use Rattle.gathered.specs.Sets.{answersIn};
+ghost use Rattle.ends.specs.Ends.{PointAsked, CornerCut, EndsReady, EndsRead, EndsAsked, EndsGathered, CrossedAsked, CrossedLeft};
+ghost use Rattle.ends.specs.Elements.{Ready, LowAsked, LowLeft};
 
 // The ends a and b of an edge, a the lower-numbered, at p and q.
-pub struct EdgeEnds {
-    pub a: ElementId,
-    pub b: ElementId,
-    pub p: [f64; 4],
-    pub q: [f64; 4],
+struct EdgeEnds {
+    a: ElementId,
+    b: ElementId,
+    p: [f64; 4],
+    q: [f64; 4],
 }
 
 // The point of a vertex element, by its vertex number.
 fn corner_point(points: &[f64], elements: &[u16], e: ElementId) -> [f64; 4]
-    requires { ⌜ (length (now points) ≡ 1024) × (length (now elements) ≡ 18432) × (e .0 < 512) × (getD (now elements) (e .0 * 36 + 4) 0 < 256) ⌝ }
+    requires { ⌜ PointAsked (now points) (now elements) (e .0) ⌝ }
     ensures { λ r. ⌜ r ≡ storedPoint (now (points .entry)) (getD (now (elements .entry)) (e .0 * 36 + 4) 0) ⌝ }
 {
     let v = VertexId(wide(rows::boundary_at(elements, e, 0)));
@@ -104,7 +103,7 @@ fn gather_ends(
     b: ElementId,
     sb: f64,
 )
-    requires { ⌜ (a .0 < 512) × (b .0 < 512) × NothingYet (answersIn (now flush) (now inside) (now outside) (now intersections)) ⌝ }
+    requires { ⌜ EndsAsked (a .0) (b .0) (answersIn (now flush) (now inside) (now outside) (now intersections)) ⌝ }
     ensures { λ r. ⌜ EndsGathered (a .0) (b .0) sa sb (answersIn (now (flush .exit)) (now (inside .exit)) (now (outside .exit)) (now (intersections .exit))) ⌝ }
 {
     let first = corner_answer(a, sa);
@@ -127,8 +126,10 @@ fn cut_crossed(
     intersections: &[u16; SET],
     x: [f64; 4],
 ) -> CutReply
-    requires { ⌜ CrossedReady (now counts) (now points) (now elements) (e .0) k (answersIn (now flush) (now inside) (now outside) (now intersections)) x × Indexed (now elements) (getD (now counts) 1 0) (now index) ⌝ }
-    ensures { λ r. ⌜ CrossedCut (now (counts .entry)) (now (points .entry)) (now (elements .entry)) (e .0) k (answersIn (now (flush .entry)) (now (inside .entry)) (now (outside .entry)) (now (intersections .entry))) x r (now (counts .exit)) (now (points .exit)) (now (elements .exit)) × Indexed (now (elements .exit)) (getD (now (counts .exit)) 1 0) (now (index .exit)) ⌝ }
+    requires { ⌜ CrossedAsked (now counts) (now points) (now elements) (now index) (e .0) k (answersIn (now flush) (now inside) (now outside) (now intersections)) x ⌝ }
+    ensures { λ r. ⌜ CrossedLeft (now (counts .entry)) (now (points .entry)) (now (elements .entry)) (e .0) k
+        (answersIn (now (flush .entry)) (now (inside .entry)) (now (outside .entry)) (now (intersections .entry))) x r
+        (now (counts .exit)) (now (points .exit)) (now (elements .exit)) (now (index .exit)) ⌝ }
 {
     let placed = memo::add_vertex(counts, points, elements, index, x);
     match placed {
@@ -161,22 +162,23 @@ fn cut_edge(
     e: ElementId,
     k: Cutter,
 ) -> CutReply
-    requires { ⌜ Ready (now counts) (now points) (now elements) 1 (e .0) k × Indexed (now elements) (getD (now counts) 1 0) (now index) ⌝ }
-    ensures { λ r. ⌜ ElementCut (now (counts .entry)) (now (points .entry)) (now (elements .entry)) 1 (e .0) k r (now (counts .exit)) (now (points .exit)) (now (elements .exit)) × Indexed (now (elements .exit)) (getD (now (counts .exit)) 1 0) (now (index .exit)) ⌝ }
+    requires { ⌜ LowAsked (now counts) (now points) (now elements) (now index) 1 (e .0) k ⌝ }
+    ensures { λ r. ⌜ LowLeft (now (counts .entry)) (now (points .entry)) (now (elements .entry)) 1 (e .0) k r
+        (now (counts .exit)) (now (points .exit)) (now (elements .exit)) (now (index .exit)) ⌝ }
 {
     let d = wide(counts[0]);
     let ends = read_ends(points, elements, e);
     let h = k.divider;
     let p = ends.p;
-    let sa = hypermath::signed_distance(d, h, p);
     let q = ends.q;
+    let sa = hypermath::signed_distance(d, h, p);
     let sb = hypermath::signed_distance(d, h, q);
+    let crossing = hypermath::edge_test(d, h, [p, q]);
     let mut f = [0u16; FLUSH];
     let mut i = [0u16; SET];
     let mut o = [0u16; SET];
     let mut x = [0u16; SET];
     gather_ends(&mut f, &mut i, &mut o, &mut x, ends.a, sa, ends.b, sb);
-    let crossing = hypermath::crossing_between(sa, sb);
     match crossing {
         Crossing::None => answer::rule6(counts, elements, index, e, 1, k, &f, &mut i, &mut o, &x),
         Crossing::At(t) => {
@@ -208,8 +210,9 @@ pub fn cut_low(
     rank: usize,
     k: Cutter,
 ) -> CutReply
-    requires { ⌜ Ready (now counts) (now points) (now elements) rank (e .0) k × (rank < 2) × Indexed (now elements) (getD (now counts) 1 0) (now index) ⌝ }
-    ensures { λ r. ⌜ ElementCut (now (counts .entry)) (now (points .entry)) (now (elements .entry)) rank (e .0) k r (now (counts .exit)) (now (points .exit)) (now (elements .exit)) × Indexed (now (elements .exit)) (getD (now (counts .exit)) 1 0) (now (index .exit)) ⌝ }
+    requires { ⌜ LowAsked (now counts) (now points) (now elements) (now index) rank (e .0) k ⌝ }
+    ensures { λ r. ⌜ LowLeft (now (counts .entry)) (now (points .entry)) (now (elements .entry)) rank (e .0) k r
+        (now (counts .exit)) (now (points .exit)) (now (elements .exit)) (now (index .exit)) ⌝ }
 {
     if rank == 0 {
         let a = cut_corner(counts, points, elements, e, k);

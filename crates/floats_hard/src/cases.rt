@@ -1,6 +1,8 @@
 // A loop for each table, and what is printed for each of its cases. A case stands at `at` in the words of its table.
 use crate::print;
 use crate::read;
+use rules::Hyperplane;
+use rules::HyperplaneId;
 ghost use Prim.Native.Nat.{_+_, _<_, _≤_};
 ghost use lib.ListN.{length};
 
@@ -28,7 +30,7 @@ pub fn pairs(words: &[u64]) {
     }
 }
 
-// Two floats: a bound and x, two coordinates, two signed distances.
+// Two floats: a bound and x, two coordinates, and the ends of an edge on the first axis, whose signed distances they are.
 fn pair(words: &[u64], at: usize)
     requires { ⌜ at + 2 ≤ length (now words) ⌝ }
 {
@@ -38,7 +40,12 @@ fn pair(words: &[u64], at: usize)
     print::test(hypermath::is_within(a, b));
     print::test(hypermath::same_bits(a, b));
     print::test(hypermath::coordinates_match(a, b));
-    print::crossing(hypermath::crossing_between(a, b));
+    let normal = read::on_first_axis(1.0);
+    let distance = 0.0;
+    let h = Hyperplane { normal, distance };
+    let p = read::on_first_axis(a);
+    let q = read::on_first_axis(b);
+    print::crossing(hypermath::edge_test(1, h, [p, q]));
     print::line_end();
 }
 
@@ -138,13 +145,13 @@ fn plane_pair(words: &[u64], at: usize)
 
 pub fn rows(planes: &[f64; 40]) {
     for k in 0..8 {
-        row(planes, k);
+        row(planes, HyperplaneId(k));
     }
 }
 
 // A row of the hyperplanes, as it is read.
-fn row(planes: &[f64; 40], k: usize)
-    requires { ⌜ k < 8 ⌝ }
+fn row(planes: &[f64; 40], k: HyperplaneId)
+    requires { ⌜ k .0 < 8 ⌝ }
 {
     print::name(b"row");
     print::hyperplane(hypermath::hyperplane_at(planes, k));
@@ -180,7 +187,7 @@ fn hyperplane(planes: &[f64; 40], words: &[u64], at: usize)
     requires { ⌜ at + 8 ≤ length (now words) ⌝ }
 {
     let d = read::number(words, at);
-    let first = read::number(words, at + 1);
+    let first = HyperplaneId(read::number(words, at + 1));
     let n = read::count(words, at + 2, 8);
     let wanted = read::hyperplane(words, at + 4, at + 3);
     print::name(b"hyperplane");

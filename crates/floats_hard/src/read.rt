@@ -37,6 +37,10 @@ pub fn point(words: &[u64], at: usize) -> [f64; 4]
     ]
 }
 
+pub fn on_first_axis(x: f64) -> [f64; 4] {
+    [x, 0.0, 0.0, 0.0]
+}
+
 pub fn hyperplane(words: &[u64], normal: usize, distance: usize) -> Hyperplane
     requires { ⌜ normal + 4 ≤ length (now words) ⌝ }
     requires { ⌜ distance < length (now words) ⌝ }

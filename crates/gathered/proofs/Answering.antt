@@ -22,11 +22,12 @@ use Rattle.rules.proofs.Laws.{test-le}
 use Rattle.rules.proofs.Ranked.{set-later, some-later}
 use Rattle.rules.proofs.Stays.{Kept, Stays}
 use Rattle.rules.proofs.StaysCut.{new-intersection-stays, side-stays}
+use Rattle.space.specs.Chains.{Indexed}
 use Rattle.space.specs.declared.memo.Added.{Added}
 use Rattle.space.specs.declared.memo.Added.the-variants as added
-use Rattle.gathered.specs.Sets.{members, SizedSet, Answers}
+use Rattle.gathered.specs.Sets.{numbersIn, SizedSet, Answers}
 use Rattle.gathered.specs.Cutting.{cutOf, Fit, IntersectionFit, IntersectionReady, IntersectionMade, SideFit, SideReady, SideMade, Rule6Fit, Rule6Ready, Rule6Done, SideSet, Rule7Fit, Rule7Ready, Rule7Done}
-use Rattle.gathered.specs.declared.answer.Cutter.{Cutter}
+use Rattle.rules.specs.declared.Cutter.{Cutter}
 use Rattle.gathered.proofs.Fitting.{rank-before, owner-of, rank-low}
 use Rattle.gathered.proofs.Steps.{made-is, came-refused, came-answered, came-next}
 
@@ -60,7 +61,7 @@ module _ {cs es : List ℕ} {r e : ℕ} {k : Cutter} {ps hs : List Float} {t : T
 
     -- a side of the element may be added
     module _ (x : ElementOrNone) (h : SomeOf r x t) {set xs : List ℕ} (S : SideSet r t set xs) where
-      set-now : SetOf u r (members set)
+      set-now : SetOf u r (numbersIn set)
       set-now = subst (λ (l : List ℕ). SetOf u r l) (sym (S .held)) (set-later xs (U .extends) (S .sets))
 
       side-fit : SideFit cs₁ ps hs es₁ r e set x u
@@ -75,12 +76,12 @@ module _ {cs es : List ℕ} {r e : ℕ} {k : Cutter} {ps hs : List Float} {t : T
         intersection = some-later r x (U .extends) h;
       }
 
-      same-step : (keep : Bool) → sideOfCut desk keep (element u e) x (members set) u ≡ sideOfCut desk keep (element t e) x xs u
+      same-step : (keep : Bool) → sideOfCut desk keep (element u e) x (numbersIn set) u ≡ sideOfCut desk keep (element t e) x xs u
       same-step keep = ap₂ (λ (y : Element) (l : List ℕ). sideOfCut desk keep y x l u) (element-same t u e (U .extends) (F .used)) (S .held)
 
-      side-came : {cs₂ es₂ : List ℕ} {keep : Bool} {y : Added} → SideMade cs₁ es₁ r e keep set x y cs₂ es₂
+      side-came : {cs₂ es₂ ix₂ : List ℕ} {keep : Bool} {y : Added} → SideMade cs₁ es₁ r e keep set x y cs₂ es₂ ix₂
           → Came added.Made added.Refused (Holds desk cs₂ ps hs es₂) u (sideOfCut desk keep (element t e) x xs u) y
-      side-came {cs₂} {es₂} {keep} {y} M =
+      side-came {cs₂} {es₂} {ix₂} {keep} {y} M =
           subst (λ (o : Outcome ElementOrNone). Came added.Made added.Refused (Holds desk cs₂ ps hs es₂) u o y) (same-step keep) (M .of ps hs u side-fit)
 
       side-keeps : (keep : Bool) → Stays desk (SomeOf (suc (suc (r - 1)))) u (sideOfCut desk keep (element t e) x xs u)
@@ -88,11 +89,11 @@ module _ {cs es : List ℕ} {r e : ℕ} {k : Cutter} {ps hs : List Float} {t : T
           let n = rank-before r some in
           let f = fit-later in
           subst (Stays desk (SomeOf (suc (suc (r - 1)))) u) (same-step keep)
-          (side-stays desk (cutOf (u .dimension) k) u (r - 1) keep (element u e) x (members set) (U .good) (owner-of u e r (U .good) (f .used) (f .ranked) some)
-          (subst (λ (q : ℕ). SomeOf q x u) n (some-later r x (U .extends) h)) (subst (λ (q : ℕ). SetOf u q (members set)) n set-now))
+          (side-stays desk (cutOf (u .dimension) k) u (r - 1) keep (element u e) x (numbersIn set) (U .good) (owner-of u e r (U .good) (f .used) (f .ranked) some)
+          (subst (λ (q : ℕ). SomeOf q x u) n (some-later r x (U .extends) h)) (subst (λ (q : ℕ). SetOf u q (numbersIn set)) n set-now))
 
       -- the table after a side that was not refused
-      side-after : {cs₂ es₂ : List ℕ} {keep : Bool} {y : Added} → SideMade cs₁ es₁ r e keep set x y cs₂ es₂ → (i : ElementOrNone) → y ≡ added.Made i
+      side-after : {cs₂ es₂ ix₂ : List ℕ} {keep : Bool} {y : Added} → SideMade cs₁ es₁ r e keep set x y cs₂ es₂ ix₂ → (i : ElementOrNone) → y ≡ added.Made i
           → (v : Table) × (sideOfCut desk keep (element t e) x xs u ≡ done i v) × Later cs₂ ps hs es₂ u v
       side-after {keep = keep} M i q =
           let m = made-is i q (side-came M) in
@@ -102,16 +103,23 @@ module _ {cs es : List ℕ} {r e : ℕ} {k : Cutter} {ps hs : List Float} {t : T
 -- ---- rule 7
 
 module _ {cs es : List ℕ} {r e : ℕ} {k : Cutter} {i o : List ℕ} {x : ElementOrNone} where
-  pub inside-ready : Rule7Ready cs es r e k i o x → SideReady cs es r e i x
+  pub inside-ready : {ix : List ℕ} → Rule7Ready cs es ix r e k i o x → SideReady cs es ix r e i x
   inside-ready R =
       let F = R .fit in
-      record { points = R .points; planes = R .planes; table = R .table; fit = side-fit (F .fit) (F .some) (here (F .fit) (F .some)) x (F .intersection) (F .inside) }
+      record {
+        points = R .points;
+        planes = R .planes;
+        table = R .table;
+        fit = side-fit (F .fit) (F .some) (here (F .fit) (F .some)) x (F .intersection) (F .inside);
+        indexed = R .indexed;
+      }
 
-  module _ {y : Added} {cs₁ es₁ : List ℕ} (M : SideMade cs es r e (k .«keep_inside») i x y cs₁ es₁) where
-    pub inside-refused : (n : ℕ) → y ≡ added.Refused n → Rule7Done cs es r e k i o x (reply.Refused n) cs₁ es₁
+  module _ {y : Added} {cs₁ es₁ ix₁ : List ℕ} (M : SideMade cs es r e (k .«keep_inside») i x y cs₁ es₁ ix₁) where
+    pub inside-refused : (n : ℕ) → y ≡ added.Refused n → Rule7Done cs es r e k i o x (reply.Refused n) cs₁ es₁ ix₁
     unfolding rule7
     inside-refused n q = record {
       of = λ ps hs t g F. came-refused n _ q (side-came (F .fit) (F .some) (here (F .fit) (F .some)) x (F .intersection) (F .inside) M);
+      indexed = M .indexed;
     }
 
     module _ (a : ElementOrNone) (q : y ≡ added.Made a) where
@@ -119,27 +127,35 @@ module _ {cs es : List ℕ} {r e : ℕ} {k : Cutter} {i o : List ℕ} {x : Eleme
           → (v : Table) × (sideOfCut desk (k .«keep_inside») (element t e) x (g .inside) t ≡ done a v) × Later cs₁ ps hs es₁ t v
       inner F = side-after (F .fit) (F .some) (here (F .fit) (F .some)) x (F .intersection) (F .inside) M a q
 
-      pub outside-ready : Rule7Ready cs es r e k i o x → SideReady cs₁ es₁ r e o x
+      pub outside-ready : {ix : List ℕ} → Rule7Ready cs es ix r e k i o x → SideReady cs₁ es₁ ix₁ r e o x
       outside-ready R =
           let F = R .fit in
           let m = inner F in
-          record { points = R .points; planes = R .planes; table = m .0; fit = side-fit (F .fit) (F .some) (m .2) x (F .intersection) (F .outside) }
+          record {
+            points = R .points;
+            planes = R .planes;
+            table = m .0;
+            fit = side-fit (F .fit) (F .some) (m .2) x (F .intersection) (F .outside);
+            indexed = M .indexed;
+          }
 
-      module _ {z : Added} {cs₂ es₂ : List ℕ} (N : SideMade cs₁ es₁ r e (k .«keep_outside») o x z cs₂ es₂) where
+      module _ {z : Added} {cs₂ es₂ ix₂ : List ℕ} (N : SideMade cs₁ es₁ r e (k .«keep_outside») o x z cs₂ es₂ ix₂) where
         outer : {ps hs : List Float} {t : Table} {g : Gathered} (F : Rule7Fit cs ps hs es r e k i o x t g)
             → Came added.Made added.Refused (Holds desk cs₂ ps hs es₂) (inner F .0) (sideOfCut desk (k .«keep_outside») (element t e) x (g .outside) (inner F .0)) z
         outer F = side-came (F .fit) (F .some) (inner F .2) x (F .intersection) (F .outside) N
 
-        pub outside-refused : (n : ℕ) → z ≡ added.Refused n → Rule7Done cs es r e k i o x (reply.Refused n) cs₂ es₂
+        pub outside-refused : (n : ℕ) → z ≡ added.Refused n → Rule7Done cs es r e k i o x (reply.Refused n) cs₂ es₂ ix₂
         unfolding rule7
         outside-refused n w = record {
           of = λ ps hs t g F. came-next a _ (inner F .1) (inner F .2 .extends) (came-refused n (λ b. give (NonFlush a b x)) w (outer F));
+          indexed = N .indexed;
         }
 
-        pub rule7-answered : (b : ElementOrNone) → z ≡ added.Made b → Rule7Done cs es r e k i o x (reply.Answered (NonFlush a b x)) cs₂ es₂
+        pub rule7-answered : (b : ElementOrNone) → z ≡ added.Made b → Rule7Done cs es r e k i o x (reply.Answered (NonFlush a b x)) cs₂ es₂ ix₂
         unfolding rule7
         rule7-answered b w = record {
           of = λ ps hs t g F. came-next a _ (inner F .1) (inner F .2 .extends) (came-answered b (λ v. NonFlush a v x) w (outer F));
+          indexed = N .indexed;
         }
 
 -- ---- rule 6, by the flush answers
@@ -166,7 +182,7 @@ intersected k e t g = newIntersection desk (cutOf (t .dimension) k) (rankOf (ele
 
 -- from what rule 6 has: its sets for rule 7, and its intersection
 module _ {cs es : List ℕ} {r e : ℕ} {k : Cutter} {s : Answers} {ps hs : List Float} {t : Table} {g : Gathered} (F : Rule6Fit cs ps hs es r e k s t g) where
-  side-set : {set xs : List ℕ} → members set ≡ xs → SizedSet set 32 → SetOf t (suc (r - 1)) xs → SideSet r t set xs
+  side-set : {set xs : List ℕ} → numbersIn set ≡ xs → SizedSet set 32 → SetOf t (suc (r - 1)) xs → SideSet r t set xs
   side-set {xs = xs} h z q = record { held = h; sized = z; sets = subst (λ (n : ℕ). SetOf t n xs) (sym (rank-before r (F .some))) q }
 
   rule7-fit : {cs₁ es₁ : List ℕ} {u : Table} (U : Later cs₁ ps hs es₁ t u) (x : ElementOrNone) → SomeOf r x u → Rule7Fit cs₁ ps hs es₁ r e k (s .inside) (s .outside) x u g
@@ -189,12 +205,12 @@ module _ {cs es : List ℕ} {r e : ℕ} {k : Cutter} {s : Answers} {ps hs : List
     sets = subst (SetOf t (r - 1)) (sym (F .gathers .intersections)) (F .sets .intersections);
   }
 
-  intersection-keeps : Stays desk (SomeOf r) t (newIntersection desk (cutOf (t .dimension) k) r (members (s .intersections)) t)
+  intersection-keeps : Stays desk (SomeOf r) t (newIntersection desk (cutOf (t .dimension) k) r (numbersIn (s .intersections)) t)
   intersection-keeps =
       let n = rank-before r (F .some) in
       let f = intersection-fit in
-      subst (λ (q : ℕ). Stays desk (SomeOf q) t (newIntersection desk (cutOf (t .dimension) k) q (members (s .intersections)) t)) (sym n)
-      (new-intersection-stays desk (cutOf (t .dimension) k) t (r - 1) (members (s .intersections)) (good (F .fit) (F .some)) (f .plane)
+      subst (λ (q : ℕ). Stays desk (SomeOf q) t (newIntersection desk (cutOf (t .dimension) k) q (numbersIn (s .intersections)) t)) (sym n)
+      (new-intersection-stays desk (cutOf (t .dimension) k) t (r - 1) (numbersIn (s .intersections)) (good (F .fit) (F .some)) (f .plane)
       (test-le (suc (r - 1)) (t .dimension) (subst (λ (q : ℕ). q ≤ t .dimension) n (f .low))) (f .sets))
 
 module _ {cs es : List ℕ} {r e : ℕ} {k : Cutter} {s : Answers} where
@@ -213,10 +229,10 @@ module _ {cs es : List ℕ} {r e : ℕ} {k : Cutter} {s : Answers} where
         rule7-fit F (here (F .fit) (F .some)) (given f)
         (subst (λ (n : ℕ). Ranked t n f) (sym (rank-before r (F .some))) (subst (AllOf (Ranked t (suc (r - 1)))) (sole F) (F .sets .flush) .0))
 
-    pub flush-ready : Rule6Ready cs es r e k s → Rule7Ready cs es r e k (s .inside) (s .outside) (given f)
-    flush-ready R = record { points = R .points; planes = R .planes; table = R .table; gathered = R .gathered; fit = flush-fit (R .fit) }
+    pub flush-ready : {ix : List ℕ} → Rule6Ready cs es r e k s → Indexed es (getD cs 1 0) ix → Rule7Ready cs es ix r e k (s .inside) (s .outside) (given f)
+    flush-ready R indexed = record { points = R .points; planes = R .planes; table = R .table; gathered = R .gathered; fit = flush-fit (R .fit); indexed = indexed }
 
-    pub rule6-one : {y : CutReply} {cs′ es′ : List ℕ} → Rule7Done cs es r e k (s .inside) (s .outside) (given f) y cs′ es′ → Rule6Done cs es r e k s y cs′ es′
+    pub rule6-one : {y : CutReply} {cs′ es′ ix′ : List ℕ} → Rule7Done cs es r e k (s .inside) (s .outside) (given f) y cs′ es′ ix′ → Rule6Done cs es r e k s y cs′ es′
     unfolding rule6
     rule6-one {y} {cs′} {es′} D = record {
       of = λ ps hs t g F.
@@ -225,16 +241,17 @@ module _ {cs es : List ℕ} {r e : ℕ} {k : Cutter} {s : Answers} where
     }
 
   -- none
-  pub intersection-ready : Rule6Ready cs es r e k s → IntersectionReady cs es r k (s .intersections)
-  intersection-ready R = record { points = R .points; planes = R .planes; table = R .table; fit = intersection-fit (R .fit) }
+  pub intersection-ready : {ix : List ℕ} → Rule6Ready cs es r e k s → Indexed es (getD cs 1 0) ix → IntersectionReady cs es ix r k (s .intersections)
+  intersection-ready R indexed = record { points = R .points; planes = R .planes; table = R .table; fit = intersection-fit (R .fit); indexed = indexed }
 
-  module _ (h : getD (s .flush) 0 0 ≤ 1) (n : getD (s .flush) 0 0 ≡ 1 → ⊥) {y : Added} {cs₁ es₁ : List ℕ} (M : IntersectionMade cs es r k (s .intersections) y cs₁ es₁) where
+  module _ (h : getD (s .flush) 0 0 ≤ 1) (n : getD (s .flush) 0 0 ≡ 1 → ⊥) {y : Added} {cs₁ es₁ ix₁ : List ℕ}
+      (M : IntersectionMade cs es r k (s .intersections) y cs₁ es₁ ix₁) where
     none-flush : {ps hs : List Float} {t : Table} {g : Gathered} → Rule6Fit cs ps hs es r e k s t g → [] ≡ g .flush
     none-flush {g = g} F =
         let q = F .gathers .flushes in sym (no-flush (g .flush) (subst (λ (m : ℕ). m ≤ 1) q h) (subst (λ (m : ℕ). m ≡ 1 → ⊥) q n))
 
     same-intersection : {ps hs : List Float} {t : Table} {g : Gathered} → Rule6Fit cs ps hs es r e k s t g
-        → newIntersection desk (cutOf (t .dimension) k) r (members (s .intersections)) t ≡ intersected k e t g
+        → newIntersection desk (cutOf (t .dimension) k) r (numbersIn (s .intersections)) t ≡ intersected k e t g
     same-intersection {t = t} F = ap₂ (λ (m : ℕ) (l : List ℕ). newIntersection desk (cutOf (t .dimension) k) m l t) (sym (F .fit .ranked)) (F .gathers .intersections)
 
     middle : {ps hs : List Float} {t : Table} {g : Gathered} → Rule6Fit cs ps hs es r e k s t g → Came added.Made added.Refused (Holds desk cs₁ ps hs es₁) t (intersected k e t g) y
@@ -263,10 +280,12 @@ module _ {cs es : List ℕ} {r e : ℕ} {k : Cutter} {s : Answers} where
           let U : Later cs₁ ps hs es₁ t (m .table) = record { extends = K .extends; good = K .good; holds = m .holds } in
           (m .table, m .made, U, rule7-fit F U x (K .value))
 
-      pub intersection-known : Rule6Ready cs es r e k s → Rule7Ready cs₁ es₁ r e k (s .inside) (s .outside) x
-      intersection-known R = let m = crossed (R .fit) in record { points = R .points; planes = R .planes; table = m .0; gathered = R .gathered; fit = m .3 }
+      pub intersection-known : Rule6Ready cs es r e k s → Rule7Ready cs₁ es₁ ix₁ r e k (s .inside) (s .outside) x
+      intersection-known R =
+          let m = crossed (R .fit) in
+          record { points = R .points; planes = R .planes; table = m .0; gathered = R .gathered; fit = m .3; indexed = M .indexed }
 
-      pub rule6-none : {z : CutReply} {cs₂ es₂ : List ℕ} → Rule7Done cs₁ es₁ r e k (s .inside) (s .outside) x z cs₂ es₂ → Rule6Done cs es r e k s z cs₂ es₂
+      pub rule6-none : {z : CutReply} {cs₂ es₂ ix₂ : List ℕ} → Rule7Done cs₁ es₁ r e k (s .inside) (s .outside) x z cs₂ es₂ ix₂ → Rule6Done cs es r e k s z cs₂ es₂
       rule6-none {z} {cs₂} {es₂} D = record {
         of = λ ps hs t g F. (
             let m = crossed F in

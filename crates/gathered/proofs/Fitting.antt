@@ -24,18 +24,18 @@ use Rattle.rules.proofs.Ranked.{set-under}
 use Rattle.rules.proofs.StaysCut.{Owner, facts}
 use Rattle.space.specs.Closed.{Low, LowEnds, EndsLow, EachEdge, Edges, Untwinned}
 use Rattle.space.proofs.Room.{listOf, list-word}
-use Rattle.gathered.specs.Sets.{sizeIn, members, InRoom}
+use Rattle.gathered.specs.Sets.{sizeIn, numbersIn, InRoom}
 
 -- what is in use is within the room
 pub some-fits : (t : Table) → elementCount t ≤ 512 → (q : ℕ) (x : ElementOrNone) → SomeOf q x t → InRoom x
 some-fits t c q None h = tt
 some-fits t c q (Some e) h = le-trans (h .0) c
 
-pub low-of : (t : Table) → elementCount t ≤ 512 → (q : ℕ) (s : List ℕ) → AllOf (Ranked t q) (members s) → Low s (sizeIn s)
+pub low-of : (t : Table) → elementCount t ≤ 512 → (q : ℕ) (s : List ℕ) → AllOf (Ranked t q) (numbersIn s) → Low s (sizeIn s)
 low-of t c q s a = record {
   at = λ k h.
       subst (λ (y : ℕ). y < 512) (getD-take (sizeIn s) s k 0 h)
-      (below-get 512 (members s) k (lit≤ tt) (below-more (members s) c (all-below (elementCount t) (members s) (set-under t q (members s) a))));
+      (below-get 512 (numbersIn s) k (lit≤ tt) (below-more (numbersIn s) c (all-below (elementCount t) (numbersIn s) (set-under t q (numbersIn s) a))));
 }
 
 -- an element of rank 1 in a sound table has two ends, the lower first
@@ -99,7 +99,7 @@ module _ (t : Table) (F : Fits desk t) (g : Good desk t) where
           let l = rise-at b (w .1) 0 1 (lit≤ tt) (let q : 1 < length b = omega (arith, two) in q) in
           omega (arith, w₀, w₁, l)
 
-  pub ends-low : (es : List ℕ) → es ≡ elementsOf desk t → (s : List ℕ) → sizeIn s ≤ length s → rises (members s) ≡ true → AllOf (Ranked t 2) (members s) → LowEnds es s (sizeIn s)
+  pub ends-low : (es : List ℕ) → es ≡ elementsOf desk t → (s : List ℕ) → sizeIn s ≤ length s → rises (numbersIn s) ≡ true → AllOf (Ranked t 2) (numbersIn s) → LowEnds es s (sizeIn s)
   ends-low es e s l up a = record {
     rising = up;
     each = λ k h. subst (λ (w : List ℕ). EndsLow w (getD s k 0)) (sym e) (record { apart = end-apart (getD s k 0) (ranked k h); second = end-low (getD s k 0) 1 (ranked k h) (lit≤ tt) });
@@ -113,7 +113,7 @@ module _ (t : Table) (F : Fits desk t) (g : Good desk t) where
       ranked : (k : ℕ) → k < sizeIn s → Ranked t 2 (getD s k 0)
       ranked k h =
           let m = length-take-le (sizeIn s) s l in
-          subst (Ranked t 2) (getD-take (sizeIn s) s k 0 h) (at (members s) k a (let q : k < length (members s) = omega (arith, m, h) in q))
+          subst (Ranked t 2) (getD-take (sizeIn s) s k 0 h) (at (numbersIn s) k a (let q : k < length (numbersIn s) = omega (arith, m, h) in q))
 
 -- ---- the element that is cut
 

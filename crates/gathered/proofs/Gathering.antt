@@ -14,7 +14,7 @@ use Rattle.rules.specs.declared.ElementOrNone.{ElementOrNone}
 use Rattle.rules.specs.declared.ElementOrNone.the-variants.{Some}
 use Rattle.rules.specs.declared.ElementCutOutput.{ElementCutOutput}
 use Rattle.rules.specs.declared.ElementCutOutput.the-variants.{Flush, NonFlush}
-use Rattle.gathered.specs.Sets.{answersIn, SizedSet, NothingYet, InRoom, OutputInRoom, Included, GatheredIn}
+use Rattle.gathered.specs.Sets.{answersIn, SizedSet, NothingYet, InRoom, IncludeReady, OutputInRoom, Included, GatheredIn}
 
 pub at-most : {s : List ℕ} (i m : ℕ) → i ≤ m → SizedSet s i → SizedSet s m
 at-most i m h z = record { most = le-trans (z .most) h; long = z .long }
@@ -95,5 +95,13 @@ module _ (f i o x : List ℕ) (b : ℕ) (a : ElementCutOutput) where
 pub some-room : {p : ElementOrNone} (e : ElementId) → p ≡ Some e → InRoom p → e .0 < 512
 some-room e q h = subst InRoom q h
 
-pub sides-room : {a : ElementCutOutput} (i o x : ElementOrNone) → a ≡ NonFlush i o x → OutputInRoom a → InRoom i × InRoom o × InRoom x
-sides-room i o x q h = subst OutputInRoom q h
+pub record SidesInRoom (i o x : ElementOrNone) : Type 0 where
+  pub inside : InRoom i
+  pub outside : InRoom o
+  pub intersection : InRoom x
+
+pub sides-room : {a : ElementCutOutput} (i o x : ElementOrNone) → a ≡ NonFlush i o x → OutputInRoom a → SidesInRoom i o x
+sides-room i o x q h = let all = subst OutputInRoom q h in record { inside = all .0; outside = all .1; intersection = all .2 }
+
+pub include-ready : {s : List ℕ} {p : ElementOrNone} → SizedSet s 31 → InRoom p → IncludeReady s p
+include-ready z h = record { sized = at-most 31 32 (lit≤ tt) z; room = h }

@@ -16,7 +16,7 @@ use Rattle.rules.specs.Lists.{if_then_else_, withMember}
 use Rattle.rules.specs.declared.ElementOrNone.{ElementOrNone}
 use Rattle.rules.specs.declared.ElementOrNone.the-variants.{None, Some}
 use Rattle.space.proofs.RowWords.{sets-more}
-use Rattle.gathered.specs.Sets.{sizeIn, members, SizedSet, Included, Passed, Place, shifted, putAt}
+use Rattle.gathered.specs.Sets.{sizeIn, numbersIn, SizedSet, Included, Passed, Place, shifted, putAt}
 
 -- ---- in a list
 
@@ -78,7 +78,7 @@ pub record Moving (s : List ℕ) (x at j : ℕ) (words : List ℕ) (next : ℕ) 
 
 module _ (s : List ℕ) (x : ℕ) (Z : SizedSet s 32) where
   abbrev xs : List ℕ
-  xs = members s
+  xs = numbersIn s
 
   xs-long : length xs ≡ sizeIn s
   xs-long = length-take-le (sizeIn s) s (let a = Z .most in let b = Z .long in omega (arith, a, b))
@@ -158,15 +158,15 @@ module _ (s : List ℕ) (x : ℕ) (Z : SizedSet s 32) where
         getD-set-same (moved (sizeIn s - at)) 33 (sizeIn s + 1) 0 (let q : 33 < length (moved (sizeIn s - at)) = omega (arith, a, b) in q)
 
     -- and the numbers stand in front of it
-    put-members : members (putAt s x at) ≡ take (sizeIn s + 1) (moved (sizeIn s - at))
-    put-members =
+    put-numbers : numbersIn (putAt s x at) ≡ take (sizeIn s + 1) (moved (sizeIn s - at))
+    put-numbers =
         let a = Z .most in
         ap (λ (n : ℕ). take n (putAt s x at)) put-size
         ∙ take-set-le (sizeIn s + 1) (moved (sizeIn s - at)) 33 (sizeIn s + 1) (let q : sizeIn s + 1 ≤ 33 = omega (arith, a) in q)
 
     include-new : withMember x xs ≡ take at xs ++ x ∷ drop at xs → Included s (Some (record { 0 = x })) (putAt s x at)
     include-new e = record {
-      of = put-members ∙ content ∙ sym e;
+      of = put-numbers ∙ content ∙ sym e;
       sized = λ m z. record {
         most = (let q = z .most in let p = put-size in omega (arith, p, q));
         long = length-set (moved (sizeIn s - at)) 33 (sizeIn s + 1) ∙ moved-long (sizeIn s - at) ∙ z .long;

@@ -19,15 +19,17 @@ use Rattle.rules.specs.Cut.{addPolytope, planeOfIntersection}
 use Rattle.rules.proofs.Good.{sound-good}
 use Rattle.rules.proofs.Laws.{le-test}
 use Rattle.rules.proofs.Stays.{rank-above}
+use Rattle.space.specs.Ready.{PolytopeReady}
+use Rattle.space.specs.Chains.{Indexed}
 use Rattle.space.specs.Closed.{Low, LowEnds}
 use Rattle.space.specs.Shared.{PolytopeAdded}
 use Rattle.space.specs.declared.memo.Added.{Added}
 use Rattle.space.specs.declared.memo.Added.the-variants as added
 use Rattle.space.proofs.VertexMemo.{dimension-is}
 use Rattle.space.proofs.Slices.{slices}
-use Rattle.gathered.specs.Sets.{sizeIn, members}
+use Rattle.gathered.specs.Sets.{sizeIn, numbersIn}
 use Rattle.gathered.specs.Cutting.{cutOf, IntersectionFit, IntersectionReady, IntersectionMade}
-use Rattle.gathered.specs.declared.answer.Cutter.{Cutter}
+use Rattle.rules.specs.declared.Cutter.{Cutter}
 use Rattle.gathered.proofs.Fitting.{low-of, edges-of, ends-low}
 
 -- FFFF is no number in use
@@ -37,31 +39,32 @@ named n l false = refl
 
 module _ {cs es : List ℕ} {r : ℕ} {k : Cutter} {set : List ℕ} where
   -- what the calls ask for
-  pub plane-asks : IntersectionReady cs es r k set → (length cs ≡ 4) × (k .number .0 < 64)
+  pub plane-asks : {ix : List ℕ} → IntersectionReady cs es ix r k set → (length cs ≡ 4) × (k .number .0 < 64)
   plane-asks R = (slices (R .fit .holds) .counts, le-trans (R .fit .plane) (R .fit .holds .fits .planeRoom))
 
   -- n is the size of the set, as it was read
-  pub intersection-asks : IntersectionReady cs es r k set → (n : ℕ) → n ≡ sizeIn set
-      → (length cs ≡ 4) × (length es ≡ 18432) × (getD cs 1 0 ≤ 512) × (length set ≡ 34) × (n ≤ 33) × (r - 1 < 65536) × Low set n × (r - 1 ≡ 2 → LowEnds es set n)
+  pub intersection-asks : {ix : List ℕ} → IntersectionReady cs es ix r k set → (n : ℕ) → n ≡ sizeIn set → PolytopeReady cs es ix (r - 1) set n
   intersection-asks R n size =
       let F = R .fit in
       let t = R .table in
       let most = F .sized .most in
       let long = F .sized .long in
       let low = F .low in
-      let four = le-test (t .dimension) 4 (sound-good desk t (F .sound) .high) in (
-        slices (F .holds) .counts,
-        slices (F .holds) .elements,
-        slices (F .holds) .elementsFit,
-        F .sized .long,
-        (let q : n ≤ 33 = omega (arith, size, most) in q),
-        (let q : r - 1 < 65536 = omega (arith, low, four) in q),
-        subst (Low set) (sym size) (low-of t (F .holds .fits .elementRoom) (r - 1) set (F .sets .ranked)),
-        (λ two.
+      let four = le-test (t .dimension) 4 (sound-good desk t (F .sound) .high) in
+      record {
+        counts = slices (F .holds) .counts;
+        elements = slices (F .holds) .elements;
+        room = slices (F .holds) .elementsFit;
+        words = F .sized .long;
+        size = (let q : n ≤ 33 = omega (arith, size, most) in q);
+        rank = (let q : r - 1 < 65536 = omega (arith, low, four) in q);
+        low = subst (Low set) (sym size) (low-of t (F .holds .fits .elementRoom) (r - 1) set (F .sets .ranked));
+        edges = (λ two.
             subst (LowEnds es set) (sym size)
             (ends-low t (F .holds .fits) (sound-good desk t (F .sound)) es (F .holds .elements) set (let q : sizeIn set ≤ length set = omega (arith, most, long) in q) (F .sets .rising)
-            (subst (λ (m : ℕ). AllOf (Ranked t m) (members set)) two (F .sets .ranked)))),
-      )
+            (subst (λ (m : ℕ). AllOf (Ranked t m) (numbersIn set)) two (F .sets .ranked))));
+        index = R .indexed;
+      }
 
   plane-is : {ps hs : List Float} {t : Table} (plane : ℕ) → plane ≡ (if eqb r (getD cs 0 0) then k .number .0 else noPlane) → IntersectionFit cs ps hs es r k set t
       → planeNamed plane ≡ planeOfIntersection t (cutOf (t .dimension) k) r
@@ -70,11 +73,13 @@ module _ {cs es : List ℕ} {r : ℕ} {k : Cutter} {set : List ℕ} where
       ap planeNamed (p ∙ ap (λ (d : ℕ). if eqb r d then k .number .0 else noPlane) (dimension-is (getD cs 0 0) refl (F .holds)))
       ∙ named (k .number .0) (let z : k .number .0 < 65535 = omega (arith, few) in z) (eqb r (t .dimension))
 
-  pub intersection-made : {y : Added} {cs′ es′ : List ℕ} (plane n : ℕ) → n ≡ sizeIn set → plane ≡ (if eqb r (getD cs 0 0) then k .number .0 else noPlane)
-      → PolytopeAdded cs es (r - 1) (take n set) plane false y cs′ es′ → IntersectionMade cs es r k set y cs′ es′
-  intersection-made {y} {cs′} {es′} plane n size p A = record {
+  pub intersection-made : {y : Added} {cs′ es′ ix′ : List ℕ} (plane n : ℕ) → n ≡ sizeIn set → plane ≡ (if eqb r (getD cs 0 0) then k .number .0 else noPlane)
+      → PolytopeAdded cs es (r - 1) (take n set) plane false y cs′ es′ → Indexed es′ (getD cs′ 1 0) ix′ → IntersectionMade cs es r k set y cs′ es′ ix′
+  intersection-made {y} {cs′} {es′} plane n size p A indexed = record {
     of = λ ps hs t F.
-        subst (λ (h : Option ℕ). Came added.Made added.Refused (Holds desk cs′ ps hs es′) t (addPolytope desk (r - 1) (members set) h false t) y) (plane-is plane p F)
-        (subst (λ (m : ℕ). PolytopeAdded cs es (r - 1) (take m set) plane false y cs′ es′) size A .of ps hs t (F .holds) (λ l. le-test 1 (r - 1) (rank-above t (r - 1) (members set) (F .sets) (lt-leb (length (members set)) (r - 1) l)))
-        (λ two. edges-of t (sound-good desk t (F .sound)) (members set) (F .sets .rising) (subst (λ (n : ℕ). AllOf (Ranked t n) (members set)) two (F .sets .ranked))));
+        subst (λ (h : Option ℕ). Came added.Made added.Refused (Holds desk cs′ ps hs es′) t (addPolytope desk (r - 1) (numbersIn set) h false t) y) (plane-is plane p F)
+        (subst (λ (m : ℕ). PolytopeAdded cs es (r - 1) (take m set) plane false y cs′ es′) size A .of ps hs t (F .holds)
+        (λ l. le-test 1 (r - 1) (rank-above t (r - 1) (numbersIn set) (F .sets) (lt-leb (length (numbersIn set)) (r - 1) l)))
+        (λ two. edges-of t (sound-good desk t (F .sound)) (numbersIn set) (F .sets .rising) (subst (λ (n : ℕ). AllOf (Ranked t n) (numbersIn set)) two (F .sets .ranked))));
+    indexed = indexed;
   }

@@ -13,10 +13,11 @@ use Rattle.rules.specs.Held.{Holds, Came, Sets, SetOf, SomeOf}
 use Rattle.rules.specs.declared.ElementOrNone.{ElementOrNone}
 use Rattle.rules.specs.declared.CutReply.{CutReply}
 use Rattle.rules.specs.declared.CutReply.the-variants as reply
+use Rattle.space.specs.Chains.{Indexed}
 use Rattle.space.specs.declared.memo.Added.{Added}
 use Rattle.space.specs.declared.memo.Added.the-variants as added
-use Rattle.gathered.specs.Sets.{members, SizedSet, Answers, Sized, Gathers}
-use Rattle.gathered.specs.declared.answer.Cutter.{Cutter}
+use Rattle.gathered.specs.Sets.{numbersIn, SizedSet, Answers, Sized, Gathers}
+use Rattle.rules.specs.declared.Cutter.{Cutter}
 
 -- ---- the cut of one element
 
@@ -47,19 +48,21 @@ pub record IntersectionFit (cs : List ℕ) (ps hs : List Float) (es : List ℕ) 
   pub some : 1 ≤ r
   pub low : r ≤ t .dimension
   pub sized : SizedSet set 32
-  pub sets : SetOf t (r - 1) (members set)
+  pub sets : SetOf t (r - 1) (numbersIn set)
 
--- there is such a table
-pub record IntersectionReady (cs es : List ℕ) (r : ℕ) (k : Cutter) (set : List ℕ) : Type 0 where
+-- there is such a table, and the index leads to its rows
+pub record IntersectionReady (cs es ix : List ℕ) (r : ℕ) (k : Cutter) (set : List ℕ) : Type 0 where
   pub points : List Float
   pub planes : List Float
   pub table : Table
   pub fit : IntersectionFit cs points planes es r k set table
+  pub indexed : Indexed es (getD cs 1 0) ix
 
--- whatever such table the memory holds: the intersection's step
-pub record IntersectionMade (cs es : List ℕ) (r : ℕ) (k : Cutter) (set : List ℕ) (y : Added) (cs′ es′ : List ℕ) : Type 0 where
+-- whatever such table the memory holds: the intersection's step; and the index leads to the rows of after
+pub record IntersectionMade (cs es : List ℕ) (r : ℕ) (k : Cutter) (set : List ℕ) (y : Added) (cs′ es′ ix′ : List ℕ) : Type 0 where
   pub of : (ps hs : List Float) (t : Table) → IntersectionFit cs ps hs es r k set t
-      → Came added.Made added.Refused (Holds desk cs′ ps hs es′) t (newIntersection desk (cutOf (t .dimension) k) r (members set) t) y
+      → Came added.Made added.Refused (Holds desk cs′ ps hs es′) t (newIntersection desk (cutOf (t .dimension) k) r (numbersIn set) t) y
+  pub indexed : Indexed es′ (getD cs′ 1 0) ix′
 
 -- ---- a side
 
@@ -71,25 +74,38 @@ pub record SideFit (cs : List ℕ) (ps hs : List Float) (es : List ℕ) (r e : �
   pub ranked : rank t e ≡ r
   pub some : 1 ≤ r
   pub sized : SizedSet set 32
-  pub sets : SetOf t r (members set)
+  pub sets : SetOf t r (numbersIn set)
   pub intersection : SomeOf r x t
 
--- there is such a table
-pub record SideReady (cs es : List ℕ) (r e : ℕ) (set : List ℕ) (x : ElementOrNone) : Type 0 where
+-- there is such a table, and the index leads to its rows
+pub record SideReady (cs es ix : List ℕ) (r e : ℕ) (set : List ℕ) (x : ElementOrNone) : Type 0 where
   pub points : List Float
   pub planes : List Float
   pub table : Table
   pub fit : SideFit cs points planes es r e set x table
+  pub indexed : Indexed es (getD cs 1 0) ix
+
+-- element e is within the room, and its boundary within its row
+pub record RowReadable (es : List ℕ) (e : ℕ) : Type 0 where
+  pub long : length es ≡ 18432
+  pub low : e < 512
+  pub short : getD es (e * 36 + 3) 0 ≤ 32
 
 -- the first n numbers of a list are the boundary that the row of element e has
 pub record OwnBoundary (es : List ℕ) (e : ℕ) (list : List ℕ) (n : ℕ) : Type 0 where
   pub size : getD es (e * 36 + 3) 0 ≡ n
   pub same : (j : ℕ) → j < n → getD list j 0 ≡ getD es (e * 36 + (4 + j)) 0
 
--- whatever such table the memory holds: the side's step
-pub record SideMade (cs es : List ℕ) (r e : ℕ) (keep : Bool) (set : List ℕ) (x : ElementOrNone) (y : Added) (cs′ es′ : List ℕ) : Type 0 where
+-- whether they are: yes only where they are, and wherever they are
+pub record OwnTold (es : List ℕ) (e : ℕ) (list : List ℕ) (n : ℕ) (r : Bool) : Type 0 where
+  pub only : r ≡ true → OwnBoundary es e list n
+  pub wherever : OwnBoundary es e list n → r ≡ true
+
+-- whatever such table the memory holds: the side's step; and the index leads to the rows of after
+pub record SideMade (cs es : List ℕ) (r e : ℕ) (keep : Bool) (set : List ℕ) (x : ElementOrNone) (y : Added) (cs′ es′ ix′ : List ℕ) : Type 0 where
   pub of : (ps hs : List Float) (t : Table) → SideFit cs ps hs es r e set x t
-      → Came added.Made added.Refused (Holds desk cs′ ps hs es′) t (sideOfCut desk keep (element t e) x (members set) t) y
+      → Came added.Made added.Refused (Holds desk cs′ ps hs es′) t (sideOfCut desk keep (element t e) x (numbersIn set) t) y
+  pub indexed : Indexed es′ (getD cs′ 1 0) ix′
 
 -- ---- rule 6
 
@@ -118,7 +134,7 @@ pub record Rule6Done (cs es : List ℕ) (r e : ℕ) (k : Cutter) (s : Answers) (
 
 -- the words of a side's set, of elements in use and of the rank below r
 pub record SideSet (r : ℕ) (t : Table) (set xs : List ℕ) : Type 0 where
-  pub held : members set ≡ xs
+  pub held : numbersIn set ≡ xs
   pub sized : SizedSet set 32
   pub sets : SetOf t r xs
 
@@ -130,15 +146,17 @@ pub record Rule7Fit (cs : List ℕ) (ps hs : List Float) (es : List ℕ) (r e : 
   pub outside : SideSet r t o (g .outside)
   pub intersection : SomeOf r x t
 
--- there is such a table
-pub record Rule7Ready (cs es : List ℕ) (r e : ℕ) (k : Cutter) (i o : List ℕ) (x : ElementOrNone) : Type 0 where
+-- there is such a table, and the index leads to its rows
+pub record Rule7Ready (cs es ix : List ℕ) (r e : ℕ) (k : Cutter) (i o : List ℕ) (x : ElementOrNone) : Type 0 where
   pub points : List Float
   pub planes : List Float
   pub table : Table
   pub gathered : Gathered
   pub fit : Rule7Fit cs points planes es r e k i o x table gathered
+  pub indexed : Indexed es (getD cs 1 0) ix
 
--- whatever such table the memory holds, and whatever is gathered: rule 7
-pub record Rule7Done (cs es : List ℕ) (r e : ℕ) (k : Cutter) (i o : List ℕ) (x : ElementOrNone) (y : CutReply) (cs′ es′ : List ℕ) : Type 0 where
+-- whatever such table the memory holds, and whatever is gathered: rule 7; and the index leads to the rows of after
+pub record Rule7Done (cs es : List ℕ) (r e : ℕ) (k : Cutter) (i o : List ℕ) (x : ElementOrNone) (y : CutReply) (cs′ es′ ix′ : List ℕ) : Type 0 where
   pub of : (ps hs : List Float) (t : Table) (g : Gathered) → Rule7Fit cs ps hs es r e k i o x t g
       → Came reply.Answered reply.Refused (Holds desk cs′ ps hs es′) t (rule7 desk (cutOf (t .dimension) k) (element t e) g x t) y
+  pub indexed : Indexed es′ (getD cs′ 1 0) ix′

@@ -18,8 +18,8 @@ abbrev pub sizeIn : List ℕ → ℕ
 sizeIn s = getD s 33 0
 
 -- and they stand in front
-abbrev pub members : List ℕ → List ℕ
-members s = take (sizeIn s) s
+abbrev pub numbersIn : List ℕ → List ℕ
+numbersIn s = take (sizeIn s) s
 
 -- the words of the flush answers, and of the sets of all other answers
 pub record Answers : Type 0 where
@@ -36,9 +36,9 @@ answersIn f i o x = record { flush = f; inside = i; outside = o; intersections =
 pub record Gathers (s : Answers) (g : Gathered) : Type 0 where
   pub flushes : getD (s .flush) 0 0 ≡ length (g .flush)
   pub flush : getD (s .flush) 1 0 ≡ getD (g .flush) 0 0
-  pub inside : members (s .inside) ≡ g .inside
-  pub outside : members (s .outside) ≡ g .outside
-  pub intersections : members (s .intersections) ≡ g .intersections
+  pub inside : numbersIn (s .inside) ≡ g .inside
+  pub outside : numbersIn (s .outside) ≡ g .outside
+  pub intersections : numbersIn (s .intersections) ≡ g .intersections
 
 -- no more than m numbers, in words of its room
 pub record SizedSet (s : List ℕ) (m : ℕ) : Type 0 where
@@ -66,29 +66,39 @@ pub record Passed (x : ℕ) (xs : List ℕ) (at : ℕ) : Type 0 where
 
 -- x stands there, or belongs there
 pub record Place (s : List ℕ) (x r : ℕ) : Type 0 where
-  pub passed : Passed x (members s) r
+  pub passed : Passed x (numbersIn s) r
   pub within : r ≤ sizeIn s
   pub stop : r < sizeIn s → x ≤ getD s r 0
 
--- the words with x stored at a place, and behind it j of the members that stood there
+-- a set with room for one more, and a place in it
+pub record PutReady (s : List ℕ) (at : ℕ) : Type 0 where
+  pub sized : SizedSet s 32
+  pub within : at ≤ sizeIn s
+
+-- the words with x stored at a place, and behind it j of the numbers that stood there
 abbrev pub shifted : List ℕ → ℕ → ℕ → ℕ → List ℕ
-shifted s x at j = sets (set s at x) (at + 1) (take j (drop at (members s)))
+shifted s x at j = sets (set s at x) (at + 1) (take j (drop at (numbersIn s)))
 
 -- the set with x at a place
 abbrev pub putAt : List ℕ → ℕ → ℕ → List ℕ
 putAt s x at = set (shifted s x at (sizeIn s - at)) 33 (sizeIn s + 1)
 
--- the set with the element in it, if there is one
-pub record Included (s : List ℕ) (p : ElementOrNone) (r : List ℕ) : Type 0 where
-  pub of : members r ≡ including p (members s)
-  pub sized : (m : ℕ) → SizedSet s m → SizedSet r (m + 1)
-
--- ---- an answer gathered
-
 -- an element's number is within the room
 abbrev pub InRoom : ElementOrNone → Type 0
 InRoom None = Unit {0}
 InRoom (Some e) = e .0 < 512
+
+-- a set with room for one more, and the element that goes to it
+pub record IncludeReady (s : List ℕ) (p : ElementOrNone) : Type 0 where
+  pub sized : SizedSet s 32
+  pub room : InRoom p
+
+-- the set with the element in it, if there is one
+pub record Included (s : List ℕ) (p : ElementOrNone) (r : List ℕ) : Type 0 where
+  pub of : numbersIn r ≡ including p (numbersIn s)
+  pub sized : (m : ℕ) → SizedSet s m → SizedSet r (m + 1)
+
+-- ---- an answer gathered
 
 -- all elements of an answer are within the room
 abbrev pub OutputInRoom : ElementCutOutput → Type 0

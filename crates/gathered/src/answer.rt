@@ -1,11 +1,11 @@
 // Rules 6 to 8: what a cut adds for an element whose boundary has answered, and the element's own answer.
+use crate::including::include;
 use crate::sets::FLUSH;
-use crate::sets::include;
 use rules::CutReply;
+use rules::Cutter;
 use rules::ElementCutOutput;
 use rules::ElementId;
 use rules::ElementOrNone;
-use rules::Hyperplane;
 use rules::HyperplaneId;
 use space::memo;
 use space::memo::Added;
@@ -14,8 +14,7 @@ use space::words::NO_PLANE;
 use space::words::SET;
 use space::words::SIZE;
 use space::words::wide;
-ghost use Prim.Native.Nat.{_+_, _*_, _≤_, _<_};
-ghost use mathlib.Core.Bool.{true};
+ghost use Prim.Native.Nat.{_<_};
 ghost use mathlib.Core.Path.{_≡_};
 ghost use lib.Dec.{eqb};
 ghost use lib.ListN.{length, getD};
@@ -23,15 +22,7 @@ ghost use Rattle.rules.specs.Limits.{noPlane};
 ghost use Rattle.rules.specs.Lists.{if_then_else_};
 ghost use Rattle.space.specs.Chains.{Indexed};
 ghost use Rattle.gathered.specs.Sets.{answersIn};
-ghost use Rattle.gathered.specs.Cutting.{IntersectionReady, IntersectionMade, OwnBoundary, SideReady, SideMade, Rule7Ready, Rule7Done, Rule6Ready, Rule6Done};
-
-// The divider as given, its hyperplane's number, and which sides are kept.
-pub struct Cutter {
-    pub divider: Hyperplane,
-    pub number: HyperplaneId,
-    pub keep_inside: bool,
-    pub keep_outside: bool,
-}
+ghost use Rattle.gathered.specs.Cutting.{IntersectionReady, IntersectionMade, RowReadable, OwnTold, SideReady, SideMade, Rule7Ready, Rule7Done, Rule6Ready, Rule6Done};
 
 // The divider's hyperplane if the rank is the dimension.
 fn plane_of_intersection(counts: &[u16], rank: usize, number: HyperplaneId) -> u16
@@ -54,8 +45,9 @@ fn new_intersection(
     k: Cutter,
     set: &[u16; SET],
 ) -> Added
-    requires { ⌜ IntersectionReady (now counts) (now elements) rank k (now set) × Indexed (now elements) (getD (now counts) 1 0) (now index) ⌝ }
-    ensures { λ r. ⌜ IntersectionMade (now (counts .entry)) (now (elements .entry)) rank k (now (set .entry)) r (now (counts .exit)) (now (elements .exit)) × Indexed (now (elements .exit)) (getD (now (counts .exit)) 1 0) (now (index .exit)) ⌝ }
+    requires { ⌜ IntersectionReady (now counts) (now elements) (now index) rank k (now set) ⌝ }
+    ensures { λ r. ⌜ IntersectionMade (now (counts .entry)) (now (elements .entry)) rank k (now (set .entry)) r
+        (now (counts .exit)) (now (elements .exit)) (now (index .exit)) ⌝ }
 {
     let number = k.number;
     let plane = plane_of_intersection(counts, rank, number);
@@ -65,8 +57,8 @@ fn new_intersection(
 
 // Whether the first n numbers of a set are the boundary that element e has already.
 fn is_own(elements: &[u16], e: ElementId, set: &[u16; SET], n: usize) -> bool
-    requires { ⌜ (length (now elements) ≡ 18432) × (e .0 < 512) × (getD (now elements) (e .0 * 36 + 3) 0 ≤ 32) ⌝ }
-    ensures { λ r. ⌜ (r ≡ true → OwnBoundary (now (elements .entry)) (e .0) (now (set .entry)) n) × (OwnBoundary (now (elements .entry)) (e .0) (now (set .entry)) n → r ≡ true) ⌝ }
+    requires { ⌜ RowReadable (now elements) (e .0) ⌝ }
+    ensures { λ r. ⌜ OwnTold (now (elements .entry)) (e .0) (now (set .entry)) n r ⌝ }
 {
     if rows::size_of(elements, e) != n {
         return false;
@@ -90,8 +82,9 @@ fn side_of_cut(
     set: &mut [u16; SET],
     x: ElementOrNone,
 ) -> Added
-    requires { ⌜ SideReady (now counts) (now elements) rank (e .0) (now set) x × Indexed (now elements) (getD (now counts) 1 0) (now index) ⌝ }
-    ensures { λ r. ⌜ SideMade (now (counts .entry)) (now (elements .entry)) rank (e .0) keep (now (set .entry)) x r (now (counts .exit)) (now (elements .exit)) × Indexed (now (elements .exit)) (getD (now (counts .exit)) 1 0) (now (index .exit)) ⌝ }
+    requires { ⌜ SideReady (now counts) (now elements) (now index) rank (e .0) (now set) x ⌝ }
+    ensures { λ r. ⌜ SideMade (now (counts .entry)) (now (elements .entry)) rank (e .0) keep (now (set .entry)) x r
+        (now (counts .exit)) (now (elements .exit)) (now (index .exit)) ⌝ }
 {
     if !keep {
         return Added::Made(ElementOrNone::None);
@@ -119,8 +112,9 @@ fn rule7(
     outside: &mut [u16; SET],
     x: ElementOrNone,
 ) -> CutReply
-    requires { ⌜ Rule7Ready (now counts) (now elements) rank (e .0) k (now inside) (now outside) x × Indexed (now elements) (getD (now counts) 1 0) (now index) ⌝ }
-    ensures { λ r. ⌜ Rule7Done (now (counts .entry)) (now (elements .entry)) rank (e .0) k (now (inside .entry)) (now (outside .entry)) x r (now (counts .exit)) (now (elements .exit)) × Indexed (now (elements .exit)) (getD (now (counts .exit)) 1 0) (now (index .exit)) ⌝ }
+    requires { ⌜ Rule7Ready (now counts) (now elements) (now index) rank (e .0) k (now inside) (now outside) x ⌝ }
+    ensures { λ r. ⌜ Rule7Done (now (counts .entry)) (now (elements .entry)) rank (e .0) k (now (inside .entry)) (now (outside .entry)) x r
+        (now (counts .exit)) (now (elements .exit)) (now (index .exit)) ⌝ }
 {
     let first = side_of_cut(counts, elements, index, e, rank, k.keep_inside, inside, x);
     match first {
@@ -152,8 +146,11 @@ pub fn rule6(
     outside: &mut [u16; SET],
     intersections: &[u16; SET],
 ) -> CutReply
-    requires { ⌜ Rule6Ready (now counts) (now elements) rank (e .0) k (answersIn (now flush) (now inside) (now outside) (now intersections)) × Indexed (now elements) (getD (now counts) 1 0) (now index) ⌝ }
-    ensures { λ r. ⌜ Rule6Done (now (counts .entry)) (now (elements .entry)) rank (e .0) k (answersIn (now (flush .entry)) (now (inside .entry)) (now (outside .entry)) (now (intersections .entry))) r (now (counts .exit)) (now (elements .exit)) × Indexed (now (elements .exit)) (getD (now (counts .exit)) 1 0) (now (index .exit)) ⌝ }
+    requires { ⌜ Rule6Ready (now counts) (now elements) rank (e .0) k (answersIn (now flush) (now inside) (now outside) (now intersections))
+        × Indexed (now elements) (getD (now counts) 1 0) (now index) ⌝ }
+    ensures { λ r. ⌜ Rule6Done (now (counts .entry)) (now (elements .entry)) rank (e .0) k
+        (answersIn (now (flush .entry)) (now (inside .entry)) (now (outside .entry)) (now (intersections .entry))) r (now (counts .exit)) (now (elements .exit))
+        × Indexed (now (elements .exit)) (getD (now (counts .exit)) 1 0) (now (index .exit)) ⌝ }
 {
     let flushes = flush[0];
     if 1 < flushes {

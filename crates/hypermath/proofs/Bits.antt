@@ -11,7 +11,7 @@ use lib.Ieee.Compare.{differs-from-itself, nan-differs}
 use lib.Ieee.Fits.{down-pos}
 use lib.Ieee.Scale.{round-same}
 use Rattle.rules.specs.Floats.{plusZero, tolerance, within, sameBits, matches}
-use Rattle.rules.proofs.Laws.{truly, falsely, eq-test, eqb-self, refute, both-ways}
+use Rattle.rules.proofs.Laws.{truly, falsely, eq-test, eqb-self, refute, both-ways, or-right}
 use Rattle.rules.proofs.Selves.{bits-self, same-float}
 
 -- only a NaN differs from itself
@@ -62,11 +62,7 @@ bits-tell a b f g =
 
 pub match-near : (a b : Float) → within tolerance (sub binary64 a b) ≡ true → true ≡ matches a b
 unfolding matches
-match-near a b h = sym (either-way (sameBits a b) (within tolerance (sub binary64 a b)) h)
-  where
-    either-way : (p q : Bool) → q ≡ true → (p || q) ≡ true
-    either-way true q e = refl
-    either-way false q e = e
+match-near a b h = sym (or-right (sameBits a b) (within tolerance (sub binary64 a b)) h)
 
 pub match-bits : (a b : Float) → within tolerance (sub binary64 a b) ≡ false → sameBits a b ≡ matches a b
 unfolding matches

@@ -8,7 +8,7 @@ use lib.ListN.{getD, take, drop}
 use lib.IntN.{ℤ}
 use lib.Ieee.{Float, nan, inf, fin, isNan}
 use Rattle.rules.specs.Lists.{if_then_else_, all, rows}
-use Rattle.rules.specs.Floats.{plusZero, sameBits, within, farthestPlane, unit, clamp}
+use Rattle.rules.specs.Floats.{plusZero, sameBits, within, farthestPlane, signedDistance, unit, clamp}
 use Rattle.rules.specs.Table.{VertexNumber, HyperplaneNumber, Plane}
 use Rattle.rules.specs.Replies.{dividerOf}
 use Rattle.rules.specs.Promises.{Between}
@@ -20,6 +20,10 @@ use Rattle.hypermath.specs.declared.FoundVertex.{FoundVertex}
 use Rattle.hypermath.specs.declared.FoundVertex.the-variants.{None as NoVertex, At as AtVertex}
 use Rattle.hypermath.specs.declared.FoundHyperplane.{FoundHyperplane}
 use Rattle.hypermath.specs.declared.FoundHyperplane.the-variants.{None as NoHyperplane, At as AtHyperplane}
+
+-- the signed distance of a lent point from a lent hyperplane, in a space of d dimensions
+abbrev pub distanceTo : ℕ → Hyperplane → List Float → Float
+distanceTo d h p = signedDistance (take d (h .normal)) (h .distance) (take d p)
 
 -- a normal as it is lent: unit over the dimension, and zero bits past it
 abbrev pub unitNormal : ℕ → List Float → Bool

@@ -20,7 +20,7 @@ ghost use Rattle.rules.specs.Floats as floats;
 ghost use Rattle.rules.specs.Cut.{planeMatches};
 ghost use Rattle.rules.specs.Replies.{dividerOf};
 ghost use Rattle.hypermath.specs.Axes.{axes, AxesOf};
-ghost use Rattle.hypermath.specs.Answers.{unitNormal, distanceKind, vertexNumber, hyperplaneNumber, pointsIn, planesIn, rowHyperplane, Clamped};
+ghost use Rattle.hypermath.specs.Answers.{distanceTo, unitNormal, distanceKind, vertexNumber, hyperplaneNumber, pointsIn, planesIn, rowHyperplane, Clamped};
 
 // How many floats a point has.
 const AXES: usize = 4;
@@ -87,7 +87,7 @@ pub fn dot(d: usize, a: [f64; 4], b: [f64; 4]) -> f64
 
 // How far a point lies outside a hyperplane.
 pub fn signed_distance(d: usize, h: Hyperplane, p: [f64; 4]) -> f64
-    ensures { λ r. ⌜ r ≡ floats.signedDistance (take d (h .normal)) (h .distance) (take d p) ⌝ }
+    ensures { λ r. ⌜ r ≡ distanceTo d h p ⌝ }
 {
     let normal = h.normal;
     dot(d, normal, p) - h.distance
@@ -185,25 +185,18 @@ fn opposed(a: Side, b: Side) -> bool
     }
 }
 
-// From the signed distances of the lower-numbered end and the other: no crossing, or a crossing with its t.
-pub fn crossing_between(sa: f64, sb: f64) -> Crossing
-    ensures { λ r. ⌜ r ≡ floats.edgeTest sa sb ⌝ }
-{
-    let a = side_of(sa);
-    let b = side_of(sb);
-    if opposed(a, b) {
-        return Crossing::At(sa / (sa - sb));
-    }
-    Crossing::None
-}
-
-// Whether an edge is crossed, its lower-numbered end first.
+// No crossing of an edge, its lower-numbered end first, or a crossing with its t.
 pub fn edge_test(d: usize, h: Hyperplane, ends: [[f64; 4]; 2]) -> Crossing
-    ensures { λ r. ⌜ r ≡ floats.edgeTest (floats.signedDistance (take d (h .normal)) (h .distance) (take d (getD ends 0 []))) (floats.signedDistance (take d (h .normal)) (h .distance) (take d (getD ends 1 []))) ⌝ }
+    ensures { λ r. ⌜ r ≡ floats.edgeTest (distanceTo d h (getD ends 0 [])) (distanceTo d h (getD ends 1 [])) ⌝ }
 {
     let a = ends[0];
     let b = ends[1];
-    crossing_between(signed_distance(d, h, a), signed_distance(d, h, b))
+    let sa = signed_distance(d, h, a);
+    let sb = signed_distance(d, h, b);
+    if opposed(side_of(sa), side_of(sb)) {
+        return Crossing::At(sa / (sa - sb));
+    }
+    Crossing::None
 }
 
 // x, brought back between the ends a and b.
@@ -306,11 +299,11 @@ pub fn hyperplanes_match(d: usize, earlier: Hyperplane, later: Hyperplane) -> bo
 }
 
 // A row of the lent hyperplanes.
-pub fn hyperplane_at(planes: &[f64], k: usize) -> Hyperplane
-    requires { ⌜ k * (1 + axes) + (1 + axes) ≤ length (now planes) ⌝ }
-    ensures { λ r. ⌜ r ≡ rowHyperplane (now (planes .entry)) k ⌝ }
+pub fn hyperplane_at(planes: &[f64], k: HyperplaneId) -> Hyperplane
+    requires { ⌜ k .0 * (1 + axes) + (1 + axes) ≤ length (now planes) ⌝ }
+    ensures { λ r. ⌜ r ≡ rowHyperplane (now (planes .entry)) (k .0) ⌝ }
 {
-    let at = k * (1 + AXES);
+    let at = k.0 * (1 + AXES);
     let mut normal = [0.0; 4];
     for axis in 0..AXES {
         normal[axis] = planes[at + axis];
@@ -357,20 +350,20 @@ pub fn find_vertex(d: usize, points: &[f64], n: usize, p: [f64; 4]) -> FoundVert
     search_vertices(d, points, n, p)
 }
 
-// The lowest hyperplane, of those numbered from first up to n, that matches.
+// The lowest hyperplane that matches, of n, from the first that is asked on.
 pub fn find_hyperplane(
     d: usize,
     planes: &[f64],
-    first: usize,
+    first: HyperplaneId,
     n: usize,
     h: Hyperplane,
 ) -> FoundHyperplane
     requires { ⌜ n * (1 + axes) ≤ length (now planes) ⌝ }
-    ensures { λ r. ⌜ hyperplaneNumber r ≡ findFrom first (λ g. planeMatches g (dividerOf d h)) (drop first (planesIn d n (now (planes .entry)))) ⌝ }
+    ensures { λ r. ⌜ hyperplaneNumber r ≡ findFrom (first .0) (λ g. planeMatches g (dividerOf d h)) (drop (first .0) (planesIn d n (now (planes .entry)))) ⌝ }
 {
-    let mut k = first;
+    let mut k = first.0;
     while k < n {
-        let g = hyperplane_at(planes, k);
+        let g = hyperplane_at(planes, HyperplaneId(k));
         if hyperplanes_match(d, g, h) {
             return FoundHyperplane::At(HyperplaneId(k));
         }

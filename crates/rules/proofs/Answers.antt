@@ -14,24 +14,45 @@ use Rattle.rules.specs.Walk.{walk}
 use Rattle.rules.specs.Replies.{isSoundReply, cubeReply, dividerFits, cutReply, subElementsReply, withRankReply, vertexSetReply, greatestCommonReply, edgesInOrderReply, primordialFacetReply}
 use Rattle.rules.specs.Session.{decimal, blank, turn, cutlist}
 use Rattle.rules.specs.Marked.{Shown}
-use Rattle.rules.specs.Examples.{smallQ, zigzag, square, triangles, besideTriangle, tetrahedra, doubled, triangle, line, bent, soundness, choices, refusals, sessions}
+use Rattle.rules.specs.Examples.{smallQ, zigzag, pinched, square, triangles, besideTriangle, tetrahedra, doubled, triangle, line, bent, soundness, choices, refusals}
+use Rattle.rules.specs.Sessions.{sessions}
 
 -- every row of a table says the same on both sides
 abbrev pub Agree : List (Shown × Shown) → Type 0
 Agree rows = map (λ (r : Shown × Shown). r .0) rows ≡ map (λ (r : Shown × Shown). r .1) rows
 
 pub soundness-holds : Agree soundness
-unfolding neg add sub mul div lt eq le isNan ofBits within dotFrom dot signedDistance sideOf unit edgeTest clamp crossingPoint matches pointMatches sameElement sound roomFits soundPoint soundPlane cornersInOrder soundBoundary soundFacet elementRow planeRow encode readElement readPlane decode rightSize sameMemory soundMemory cube cubeElement cubePoint facetNormal facetPlane radiusFits addElement addPolytope addVertex planeMatches addPlane cutCorner rule7 rule6 cutEnds cutEdge cutHigher cutElement cut reaches subElements withRank vertexSet commonWithRank greatestFrom greatestCommon walk edgesInOrder primordialFacet isSoundReply cubeReply dividerFits cutReply subElementsReply withRankReply vertexSetReply greatestCommonReply edgesInOrderReply primordialFacetReply square triangles doubled besideTriangle soundness
+unfolding neg add sub mul div lt eq le isNan ofBits within dotFrom dot signedDistance sideOf unit edgeTest clamp crossingPoint matches pointMatches
+    sameElement sound roomFits soundPoint soundPlane cornersInOrder soundBoundary soundFacet elementRow planeRow encode readElement readPlane decode
+    rightSize sameMemory soundMemory cube cubeElement cubePoint facetNormal facetPlane radiusFits addElement addPolytope addVertex planeMatches
+    addPlane cutCorner rule7 rule6 cutEnds cutEdge cutHigher cutElement cut reaches subElements withRank vertexSet commonWithRank greatestFrom
+    greatestCommon walk edgesInOrder primordialFacet isSoundReply cubeReply dividerFits cutReply subElementsReply withRankReply vertexSetReply
+    greatestCommonReply edgesInOrderReply primordialFacetReply square triangles doubled besideTriangle soundness
 soundness-holds = refl
 
 pub choices-hold : Agree choices
-unfolding neg add sub mul div lt eq le isNan ofBits within dotFrom dot signedDistance sideOf unit edgeTest clamp crossingPoint matches pointMatches sameElement sound roomFits soundPoint soundPlane cornersInOrder soundBoundary soundFacet elementRow planeRow encode readElement readPlane decode rightSize sameMemory soundMemory cube cubeElement cubePoint facetNormal facetPlane radiusFits addElement addPolytope addVertex planeMatches addPlane cutCorner rule7 rule6 cutEnds cutEdge cutHigher cutElement cut reaches subElements withRank vertexSet commonWithRank greatestFrom greatestCommon walk edgesInOrder primordialFacet isSoundReply cubeReply dividerFits cutReply subElementsReply withRankReply vertexSetReply greatestCommonReply edgesInOrderReply primordialFacetReply smallQ square doubled triangle line bent choices
+unfolding neg add sub mul div lt eq le isNan ofBits within dotFrom dot signedDistance sideOf unit edgeTest clamp crossingPoint matches pointMatches
+    sameElement sound roomFits soundPoint soundPlane cornersInOrder soundBoundary soundFacet elementRow planeRow encode readElement readPlane decode
+    rightSize sameMemory soundMemory cube cubeElement cubePoint facetNormal facetPlane radiusFits addElement addPolytope addVertex planeMatches
+    addPlane cutCorner rule7 rule6 cutEnds cutEdge cutHigher cutElement cut reaches subElements withRank vertexSet commonWithRank greatestFrom
+    greatestCommon walk edgesInOrder primordialFacet isSoundReply cubeReply dividerFits cutReply subElementsReply withRankReply vertexSetReply
+    greatestCommonReply edgesInOrderReply primordialFacetReply smallQ square doubled triangle line bent choices
 choices-hold = refl
 
 pub refusals-hold : Agree refusals
-unfolding neg add sub mul div lt eq le isNan ofBits within dotFrom dot signedDistance sideOf unit edgeTest clamp crossingPoint matches pointMatches sameElement sound roomFits soundPoint soundPlane cornersInOrder soundBoundary soundFacet elementRow planeRow encode readElement readPlane decode rightSize sameMemory soundMemory cube cubeElement cubePoint facetNormal facetPlane radiusFits addElement addPolytope addVertex planeMatches addPlane cutCorner rule7 rule6 cutEnds cutEdge cutHigher cutElement cut reaches subElements withRank vertexSet commonWithRank greatestFrom greatestCommon walk edgesInOrder primordialFacet isSoundReply cubeReply dividerFits cutReply subElementsReply withRankReply vertexSetReply greatestCommonReply edgesInOrderReply primordialFacetReply smallQ square zigzag tetrahedra refusals
+unfolding neg add sub mul div lt eq le isNan ofBits within dotFrom dot signedDistance sideOf unit edgeTest clamp crossingPoint matches pointMatches
+    sameElement sound roomFits soundPoint soundPlane cornersInOrder soundBoundary soundFacet elementRow planeRow encode readElement readPlane decode
+    rightSize sameMemory soundMemory cube cubeElement cubePoint facetNormal facetPlane radiusFits addElement addPolytope addVertex planeMatches
+    addPlane cutCorner rule7 rule6 cutEnds cutEdge cutHigher cutElement cut reaches subElements withRank vertexSet commonWithRank greatestFrom
+    greatestCommon walk edgesInOrder primordialFacet isSoundReply cubeReply dividerFits cutReply subElementsReply withRankReply vertexSetReply
+    greatestCommonReply edgesInOrderReply primordialFacetReply smallQ square zigzag pinched tetrahedra refusals
 refusals-hold = refl
 
 pub sessions-hold : Agree sessions
-unfolding neg add sub mul div lt eq le isNan ofBits within dotFrom dot signedDistance sideOf unit edgeTest clamp crossingPoint matches pointMatches sameElement sound roomFits soundPoint soundPlane cornersInOrder soundBoundary soundFacet elementRow planeRow encode readElement readPlane decode rightSize sameMemory soundMemory cube cubeElement cubePoint facetNormal facetPlane radiusFits addElement addPolytope addVertex planeMatches addPlane cutCorner rule7 rule6 cutEnds cutEdge cutHigher cutElement cut reaches subElements withRank vertexSet commonWithRank greatestFrom greatestCommon walk edgesInOrder primordialFacet isSoundReply cubeReply dividerFits cutReply subElementsReply withRankReply vertexSetReply greatestCommonReply edgesInOrderReply primordialFacetReply decimal blank turn cutlist sessions
+unfolding neg add sub mul div lt eq le isNan ofBits within dotFrom dot signedDistance sideOf unit edgeTest clamp crossingPoint matches pointMatches
+    sameElement sound roomFits soundPoint soundPlane cornersInOrder soundBoundary soundFacet elementRow planeRow encode readElement readPlane decode
+    rightSize sameMemory soundMemory cube cubeElement cubePoint facetNormal facetPlane radiusFits addElement addPolytope addVertex planeMatches
+    addPlane cutCorner rule7 rule6 cutEnds cutEdge cutHigher cutElement cut reaches subElements withRank vertexSet commonWithRank greatestFrom
+    greatestCommon walk edgesInOrder primordialFacet isSoundReply cubeReply dividerFits cutReply subElementsReply withRankReply vertexSetReply
+    greatestCommonReply edgesInOrderReply primordialFacetReply decimal blank turn cutlist sessions
 sessions-hold = refl

@@ -13,7 +13,9 @@ use Rattle.rules.specs.Lists.{find, member, findFrom}
 use Rattle.rules.specs.Floats.{pointMatches, crossingPoint, edgeTest}
 use Rattle.rules.specs.Table.{Table, element, Element, Plane, elementCount, sameElement, polytope, boundary, corner, primordials, rank, rankOf, planeOf, isPrimordial, boundaryOf, pointAt}
 use Rattle.rules.specs.Sound.{closed}
-use Rattle.rules.specs.Cut.{withElement, withPoint, withPlane, cut, Outcome, refused, done, Step, next, shareElement, addElement, addPolytope, addVertex, shareVertex, sharePlane, addPlane, planeMatches, Cutting, sideOfCut, including, rule7, Gathered, rule6, newIntersection, planeOfIntersection, given, crossEdge, cutEdge, cutEnds, distanceOf, cutBoundary, gathering, cutElement, cutCorner, cutHigher, nothingYet, cutFinite, cutAtDistance}
+use Rattle.rules.specs.Cut.{withElement, withPoint, withPlane, cut, Outcome, refused, done, Step, next, shareElement, addElement, addPolytope, addVertex, shareVertex, sharePlane}
+use Rattle.rules.specs.Cut.{addPlane, planeMatches, Cutting, sideOfCut, including, rule7, Gathered, rule6, newIntersection, planeOfIntersection, given, crossEdge, cutEdge, cutEnds}
+use Rattle.rules.specs.Cut.{distanceOf, cutBoundary, gathering, cutElement, cutCorner, cutHigher, nothingYet, cutFinite, cutAtDistance}
 use Rattle.rules.specs.Held.{Extends}
 use Rattle.rules.specs.declared.Crossing.{Crossing}
 use Rattle.rules.specs.declared.Crossing.the-variants.{None as NoCrossing, At}

@@ -1,23 +1,27 @@
 -- Demand 3 at the public replies, for whole sequences of calls: every memory that follows a sound one is sound and goes on from it,
 -- so what was answered once is answered again, from the table that is there.
 use Prim.Native.Nat.{ℕ, _<_, suc, zero}
-use mathlib.Core.Bool.{not, true, Bool, false≢true, false}
+use mathlib.Core.Bool.{not, true, Bool, false}
 use mathlib.Core.List.{List, [], _∷_}
-use mathlib.Core.Path.{_≡_, refl, subst, sym, _∙_, ap}
-use native.Mathlib.Nat.{lt-irrefl, le-trans}
+use mathlib.Core.Option.{Option, none}
+use mathlib.Core.Path.{_≡_, refl, subst, sym, _∙_, ap, ap₂}
+use native.Mathlib.Nat.{lt-irrefl, le-trans, suc-ne-zero}
 use lib.Ieee.{inf, fin, Float, nan}
 use Rattle.rules.specs.Limits.{Limits, Readable}
-use Rattle.rules.specs.Lists.{member}
+use Rattle.rules.specs.Lists.{if_then_else_}
 use Rattle.rules.specs.Table.{Plane, Table, rank}
 use Rattle.rules.specs.Memory.{Memory, soundMemory, decode}
-use Rattle.rules.specs.Cut.{cut, done, cutAtDistance, given}
-use Rattle.rules.specs.Replies.{cutReply, dividerOf, dividerFits, written, cutNumber}
-use Rattle.rules.specs.Promises.{Finite, after, Call, asking, cutting, afterCalls, StaysSound, AgainLater, OneSideLater, FlushLater, InfiniteDistance}
+use Rattle.rules.specs.Cut.{cut, done, cutAtDistance, given, cornerAnswer}
+use Rattle.rules.specs.Replies.{cutReply, dividerOf, dividerFits, written, cutNumber, cutValues, outputValues, elementValue}
+use Rattle.rules.specs.Calls.{after, Call, asking, cutting, cubing, afterCalls, LeavesTable, NoCubeTaken, Gives}
+use Rattle.rules.specs.Promises.{Finite, AgainLater, OneSideLater, FlushLater, InfiniteDistance}
 use Rattle.rules.specs.Held.{Extends}
+use Rattle.rules.specs.declared.Side.the-variants.{Inside, Outside}
 use Rattle.rules.specs.declared.CutReply.{CutReply}
 use Rattle.rules.specs.declared.CutReply.the-variants.{Refused, Answered}
 use Rattle.rules.specs.declared.ElementCutOutput.{ElementCutOutput}
 use Rattle.rules.specs.declared.ElementCutOutput.the-variants.{NonFlush, Flush}
+use Rattle.rules.specs.declared.ElementOrNone.{ElementOrNone}
 use Rattle.rules.specs.declared.ElementOrNone.the-variants.{None}
 use Rattle.rules.specs.declared.Hyperplane.{Hyperplane}
 use Rattle.rules.proofs.Built.{built-extends}
@@ -27,7 +31,7 @@ use Rattle.rules.proofs.Fewer.{Dropped, lessKept, lessOutput}
 use Rattle.rules.proofs.Fine.{OutputIn}
 use Rattle.rules.proofs.Later.{same, Later}
 use Rattle.rules.proofs.OneCall.{it, memory-sound, memory-built, memory-table, after-built, passed, good-before}
-use Rattle.rules.proofs.Refusals.{refused-leaves, cut-numbers}
+use Rattle.rules.proofs.Refusals.{refused-leaves, refused-cube-leaves, cut-numbers}
 use Rattle.rules.proofs.Repeat.{NotInfinite, cut-again, cut-fewer}
 use Rattle.rules.proofs.RoundTrip.{memory-back}
 
@@ -43,6 +47,10 @@ not-infinite nan f = tt
 not-infinite (inf s) f = f s refl
 not-infinite (fin s m e) f = tt
 
+-- a reply that is an answer, by its values
+pub gives : {r : CutReply × Memory} {a : ElementCutOutput} {vs : List (Option ℕ)} {m : Memory} → r ≡ (Answered a, m) → outputValues a ≡ vs → Gives r vs m
+gives e v = record { number = ap (λ (x : CutReply × Memory). cutNumber (x .0)) e; values = ap (λ (x : CutReply × Memory). cutValues (x .0)) e ∙ v; memory = ap (λ (x : CutReply × Memory). x .1) e }
+
 -- ---- what follows a sound memory
 
 pub record Follows (L : Limits) (m m′ : Memory) : Type 0 where
@@ -50,9 +58,11 @@ pub record Follows (L : Limits) (m m′ : Memory) : Type 0 where
   pub extends : Extends (decode L m) (decode L m′)
 
 module _ (L : Limits) (R : Readable L) where
-  pub call-follows : (c : Call) (m : Memory) → soundMemory L m ≡ true → Follows L m (after L c m)
-  call-follows asking m s = record { sound-after = s; extends = extends-refl (decode L m) }
-  call-follows (cutting h i o root) m s = go (cutReply L h i o root m .0) (cutReply L h i o root m .1) refl
+  pub call-follows : (c : Call) (m : Memory) → soundMemory L m ≡ true → LeavesTable L c m → Follows L m (after L c m)
+  call-follows asking m s n = record { sound-after = s; extends = extends-refl (decode L m) }
+  call-follows (cubing d radius) m s n =
+      subst (λ (x : Memory). Follows L m x) (sym (refused-cube-leaves L d radius m n)) (record { sound-after = s; extends = extends-refl (decode L m) })
+  call-follows (cutting h i o root) m s n = go (cutReply L h i o root m .0) (cutReply L h i o root m .1) refl
     where
       go : (r : CutReply) (m′ : Memory) → cutReply L h i o root m ≡ (r, m′) → Follows L m m′
       go (Refused n) m′ e =
@@ -62,15 +72,12 @@ module _ (L : Limits) (R : Readable L) where
         extends = built-extends (memory-built L R h i o root m a m′ e);
       }
 
-  pub calls-follow : (cs : List Call) (m : Memory) → soundMemory L m ≡ true → Follows L m (afterCalls L cs m)
-  calls-follow [] m s = record { sound-after = s; extends = extends-refl (decode L m) }
-  calls-follow (c ∷ cs) m s =
-      let f = call-follows c m s in
-      let g = calls-follow cs (after L c m) (f .sound-after) in
+  pub calls-follow : (cs : List Call) (m : Memory) → soundMemory L m ≡ true → NoCubeTaken L cs m → Follows L m (afterCalls L cs m)
+  calls-follow [] m s n = record { sound-after = s; extends = extends-refl (decode L m) }
+  calls-follow (c ∷ cs) m s n =
+      let f = call-follows c m s (n .0) in
+      let g = calls-follow cs (after L c m) (f .sound-after) (n .1) in
       record { sound-after = g .sound-after; extends = extends-trans (f .extends) (g .extends) }
-
-  pub stays-sound : StaysSound L
-  stays-sound cs m s = calls-follow cs m s .sound-after
 
   -- ---- an answer, replayed
 
@@ -113,44 +120,65 @@ module _ (L : Limits) (R : Readable L) where
   -- ---- the promises
 
   pub again-later : AgainLater L
-  again-later h i o root m = go (cutReply L h i o root m .0) (cutReply L h i o root m .1) refl
-    where
-      go : (r : CutReply) (m′ : Memory) → cutReply L h i o root m ≡ (r, m′) → cutNumber r ≡ 0
-          → (cs : List Call) → cutReply L h i o root (afterCalls L cs m′) ≡ (r, afterCalls L cs m′)
-      go (Refused n) m′ e z cs =
-          absurd (false≢true (subst (λ (k : ℕ). member k (3 ∷ 4 ∷ 5 ∷ 7 ∷ 8 ∷ 9 ∷ 10 ∷ 11 ∷ []) ≡ true) z
-          (cut-numbers L h i o root m n (ap (λ (x : CutReply × Memory). x .0) e))))
-      go (Answered a) m′ e z cs = same-sides h i o root m a m′ e (afterCalls L cs m′) (calls-follow cs m′ (memory-sound L R h i o root m a m′ e))
+  again-later h i o root m z cs n =
+      let a = cut-numbers L h i o root m .answered z in
+      let e : cutReply L h i o root m ≡ (Answered (a .0), cutReply L h i o root m .1) = λ j. (a .1 j, cutReply L h i o root m .1) in
+      let later = afterCalls L cs (cutReply L h i o root m .1) in
+      same-sides h i o root m (a .0) (cutReply L h i o root m .1) e later
+      (calls-follow cs (cutReply L h i o root m .1) (memory-sound L R h i o root m (a .0) (cutReply L h i o root m .1) e) n)
+      ∙ (λ j. (sym (a .1) j, later))
+
+  -- what is answered with three values
+  three : (r : CutReply) (i o x : Option ℕ) → cutValues r ≡ i ∷ o ∷ x ∷ []
+      → (a : ElementOrNone) × (b : ElementOrNone) × (c : ElementOrNone) × (r ≡ Answered (NonFlush a b c)) × (elementValue a ≡ i) × (elementValue b ≡ o) × (elementValue c ≡ x)
+  three (Refused n) i o x e = absurd (let z : _≡_ {A = ℕ} 0 1 = cc in suc-ne-zero 0 (sym z))
+  three (Answered Flush) i o x e = absurd (let z : _≡_ {A = ℕ} 0 1 = cc in suc-ne-zero 0 (sym z))
+  three (Answered (NonFlush a b c)) i o x e = (a, b, c, refl, cc, cc, cc)
 
   pub one-side-later : OneSideLater L
-  one-side-later h root m m′ i o x f k e cs =
+  one-side-later h root m i o x f k v cs n =
+      let w = three (cutReply L h true true root m .0) i o x v in
+      let a = NonFlush (w .0) (w .1) (w .2) in
+      let m′ = cutReply L h true true root m .1 in
+      let later = afterCalls L cs m′ in
+      let e : cutReply L h true true root m ≡ (Answered a, m′) = λ j. (w .3 j, m′) in
       let s = one-more (rank (decode L m) root) k in
       let z = not-infinite (h .distance) f in
-      let after′ = calls-follow cs m′ (memory-sound L R h true true root m (NonFlush i o x) m′ e) in (
-        fewer-sides h true true root m (NonFlush i o x) m′ e (record { inside = false; outside = true }) (s .0) (s .1) z (afterCalls L cs m′) after′,
-        fewer-sides h true true root m (NonFlush i o x) m′ e (record { inside = true; outside = false }) (s .0) (s .1) z (afterCalls L cs m′) after′,
+      let after′ = calls-follow cs m′ (memory-sound L R h true true root m a m′ e) n in (
+        gives (fewer-sides h true true root m a m′ e (record { inside = false; outside = true }) (s .0) (s .1) z later after′) (ap₂ (λ (p q : Option ℕ). p ∷ none ∷ q ∷ []) (w .4) (w .6)),
+        gives (fewer-sides h true true root m a m′ e (record { inside = true; outside = false }) (s .0) (s .1) z later after′) (ap₂ (λ (p q : Option ℕ). none ∷ p ∷ q ∷ []) (w .5) (w .6)),
       )
 
   pub flush-later : FlushLater L
-  flush-later h root m m′ f k e i o cs =
+  flush-later h root m f k d v i o cs n =
+      let a = cut-numbers L h true true root m .answered d in
+      let m′ = cutReply L h true true root m .1 in
+      let later = afterCalls L cs m′ in
+      let r = a .1 ∙ ap Answered (flush (a .0) (sym (ap cutValues (a .1)) ∙ v)) in
+      let e : cutReply L h true true root m ≡ (Answered Flush, m′) = λ j. (r j, m′) in
       let s = one-more (rank (decode L m) root) k in
       let z = not-infinite (h .distance) f in
-      subst (λ (p : Bool). cutReply L h p o root (afterCalls L cs m′) ≡ (Answered Flush, afterCalls L cs m′)) (kept i)
-      (subst (λ (q : Bool). cutReply L h (lessKept (not i) true) q root (afterCalls L cs m′) ≡ (Answered Flush, afterCalls L cs m′)) (kept o)
-      (fewer-sides h true true root m Flush m′ e (record { inside = not i; outside = not o }) (s .0) (s .1) z (afterCalls L cs m′)
-      (calls-follow cs m′ (memory-sound L R h true true root m Flush m′ e))))
+      subst (λ (p : Bool). cutReply L h p o root later ≡ (cutReply L h true true root m .0, later)) (kept i)
+      (subst (λ (q : Bool). cutReply L h (lessKept (not i) true) q root later ≡ (cutReply L h true true root m .0, later)) (kept o)
+      (fewer-sides h true true root m Flush m′ e (record { inside = not i; outside = not o }) (s .0) (s .1) z later
+      (calls-follow cs m′ (memory-sound L R h true true root m Flush m′ e) n) ∙ (λ j. (sym r j, later))))
     where
       kept : (b : Bool) → lessKept (not b) true ≡ b
       kept true = refl
       kept false = refl
 
+      flush : (b : ElementCutOutput) → outputValues b ≡ [] → b ≡ Flush
+      flush Flush q = refl
+      flush (NonFlush p q x) u = absurd (let z : _≡_ {A = ℕ} 0 1 = cc in suc-ne-zero 0 (sym z))
+
   -- ---- an infinite distance
 
   pub infinite-distance : InfiniteDistance L
   unfolding cut
-  infinite-distance h i o root m p = (
-    λ q. passed L h i o root m p ∙ ap (λ (d : Float). written L m (cutAtDistance L (dividerOf (decode L m .dimension) h) d i o root (decode L m))) q
-        ∙ ap (λ (z : Memory). (Answered (NonFlush (given root) None None), z)) (memory-back L m (p .sound)),
-    λ q. passed L h i o root m p ∙ ap (λ (d : Float). written L m (cutAtDistance L (dividerOf (decode L m .dimension) h) d i o root (decode L m))) q
-        ∙ ap (λ (z : Memory). (Answered (NonFlush None (given root) None), z)) (memory-back L m (p .sound)),
-  )
+  infinite-distance h i o root m p = (λ q. gives (at false q) refl, λ q. gives (at true q) refl)
+    where
+      at : (s : Bool) → h .distance ≡ inf s → cutReply L h i o root m ≡ (Answered (cornerAnswer root (if s then Outside else Inside)), m)
+      at false q = passed L h i o root m p ∙ ap (λ (d : Float). written L m (cutAtDistance L (dividerOf (decode L m .dimension) h) d i o root (decode L m))) q
+          ∙ ap (λ (z : Memory). (Answered (NonFlush (given root) None None), z)) (memory-back L m (p .sound))
+      at true q = passed L h i o root m p ∙ ap (λ (d : Float). written L m (cutAtDistance L (dividerOf (decode L m .dimension) h) d i o root (decode L m))) q
+          ∙ ap (λ (z : Memory). (Answered (NonFlush None (given root) None), z)) (memory-back L m (p .sound))

@@ -176,7 +176,7 @@ module _ (L : Limits) (t : Table) (s : sound L t ≡ true) where
     unfolding greatestFrom
     greatest-from zero low = record {
       level = 0;
-      members = λ x h. absurd (false≢true h);
+      common = λ x h. absurd (false≢true h);
       whole = λ x u p q c. absurd (let z : ⊥ = omega (arith, p, q) in z);
       highest = λ x u p c. let l = low x u c in let z : ⊥ = omega (arith, l, p) in z;
     }
@@ -195,7 +195,7 @@ module _ (L : Limits) (t : Table) (s : sound L t ≡ true) where
         go [] q below = below (λ x u c. less (rank t x) (low x u c) (λ e. false≢true (sym (ap (member x) q) ∙ with-common (suc r) x u e c)))
         go (y ∷ ys) q below = record {
           level = suc r;
-          members = λ x h. common-with (suc r) x (ap (member x) q ∙ h);
+          common = λ x h. common-with (suc r) x (ap (member x) q ∙ h);
           whole = λ x u p e c. sym (ap (member x) q) ∙ with-common (suc r) x u e c;
           highest = λ x u p c. let l = low x u c in let z : ⊥ = omega (arith, l, p) in z;
         }

@@ -10,7 +10,6 @@ use lib.Ieee.{below, level, le, lt, eq, fin, up, down, Float, isNan, nan, inf}
 use lib.Ieee.Fits.{down-pos}
 use lib.Ieee.Positive.{through}
 use lib.IntN.{ℤ}
-use Rattle.rules.specs.Marked.{Q}
 use Rattle.rules.proofs.Laws.{truly, and-true, holds, and-right, and-left, eqb-self}
 
 -- ---- ±A ≤ ±B, as facts

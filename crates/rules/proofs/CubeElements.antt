@@ -16,7 +16,6 @@ use Rattle.rules.specs.Table.{polytope, Element, isCorner, boundaryOf, s
 use Rattle.rules.specs.Walk.{endsOf, around, eachOnce, eachTwice}
 use Rattle.rules.specs.Sound.{closed, soundFacet, namesPlane, namesNone, soundElement}
 use Rattle.rules.specs.Cube.{isVertex, digits, isFacet, twos, cube, cubeElement, ofDigits}
-use Rattle.rules.specs.Marked.{room}
 use Rattle.rules.specs.Held.{AllOf}
 use Rattle.rules.proofs.Counting.{before, all-up, before-zero, upTo-suc, bit, before-suc, before-less, distinct-up, getD-up, allFrom-up}
 use Rattle.rules.proofs.CubeDigits.{digit-low, twos-length, digits-length, of-digits}

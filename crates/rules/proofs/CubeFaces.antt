@@ -8,7 +8,6 @@ use native.Mathlib.Omega.{arith}
 use lib.Dec.{ltb, eqb}
 use lib.ListN.{length, length-map, length-append}
 use Rattle.rules.specs.Lists.{rises, all, if_then_else_, keep}
-use Rattle.rules.specs.Table.{rank}
 use Rattle.rules.specs.Cube.{digits, ofDigits, faces, twos}
 use Rattle.rules.specs.Held.{AllOf}
 use Rattle.rules.proofs.CubeDigits.{digits-step, digits-of}

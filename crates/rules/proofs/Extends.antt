@@ -111,7 +111,8 @@ module _ (t l : Table) (g : Extends t l) (es : List ℕ) (old : Below (elementCo
     walk-same (suc n) start v e u =
         let w = otherEnd t v e in
         let d = otherEdge t w e es in
-        let used : d < elementCount t = below-get (elementCount t) (keep (λ x. not (eqb x e)) (edgesAt t w es)) 0 some (below-keep (elementCount t) (λ x. not (eqb x e)) (edgesAt t w es) (below-keep (elementCount t) (λ x. member w (boundary t x)) es old)) in
+        let used : d < elementCount t = below-get (elementCount t) (keep (λ x. not (eqb x e)) (edgesAt t w es)) 0 some
+        (below-keep (elementCount t) (λ x. not (eqb x e)) (edgesAt t w es) (below-keep (elementCount t) (λ x. member w (boundary t x)) es old)) in
         ap (λ (w′ : ℕ). (e, w′) ∷ (if eqb w′ start then [] else walk n l es start w′ (otherEdge l w′ e es))) (end-same v e u)
         ∙ ap (λ (rest : List (ℕ × ℕ)). (e, w) ∷ (if eqb w start then [] else rest)) (ap (walk n l es start w) (other-same w e) ∙ walk-same n start w d used)
 

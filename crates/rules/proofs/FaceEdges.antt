@@ -30,7 +30,7 @@ use Rattle.rules.proofs.VertexSet.{keep-rises, up-rises}
 pub of-all : (p : ℕ → Bool) (xs : List ℕ) (x : ℕ) → all p xs ≡ true → member x xs ≡ true → p x ≡ true
 of-all p xs x h m = let a = some-at (eqb x) xs m in subst (λ (y : ℕ). p y ≡ true) (sym (eq-test x (getD xs (a .0) 0) (a .2))) (at-each p xs (a .0) h (a .1))
 
-member-at : (xs : List ℕ) (n : ℕ) → n < length xs → member (getD xs n 0) xs ≡ true
+pub member-at : (xs : List ℕ) (n : ℕ) → n < length xs → member (getD xs n 0) xs ≡ true
 member-at xs n l = at-some (eqb (getD xs n 0)) xs n l (eqb-self (getD xs n 0))
 
 -- a list with a member has a first entry

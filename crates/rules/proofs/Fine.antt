@@ -9,7 +9,6 @@ use lib.ListN.{length, getD, List·getD-append}
 use lib.Seq.{getD-append-seam}
 use Rattle.rules.specs.Table.{Element, corner, polytope, Table, elementCount, element, primordials, pointOf, pointAt, boundary, boundaryOf, Plane}
 use Rattle.rules.specs.Cut.{Gathered, including, gathering, cornerAnswer, withElement, withPoint, withPlane}
-use Rattle.rules.specs.Examples.{planes}
 use Rattle.rules.specs.Held.{Begins, Extends}
 use Rattle.rules.specs.declared.ElementCutOutput.{ElementCutOutput}
 use Rattle.rules.specs.declared.ElementCutOutput.the-variants.{Flush, NonFlush}

@@ -7,13 +7,11 @@ use mathlib.Core.Option.{Option, none, some}
 use mathlib.Core.Path.{_≡_, ap, subst, refl, ap₂, _∙_, sym}
 use native.Mathlib.Nat.{le-trans, zero-add, le-refl, le-of-lt, not-suc-le-zero}
 use lib.Dec.{leb, eqb, ltb}
-use lib.Ieee.{low}
 use lib.ListN.{length}
 use Rattle.rules.specs.Limits.{Limits}
 use Rattle.rules.specs.Lists.{all, keep, upTo, allFrom, distinct, alike, rises, if_then_else_}
 use Rattle.rules.specs.Table.{Table, element, elementCount, boundaryOf, primordials, corner, vertexOf, isCorner, Element, sameElement, rank, polytope, rankOf}
 use Rattle.rules.specs.Sound.{soundPoint, sound, soundPlane, soundElement, roomFits, cornersInOrder, closed, soundBoundary, namesPlane, soundFacet, namesNone}
-use Rattle.rules.specs.Examples.{points, planes, corners, tight}
 use Rattle.rules.specs.Held.{Extends}
 use Rattle.rules.proofs.Extends.{Below, rank-same, below-more, closed-same, begins-length}
 use Rattle.rules.proofs.Growing.{allFrom-step, all-at}

@@ -13,7 +13,6 @@ use Rattle.rules.specs.Lists.{find, keep, upTo}
 use Rattle.rules.specs.Table.{polytope, Table, elementCount, sameElement, Element, boundaryOf, corner, vertexOf, isCorner, Plane, primordials}
 use Rattle.rules.specs.Sound.{soundElement, soundPoint, soundPlane}
 use Rattle.rules.specs.Cut.{withElement, withPlane}
-use Rattle.rules.specs.Marked.{room}
 use Rattle.rules.proofs.Extends.{grown-element, withVertex, grown-vertex, begins-length, grown-plane}
 use Rattle.rules.proofs.Good.{Good, Whole, elements-later, sound-later, whole-sound}
 use Rattle.rules.proofs.Growing.{length-snoc, all-snoc, keep-append, allFrom-snoc, apart-snoc, map-append, upFrom-snoc}

@@ -6,7 +6,6 @@ use mathlib.Core.Path.{_≡_, refl, _∙_, ap}
 use Rattle.rules.specs.Lists.{if_then_else_}
 use Rattle.rules.specs.Table.{Table, elementCount}
 use Rattle.rules.specs.Cut.{Step, done, Outcome, refused, give, _>>=_, next}
-use Rattle.rules.specs.Marked.{Q}
 use Rattle.rules.specs.Held.{Extends}
 use Rattle.rules.proofs.Extends.{extends-refl, extends-trans}
 use Rattle.rules.proofs.Fine.{Fine}

@@ -1,10 +1,10 @@
 -- Small laws of tests: from a Boolean that is true to the fact that it tests, and back.
 -- Everything else cites them, so no file proves one again.
 use Prim.Native.Nat.{ℕ, _≤_, _<_}
-use mathlib.Core.Bool.{true, false, Bool, false≢true, not, true≢false, _&&_, _||_, Bool·beq}
+use mathlib.Core.Bool.{true, false, Bool, cond, false≢true, not, true≢false, _&&_, _||_, Bool·beq}
 use mathlib.Core.Option.{Option, none, some}
 use mathlib.Core.Path.{_≡_, refl, subst, sym, _∙_}
-use native.Mathlib.Nat.{lt-irrefl, le-trans}
+use native.Mathlib.Nat.{lt-irrefl, le-trans, suc-ne-zero}
 use lib.Dec.{T, leb, leb→le, le→leb, nleb→lt, eqb, eqb-refl, eqb→eq}
 use Rattle.rules.specs.Lists.{if_then_else_}
 
@@ -47,6 +47,22 @@ and-left false b h = h
 pub and-right : (a b : Bool) → (a && b) ≡ true → b ≡ true
 and-right true b h = h
 and-right false b h = absurd (false≢true h)
+
+pub and-swap : (a b : Bool) → (a && b) ≡ (b && a)
+and-swap true true = refl
+and-swap true false = refl
+and-swap false true = refl
+and-swap false false = refl
+
+-- the second is asked only where the first holds
+pub and-when : (a b c : Bool) → (a ≡ true → b ≡ c) → (a && b) ≡ (a && c)
+and-when true b c h = h refl
+and-when false b c h = refl
+
+-- a mark as a word, read back
+pub mark-back : (b : Bool) → eqb (cond b 1 0) 1 ≡ b
+mark-back true = refl
+mark-back false = refl
 
 pub or-left : (a b : Bool) → a ≡ true → (a || b) ≡ true
 or-left true b h = refl
@@ -127,6 +143,10 @@ module _ {A : Type 0} where
   either P false x y p q = q
 
 -- ---- what a search gives
+
+-- none is no some
+pub none-some : {A B : Type 0} (x : A) → _≡_ {A = Option A} none (some x) → B
+none-some x e = absurd (let z : _≡_ {A = ℕ} 0 1 = cc in suc-ne-zero 0 (sym z))
 
 abbrev pub IsSome : Option ℕ → Type 0
 IsSome none = ⊥

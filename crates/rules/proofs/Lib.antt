@@ -1,6 +1,7 @@
 pub mod Answers
 pub mod Apart
 pub mod Borders
+pub mod Boxes
 pub mod Built
 pub mod Calls
 pub mod Clamp
@@ -8,6 +9,7 @@ pub mod Comparisons
 pub mod Corners
 pub mod CornersApart
 pub mod Counting
+pub mod CubeCalls
 pub mod CubeCorners
 pub mod CubeCounts
 pub mod CubeDigits
@@ -38,6 +40,7 @@ pub mod Refusals
 pub mod Repeat
 pub mod RingWalked
 pub mod Roomier
+pub mod RoomierReplies
 pub mod RoundTrip
 pub mod Rows
 pub mod Selves

@@ -15,9 +15,9 @@ use Rattle.rules.specs.Lists.{find, any, distinct, findFrom, if_then_els
 use Rattle.rules.specs.Floats.{opposite, sideOf, signedDistance, edgeTest}
 use Rattle.rules.specs.Table.{corner, element, Element, Table, Plane, rank, pointAt, elementCount, polytope, rankOf, planeOf, isPrimordial, sameElement, boundaryOf, primordials, pointOf}
 use Rattle.rules.specs.Sound.{closed, soundPlane}
-use Rattle.rules.specs.Cut.{next, Cutting, Gathered, nothingYet, gathering, cornerAnswer, Step, done, cutBoundary, cut, Outcome, give, addPolytope, sideOfCut, given, addElement, shareElement, rule7, rule6, planeOfIntersection, cutEdge, cutHigher, cutElement, cutEnds, cutCorner, distanceOf, refused, addPlane, planeMatches, sharePlane, cutAtDistance}
+use Rattle.rules.specs.Cut.{next, Cutting, Gathered, nothingYet, gathering, cornerAnswer, Step, done, cutBoundary, cut, Outcome, give, addPolytope, sideOfCut, given, addElement, shareElement}
+use Rattle.rules.specs.Cut.{rule7, rule6, planeOfIntersection, cutEdge, cutHigher, cutElement, cutEnds, cutCorner, distanceOf, refused, addPlane, planeMatches, sharePlane, cutAtDistance}
 use Rattle.rules.specs.Questions.{reaches}
-use Rattle.rules.specs.Marked.{Q}
 use Rattle.rules.specs.Held.{AllOf, Ranked}
 use Rattle.rules.specs.declared.Crossing.the-variants.{None as NoCrossing}
 use Rattle.rules.specs.declared.ElementCutOutput.{ElementCutOutput}

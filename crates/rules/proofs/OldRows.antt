@@ -14,9 +14,9 @@ use Rattle.rules.specs.Floats.{plusZero}
 use Rattle.rules.specs.Table.{Table, corner, Plane, elementCount}
 use Rattle.rules.specs.Sound.{soundPoint, soundPlane}
 use Rattle.rules.specs.Memory.{encode, elementWidth, elementRow, planeWidth, planeRow, Memory, decode}
-use Rattle.rules.specs.Promises.{rowAt, Keeps, OldEntriesStay, afterCalls, EnoughBoundary}
+use Rattle.rules.specs.Calls.{afterCalls}
+use Rattle.rules.specs.Promises.{rowAt, Keeps, OldEntriesStay}
 use Rattle.rules.specs.Held.{Wide, Begins, Extends, fitting}
-use Rattle.rules.proofs.Borders.{sound-bordered}
 use Rattle.rules.proofs.Calls.{calls-follow}
 use Rattle.rules.proofs.Extends.{begins-length, count-more}
 use Rattle.rules.proofs.Good.{Good, sound-good}
@@ -91,11 +91,8 @@ module _ (L : Limits) (R : Readable L) where
       more (suc (suc (suc (suc k)))) = zero-le
 
   pub old-entries-stay : OldEntriesStay L
-  old-entries-stay cs m s =
-      let f = calls-follow L R cs m s in
-      subst (λ (n : Memory). Keeps L n (afterCalls L cs m)) (memory-back L m s)
-      (subst (λ (n : Memory). Keeps L (encode L (decode L m)) n) (memory-back L (afterCalls L cs m) (f .sound-after))
+  old-entries-stay cs m s n =
+      let f = calls-follow L R cs m s n in
+      subst (λ (x : Memory). Keeps L x (afterCalls L cs m)) (memory-back L m s)
+      (subst (λ (x : Memory). Keeps L (encode L (decode L m)) x) (memory-back L (afterCalls L cs m) (f .sound-after))
       (table-keeps (decode L m) (decode L (afterCalls L cs m)) (sound-good L _ (sound-table L (afterCalls L cs m) (f .sound-after))) (f .extends)))
-
-  pub enough-boundary : EnoughBoundary L
-  enough-boundary cs m s = sound-bordered L _ (sound-table L (afterCalls L cs m) (calls-follow L R cs m s .sound-after))

@@ -12,9 +12,10 @@ use Rattle.rules.specs.Floats.{pointMatches}
 use Rattle.rules.specs.Table.{Table}
 use Rattle.rules.specs.Memory.{Memory, decode}
 use Rattle.rules.specs.Replies.{cutReply}
-use Rattle.rules.specs.Promises.{Unmatched, Call, after, asking, cutting, StaysUnmatched}
+use Rattle.rules.specs.Promises.{Unmatched}
 use Rattle.rules.specs.declared.CutReply.{CutReply}
 use Rattle.rules.specs.declared.CutReply.the-variants.{Refused, Answered}
+use Rattle.rules.specs.declared.Hyperplane.{Hyperplane}
 use Rattle.rules.proofs.Built.{Built, unchanged, element-more, point-more, plane-more}
 use Rattle.rules.proofs.Growing.{apart-snoc}
 use Rattle.rules.proofs.Laws.{not-true, and-left, or-false, and-right, and-true, neither}
@@ -58,15 +59,10 @@ built-apart (plane-more t g q) h = built-apart q h
 pub built-unmatched : {a b : Table} → Built a b → Unmatched a → Unmatched b
 built-unmatched {a} {b} q u = apart-at (b .points) (built-apart q (at-apart (a .points) u))
 
-module _ (L : Limits) (R : Readable L) where
-  call-unmatched : (c : Call) (m : Memory) → Unmatched (decode L m) → Unmatched (decode L (after L c m))
-  call-unmatched asking m u = u
-  call-unmatched (cutting h i o root) m u = go (cutReply L h i o root m .0) (cutReply L h i o root m .1) refl
-    where
-      go : (r : CutReply) (m′ : Memory) → cutReply L h i o root m ≡ (r, m′) → Unmatched (decode L m′)
-      go (Refused n) m′ e = subst (λ (x : Memory). Unmatched (decode L x)) (sym (refused-leaves L h i o root m m′ n e)) u
-      go (Answered a) m′ e = built-unmatched (memory-built L R h i o root m a m′ e) u
-
-  pub stays-unmatched : StaysUnmatched L
-  stays-unmatched [] m u = u
-  stays-unmatched (c ∷ cs) m u = stays-unmatched cs (after L c m) (call-unmatched c m u)
+pub cut-unmatched : (L : Limits) → Readable L → (h : Hyperplane) (i o : Bool) (root : ℕ) (m : Memory)
+    → Unmatched (decode L m) → Unmatched (decode L (cutReply L h i o root m .1))
+cut-unmatched L R h i o root m u = go (cutReply L h i o root m .0) (cutReply L h i o root m .1) refl
+  where
+    go : (r : CutReply) (m′ : Memory) → cutReply L h i o root m ≡ (r, m′) → Unmatched (decode L m′)
+    go (Refused n) m′ e = subst (λ (x : Memory). Unmatched (decode L x)) (sym (refused-leaves L h i o root m m′ n e)) u
+    go (Answered a) m′ e = built-unmatched (memory-built L R h i o root m a m′ e) u

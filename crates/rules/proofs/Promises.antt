@@ -1,85 +1,77 @@
 -- Every promise of specs/Promises holds, in every room that can be read back and has place for its cubes: the record is put together from the files that prove its parts.
-use Prim.Native.Nat.{ℕ}
-use mathlib.Core.Bool.{true, _&&_, Bool, false}
-use mathlib.Core.Path.{_≡_, refl, ap, sym, _∙_, subst}
-use native.Mathlib.Nat.{suc-ne-zero}
-use lib.Dec.{leb, lit≤}
-use lib.Ieee.{Float, fits}
+use Prim.Native.Nat.{ℕ, zero, suc, _<_}
+use mathlib.Core.Bool.{true, Bool, false}
+use mathlib.Core.Option.{none, some}
+use mathlib.Core.Path.{_≡_, refl, ap, _∙_, subst}
+use lib.Dec.{lit≤}
+use lib.ListN.{getD}
 use Rattle.rules.specs.Limits.{Limits, HasCubes, Readable, desk, large, Roomier}
 use Rattle.rules.specs.Lists.{if_then_else_}
-use Rattle.rules.specs.Sound.{sound}
-use Rattle.rules.specs.Memory.{Memory, encode, rightSize, soundMemory, decode}
-use Rattle.rules.specs.Cube.{cube, radiusFits}
-use Rattle.rules.specs.Cut.{cornerAnswer}
-use Rattle.rules.specs.Replies.{cubeReply, written, dividerOf, cutReply}
-use Rattle.rules.specs.Promises.{CubeIsSound, OneCrossingOneCorner, Unmatched, Passes, Finite, AllOn, onlyPlane, Promises}
+use Rattle.rules.specs.Memory.{Memory, decode}
+use Rattle.rules.specs.Cut.{Outcome, refused, done, next, give, addPlane, cornerAnswer}
+use Rattle.rules.specs.Replies.{cutNumber, cutValues, outputValues, elementValue, written, cutReply}
+use Rattle.rules.specs.Promises.{AnswersAreInUse, NamesBelow, OneBelow, Passes, Finite, AllOn, OnlyPlane, dividerIn, Promises}
+use Rattle.rules.specs.declared.CutReply.{CutReply}
+use Rattle.rules.specs.declared.CutReply.the-variants.{Refused, Answered}
+use Rattle.rules.specs.declared.ElementOrNone.{ElementOrNone}
+use Rattle.rules.specs.declared.ElementOrNone.the-variants.{None, Some}
+use Rattle.rules.specs.declared.ElementCutOutput.{ElementCutOutput}
+use Rattle.rules.specs.declared.ElementCutOutput.the-variants.{Flush, NonFlush}
 use Rattle.rules.specs.declared.Hyperplane.{Hyperplane}
-use Rattle.rules.proofs.Calls.{not-infinite, stays-sound, again-later, one-side-later, flush-later, infinite-distance}
-use Rattle.rules.proofs.Clamp.{clamp-between}
-use Rattle.rules.proofs.CubeCorners.{cube-unmatched}
-use Rattle.rules.proofs.CubeSound.{cube-sound}
+use Rattle.rules.proofs.Boxes.{in-the-box}
+use Rattle.rules.proofs.Calls.{not-infinite, gives, again-later, one-side-later, flush-later, infinite-distance}
+use Rattle.rules.proofs.CubeCalls.{cube-is-sound, stays-sound, enough-boundary, stays-unmatched, one-crossing-one-corner}
 use Rattle.rules.proofs.Good.{sound-good}
-use Rattle.rules.proofs.Laws.{and-left, and-right, le-test}
+use Rattle.rules.proofs.Laws.{le-test, none-some}
 use Rattle.rules.proofs.Missed.{sideBy, missed-cut}
-use Rattle.rules.proofs.OldRows.{old-entries-stay, enough-boundary}
+use Rattle.rules.proofs.OldRows.{old-entries-stay}
 use Rattle.rules.proofs.OneCall.{sound-table, passed, divider-sound, names-in-use}
-use Rattle.rules.proofs.OneCorner.{stays-unmatched}
 use Rattle.rules.proofs.Reach.{is-below}
 use Rattle.rules.proofs.Common.{sub-elements-are-least, vertex-set-is-the-union, common-are-greatest}
-use Rattle.rules.proofs.Refusals.{cube-by, cubeBy, refused-cut-leaves, refused-cube-leaves, refused-list-leaves, list-fills-front, cut-numbers, cube-numbers, list-numbers, facet-numbers, sound-numbers}
+use Rattle.rules.proofs.Refusals.{refused-cut-leaves, refused-cube-leaves, refused-list-leaves, list-fills-front, cut-numbers, cube-numbers, list-numbers, facet-numbers, sound-numbers}
 use Rattle.rules.proofs.RingWalked.{rule-is-one-ring, face-is-one-ring, face-is-walked}
-use Rattle.rules.proofs.Roomier.{roomier-alike}
+use Rattle.rules.proofs.RoomierReplies.{roomier-alike}
 use Rattle.rules.proofs.RoundTrip.{written-sound, table-back, memory-back}
 use Rattle.rules.proofs.VertexSet.{vertex-set-rises, no-facet-in-one-dimension}
 use Rattle.rules.proofs.WalkRound.{walk-goes-round}
 
--- ---- the cube at its public reply
-
-module _ (L : Limits) (H : HasCubes L) (d : ℕ) (radius : Float) (m : Memory) where
-  pub record CubeDone : Type 0 where
-    pub is-sound : sound L (cube d radius) ≡ true
-    pub fits : radiusFits radius ≡ true
-    pub writes : cubeReply L d radius m .1 ≡ encode L (cube d radius)
-
-  pub cube-done : cubeReply L d radius m .0 ≡ 0 → CubeDone
-  cube-done z =
-      go (leb 1 d && leb d (L .dimensions)) (radiusFits radius) (rightSize L m) refl refl (ap (λ (x : ℕ × Memory). x .1) (cube-by L d radius m))
-      (ap (λ (x : ℕ × Memory). x .0) (sym (cube-by L d radius m)) ∙ z)
-    where
-      go : (p q s : Bool) → (leb 1 d && leb d (L .dimensions)) ≡ p → radiusFits radius ≡ q
-          → cubeReply L d radius m .1 ≡ cubeBy L d radius m p q s .1 → cubeBy L d radius m p q s .0 ≡ 0 → CubeDone
-      go false q s e f w n = absurd (suc-ne-zero 0 n)
-      go true false s e f w n = absurd (suc-ne-zero 1 n)
-      go true true false e f w n = absurd (suc-ne-zero 2 n)
-      go true true true e f w n = record {
-        is-sound = cube-sound L H d radius (and-left (leb 1 d) (leb d (L .dimensions)) e) (and-right (leb 1 d) (leb d (L .dimensions)) e) f;
-        fits = f;
-        writes = w;
-      }
-
 module _ (L : Limits) (R : Readable L) (H : HasCubes L) where
-  cube-is-sound : CubeIsSound L
-  cube-is-sound d radius m z =
-      let c = cube-done L H d radius m z in
-      subst (λ (x : Memory). soundMemory L x ≡ true) (sym (c .writes)) (written-sound L R (cube d radius) (c .is-sound))
-
-  one-crossing-one-corner : OneCrossingOneCorner L
-  one-crossing-one-corner d radius m z cs =
-      let c = cube-done L H d radius m z in
-      stays-unmatched L R cs (cubeReply L d radius m .1)
-      (subst Unmatched (sym (ap (decode L) (c .writes) ∙ table-back L R (cube d radius) (c .is-sound))) (cube-unmatched d radius (c .fits)))
-
   -- ---- a missed piece, for both sides at once
 
   missed-side : (h : Hyperplane) (root : ℕ) (m : Memory) → Passes L h root m → Finite (h .distance) → (inside i o : Bool) → (if inside then i else o) ≡ true
-      → AllOn (sideBy inside) (dividerOf (decode L m .dimension) h) (decode L m) root
-      → cutReply L h i o root m ≡ onlyPlane L h m (cornerAnswer root (sideBy inside))
+      → AllOn (sideBy inside) (dividerIn L m h) (decode L m) root
+      → OnlyPlane L m (outputValues (cornerAnswer root (sideBy inside))) (cutReply L h i o root m) (addPlane L (dividerIn L m h) (decode L m))
   missed-side h root m p f inside i o kept on =
       let g = sound-good L (decode L m) (sound-table L m (p .sound)) in
       let z = not-infinite (h .distance) f in
-      passed L h i o root m p
-      ∙ ap (written L m) (missed-cut L (decode L m) g (dividerOf (decode L m .dimension) h)
-      (divider-sound L (decode L m .dimension) h (le-test (decode L m .dimension) (L .dimensions) (g .high)) (p .fits) z) z i o root (p .used) inside kept on)
+      go (addPlane L (dividerIn L m h) (decode L m)) (passed L h i o root m p
+      ∙ ap (written L m) (missed-cut L (decode L m) g (dividerIn L m h)
+      (divider-sound L (decode L m .dimension) h (le-test (decode L m .dimension) (L .dimensions) (g .high)) (p .fits) z) z i o root (p .used) inside kept on))
+    where
+      go : (x : Outcome ℕ) → cutReply L h i o root m ≡ written L m (next x (λ n. give (cornerAnswer root (sideBy inside))))
+          → OnlyPlane L m (outputValues (cornerAnswer root (sideBy inside))) (cutReply L h i o root m) x
+      go (refused n) e = (ap (λ (r : CutReply × Memory). cutNumber (r .0)) e, ap (λ (r : CutReply × Memory). r .1) e)
+      go (done n t) e = gives e refl
+
+  -- ---- what is answered is in use
+
+  in-use : AnswersAreInUse L
+  in-use h i o root m = go (cutReply L h i o root m .0) refl
+    where
+      one : (n : ℕ) (x : ElementOrNone) (e : ℕ) → OneBelow n x → elementValue x ≡ some e → e < n
+      one n None e b q = none-some e q
+      one n (Some y) e b q = let z : y .0 ≡ e = cc in subst (λ (k : ℕ). k < n) z b
+
+      places : (n : ℕ) (a : ElementCutOutput) → NamesBelow n a → (k e : ℕ) → getD (outputValues a) k none ≡ some e → e < n
+      places n Flush b k e q = none-some e q
+      places n (NonFlush x y z) b zero e q = one n x e (b .0) q
+      places n (NonFlush x y z) b (suc zero) e q = one n y e (b .1) q
+      places n (NonFlush x y z) b (suc (suc zero)) e q = one n z e (b .2) q
+      places n (NonFlush x y z) b (suc (suc (suc k))) e q = none-some e q
+
+      go : (r : CutReply) → cutReply L h i o root m .0 ≡ r → (k e : ℕ) → getD (cutValues r) k none ≡ some e → e < getD (cutReply L h i o root m .1 .counts) 1 0
+      go (Refused n) w k e q = none-some e q
+      go (Answered a) w k e q = places _ a (names-in-use L R h i o root m a (cutReply L h i o root m .1) (λ j. (w j, cutReply L h i o root m .1))) k e q
 
   -- ---- all of them
 
@@ -95,20 +87,20 @@ module _ (L : Limits) (R : Readable L) (H : HasCubes L) where
     facet-numbers = facet-numbers L;
     sound-numbers = sound-numbers L;
     old-entries-stay = old-entries-stay L R;
-    stays-sound = stays-sound L R;
-    enough-boundary = enough-boundary L R;
+    stays-sound = stays-sound L R H;
+    enough-boundary = enough-boundary L R H;
     again-later = again-later L R;
     one-side-later = one-side-later L R;
     flush-later = flush-later L R;
-    cube-is-sound = cube-is-sound;
-    one-crossing-one-corner = one-crossing-one-corner;
-    stays-unmatched = stays-unmatched L R;
+    cube-is-sound = cube-is-sound L R H;
+    one-crossing-one-corner = one-crossing-one-corner L R H;
+    stays-unmatched = stays-unmatched L R H;
     missed-piece = λ h root m p f. (λ on o. missed-side h root m p f true true o refl on, λ on i. missed-side h root m p f false i true refl on);
     infinite-distance = infinite-distance L R;
     read-back = (λ t s. (written-sound L R t s, table-back L R t s), memory-back L);
-    roomier-alike = roomier-alike L;
-    in-the-box = λ a b x na nb. clamp-between a b na nb x;
-    answers-are-in-use = λ h i o root m a m′ e. names-in-use L R h i o root m a m′ e;
+    roomier-alike = roomier-alike L R H;
+    in-the-box = in-the-box L;
+    answers-are-in-use = in-use;
     sub-elements-are-reached = λ t s e x u. is-below L t s e x u;
     sub-elements-are-least = λ t s e u. sub-elements-are-least L t s e u;
     vertex-set-is-the-union = λ t s e v u. vertex-set-is-the-union L t s e v u;

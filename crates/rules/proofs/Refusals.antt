@@ -1,7 +1,8 @@
 -- Demand 1 and the numbers: a refusal leaves what was lent, and carries a number of its table. By cases on each reply's tests.
-use Prim.Native.Nat.{ℕ, suc, _<_, _≤_}
-use mathlib.Core.Bool.{Bool, false, true, _||_, not, _&&_}
+use Prim.Native.Nat.{ℕ, suc, _<_}
+use mathlib.Core.Bool.{Bool, false, true, _||_, not, _&&_, true≢false}
 use mathlib.Core.List.{List, _∷_, [], _++_}
+use mathlib.Core.Option.{some}
 use mathlib.Core.Path.{_≡_, sym, _∙_, ap, refl, subst}
 use native.Mathlib.Nat.{suc-ne-zero, lt-irrefl}
 use lib.Dec.{ltb, eqb, leb}
@@ -16,17 +17,19 @@ use Rattle.rules.specs.Memory.{Memory, soundMemory, decode, encode, righ
 use Rattle.rules.specs.Cube.{cube, radiusFits}
 use Rattle.rules.specs.Cut.{cut, refused, Outcome, done}
 use Rattle.rules.specs.Questions.{Asked, no-answer, answer, subElements, withRank, vertexSet, greatestCommon, edgesInOrder, primordialFacet}
-use Rattle.rules.specs.Replies.{cutReply, dividerFits, dividerOf, cutNumber, cubeReply, listed, listNumber, asked, inNumbers, subElementsReply, withRankReply, vertexSetReply, greatestCommonReply, edgesInOrderReply, primordialFacetReply, facetAnswer, isSoundReply}
-use Rattle.rules.specs.Promises.{RefusedCutLeaves, CutNumbers, RefusedCubeLeaves, CubeNumbers, ListQuestion, subElementsOf, subElementsWithRank, vertexSetOf, greatestCommonOf, edgesInOrderOf, listReply, RefusedListLeaves, ListFillsFront, listRefusals, ListNumbers, FacetNumbers, SoundNumbers}
+use Rattle.rules.specs.Replies.{cutReply, dividerFits, dividerOf, cutNumber, cubeReply, listed, listNumber, listSize, asked, inNumbers, facetAnswer, isSoundReply}
+use Rattle.rules.specs.Replies.{subElementsReply, withRankReply, vertexSetReply, greatestCommonReply, edgesInOrderReply, primordialFacetReply}
+use Rattle.rules.specs.Calls.{ListQuestion, subElementsOf, subElementsWithRank, vertexSetOf, greatestCommonOf, edgesInOrderOf, listReply, listRefusals}
+use Rattle.rules.specs.Calls.{Filled, CutNumbered, ListNumbered, FacetNumbered}
+use Rattle.rules.specs.Promises.{RefusedCutLeaves, RefusedCubeLeaves, RefusedListLeaves, ListFillsFront, CutNumbers, CubeNumbers, ListNumbers, FacetNumbers, SoundNumbers}
 use Rattle.rules.specs.declared.CutReply.{CutReply}
 use Rattle.rules.specs.declared.CutReply.the-variants.{Refused, Answered}
 use Rattle.rules.specs.declared.ElementCutOutput.{ElementCutOutput}
-use Rattle.rules.specs.declared.FacetReply.the-variants.{Refused as FacetRefused}
 use Rattle.rules.specs.declared.Hyperplane.{Hyperplane}
 use Rattle.rules.specs.declared.ListReply.{ListReply}
 use Rattle.rules.specs.declared.ListReply.the-variants.{Listed, Refused as ListRefused}
 use Rattle.rules.proofs.Built.{RuleNumber, refused-number}
-use Rattle.rules.proofs.Laws.{holds, and-left, and-right, le-test, eq-test, either, if-true}
+use Rattle.rules.proofs.Laws.{holds, and-left, le-test, eq-test, either, if-true, or-right, none-some}
 use Rattle.rules.proofs.OneCall.{reply-by, replyBy, sound-table}
 use Rattle.rules.proofs.RingWalked.{face-is-walked}
 
@@ -52,8 +55,10 @@ refused-cut-leaves L h i o root m = go (cutReply L h i o root m .0) (cutReply L 
     go (Refused n) m′ e k = refused-leaves L h i o root m m′ n e
     go (Answered a) m′ e k = absurd (lt-irrefl 0 k)
 
-pub cut-numbers : (L : Limits) → CutNumbers L
-cut-numbers L h i o root m n e =
+-- a refusal's number
+pub refusal-number : (L : Limits) (h : Hyperplane) (i o : Bool) (root : ℕ) (m : Memory) (n : ℕ)
+    → cutReply L h i o root m .0 ≡ Refused n → member n (3 ∷ 4 ∷ 5 ∷ 7 ∷ 8 ∷ 9 ∷ 10 ∷ 11 ∷ []) ≡ true
+refusal-number L h i o root m n e =
     go (soundMemory L m) (ltb root (elementCount (decode L m))) (dividerFits L (decode L m .dimension) h)
     (cut L (dividerOf (decode L m .dimension) h) i o root (decode L m)) refl (ap (λ (x : CutReply × Memory). x .0) (sym (reply-by L h i o root m)) ∙ e)
   where
@@ -77,6 +82,22 @@ cut-numbers L h i o root m n e =
     go true true true (refused k) p q =
         is k (rule (eqb k 3) (eqb k 4) (eqb k 5) k (refused-number L (dividerOf (decode L m .dimension) h) i o root (decode L m) k p)) q
     go true true true (done b t) p q = let z : _≡_ {A = ℕ} 0 1 = cc in absurd (suc-ne-zero 0 (sym z))
+
+-- a number of a list without 0 is not 0
+not-none : (ns : List ℕ) (n : ℕ) → member 0 ns ≡ false → member n ns ≡ true → n ≡ 0 → ⊥
+not-none ns n h k z = true≢false (sym (subst (λ (j : ℕ). member j ns ≡ true) z k) ∙ h)
+
+pub cut-numbers : (L : Limits) → CutNumbers L
+cut-numbers L h i o root m = go (cutReply L h i o root m .0) refl
+  where
+    numbers : List ℕ
+    numbers = 3 ∷ 4 ∷ 5 ∷ 7 ∷ 8 ∷ 9 ∷ 10 ∷ 11 ∷ []
+
+    go : (r : CutReply) → cutReply L h i o root m .0 ≡ r → CutNumbered numbers r
+    go (Refused n) e =
+        let k = refusal-number L h i o root m n e in
+        record { number = or-right (eqb n 0) (member n numbers) k; answered = λ z. absurd (not-none numbers n refl k z); refused = λ l. refl }
+    go (Answered a) e = record { number = refl; answered = λ z. (a, refl); refused = λ l. absurd (lt-irrefl 0 l) }
 
 -- ---- the cube
 
@@ -125,29 +146,18 @@ listed-refused (answer xs) room k = go (leb (length xs) (length room)) k
     go true l = absurd (lt-irrefl 0 l)
     go false l = refl
 
-same-rest : (xs room : List ℕ) → length xs ≤ length room
-    → (length (xs ++ drop (length xs) room) ≡ length room) × (drop (length xs) (xs ++ drop (length xs) room) ≡ drop (length xs) room)
-same-rest xs room h = (length-front room xs (length xs) (sym (length-take-le (length xs) room h)), drop-append-seam xs (drop (length xs) room))
-
 -- a list done fills the front
-pub listed-fills : (a : Asked (List ℕ)) (room filled : List ℕ) (n : ℕ) → listed a room ≡ (Listed n, filled)
-    → (n ≤ length room) × (length filled ≡ length room) × (drop n filled ≡ drop n room)
-listed-fills (no-answer k) room filled n e =
-    let p : ListRefused k ≡ Listed n = ap (λ (x : ListReply × List ℕ). x .0) e in let z : _≡_ {A = ℕ} 0 1 = cc in absurd (suc-ne-zero 0 (sym z))
-listed-fills (answer xs) room filled n e = go (leb (length xs) (length room)) refl e
+pub listed-fills : (a : Asked (List ℕ)) (room : List ℕ) (n : ℕ) → listSize (listed a room .0) ≡ some n → Filled n room (listed a room .1)
+listed-fills (no-answer k) room n e = none-some n e
+listed-fills (answer xs) room n e = go (leb (length xs) (length room)) refl e
   where
-    Filled : ℕ → List ℕ → Type 0
-    Filled k out = (k ≤ length room) × (length out ≡ length room) × (drop k out ≡ drop k room)
-
-    go : (b : Bool) → leb (length xs) (length room) ≡ b → listedBy xs room b ≡ (Listed n, filled) → Filled n filled
+    go : (b : Bool) → leb (length xs) (length room) ≡ b → listSize (listedBy xs room b .0) ≡ some n → Filled n room (listedBy xs room b .1)
     go true t q =
         let l = le-test (length xs) (length room) t in
-        let p : Listed (length xs) ≡ Listed n = ap (λ (x : ListReply × List ℕ). x .0) q in
         let k : length xs ≡ n = cc in
-        subst (λ (j : ℕ). Filled j filled) k
-        (subst (Filled (length xs)) (ap (λ (x : ListReply × List ℕ). x .1) q) (l, same-rest xs room l .0, same-rest xs room l .1))
-    go false t q =
-        let p : ListRefused 12 ≡ Listed n = ap (λ (x : ListReply × List ℕ). x .0) q in let z : _≡_ {A = ℕ} 0 1 = cc in absurd (suc-ne-zero 0 (sym z))
+        subst (λ (j : ℕ). Filled j room (xs ++ drop (length xs) room)) k
+        (record { fits = l; size = length-front room xs (length xs) (sym (length-take-le (length xs) room l)); rest = drop-append-seam xs (drop (length xs) room) })
+    go false t q = none-some n q
 
 -- every such reply is what `listed` makes of an answer
 pub list-answer : Limits → ListQuestion → Memory → Asked (List ℕ)
@@ -171,7 +181,9 @@ refused-list-leaves L q m room k =
     ∙ listed-refused (list-answer L q m) room (subst (λ (x : ListReply × List ℕ). 0 < listNumber (x .0)) (list-by L q m room) k)
 
 pub list-fills-front : (L : Limits) → ListFillsFront L
-list-fills-front L q m room filled n e = listed-fills (list-answer L q m) room filled n (sym (list-by L q m room) ∙ e)
+list-fills-front L q m room n e =
+    subst (λ (x : ListReply × List ℕ). Filled n room (x .1)) (sym (list-by L q m room))
+    (listed-fills (list-answer L q m) room n (subst (λ (x : ListReply × List ℕ). listSize (x .0) ≡ some n) (list-by L q m room) e))
 
 -- ---- the numbers of the questions
 
@@ -229,28 +241,43 @@ last-in (vertexSetOf e) = refl
 last-in (greatestCommonOf es) = refl
 last-in (edgesInOrderOf e) = refl
 
-listed-in : (ns : List ℕ) (a : Asked (List ℕ)) (room : List ℕ) (n : ℕ) → RefusedIn ns a → member 12 ns ≡ true → listed a room .0 ≡ ListRefused n → member n ns ≡ true
-listed-in ns (no-answer k) room n h t e = let p : k ≡ n = cc in subst (λ (j : ℕ). member j ns ≡ true) p h
-listed-in ns (answer xs) room n h t e = go (leb (length xs) (length room)) e
+no-zero : (q : ListQuestion) → member 0 (listRefusals q) ≡ false
+no-zero (subElementsOf e) = refl
+no-zero (subElementsWithRank k e) = refl
+no-zero (vertexSetOf e) = refl
+no-zero (greatestCommonOf es) = refl
+no-zero (edgesInOrderOf e) = refl
+
+listed-in : (ns : List ℕ) (a : Asked (List ℕ)) (room : List ℕ) → RefusedIn ns a → member 12 ns ≡ true → member 0 ns ≡ false → ListNumbered ns (listed a room .0)
+listed-in ns (no-answer n) room h t z = refused-in n h
   where
-    go : (b : Bool) → listedBy xs room b .0 ≡ ListRefused n → member n ns ≡ true
-    go true q = let z : _≡_ {A = ℕ} 0 1 = cc in absurd (suc-ne-zero 0 (sym z))
-    go false q = let p : 12 ≡ n = cc in subst (λ (j : ℕ). member j ns ≡ true) p t
+    refused-in : (k : ℕ) → member k ns ≡ true → ListNumbered ns (ListRefused k)
+    refused-in k h = record { number = or-right (eqb k 0) (member k ns) h; answered = λ e. absurd (not-none ns k z h e); refused = λ l. refl }
+listed-in ns (answer xs) room h t z = go (leb (length xs) (length room))
+  where
+    go : (b : Bool) → ListNumbered ns (listedBy xs room b .0)
+    go true = record { number = refl; answered = λ e. (length xs, refl); refused = λ l. absurd (lt-irrefl 0 l) }
+    go false = record { number = or-right (eqb 12 0) (member 12 ns) t; answered = λ e. absurd (not-none ns 12 z t e); refused = λ l. refl }
 
 pub list-numbers : (L : Limits) → ListNumbers L
-list-numbers L q m room n e =
-    listed-in (listRefusals q) (list-answer L q m) room n (list-in L q m) (last-in q) (ap (λ (x : ListReply × List ℕ). x .0) (sym (list-by L q m room)) ∙ e)
+list-numbers L q m room =
+    subst (λ (x : ListReply × List ℕ). ListNumbered (listRefusals q) (x .0)) (sym (list-by L q m room))
+    (listed-in (listRefusals q) (list-answer L q m) room (list-in L q m) (last-in q) (no-zero q))
 
 pub facet-numbers : (L : Limits) → FacetNumbers L
 unfolding primordialFacetReply
-facet-numbers L m e n q = go (asked L m (e ∷ []) (primordialFacet (decode L m) e)) (asked-in L m (e ∷ []) (3 ∷ 4 ∷ 6 ∷ []) (primordialFacet (decode L m) e) refl refl own) q
+facet-numbers L m e = go (asked L m (e ∷ []) (primordialFacet (decode L m) e)) (asked-in L m (e ∷ []) (3 ∷ 4 ∷ 6 ∷ []) (primordialFacet (decode L m) e) refl refl own)
   where
     own : RefusedIn (3 ∷ 4 ∷ 6 ∷ []) (primordialFacet (decode L m) e)
     own = unfold primordialFacet in either (RefusedIn (3 ∷ 4 ∷ 6 ∷ [])) (eqb (rank (decode L m) e) (decode L m .dimension)) _ _ tt refl
 
-    go : (a : Asked Bool) → RefusedIn (3 ∷ 4 ∷ 6 ∷ []) a → facetAnswer a ≡ FacetRefused n → member n (3 ∷ 4 ∷ 6 ∷ []) ≡ true
-    go (no-answer k) h p = let e′ : k ≡ n = cc in subst (λ (j : ℕ). member j (3 ∷ 4 ∷ 6 ∷ []) ≡ true) e′ h
-    go (answer b) h p = let z : _≡_ {A = ℕ} 0 1 = cc in absurd (suc-ne-zero 0 (sym z))
+    go : (a : Asked Bool) → RefusedIn (3 ∷ 4 ∷ 6 ∷ []) a → FacetNumbered (3 ∷ 4 ∷ 6 ∷ []) (facetAnswer a)
+    go (no-answer k) h = record {
+      number = or-right (eqb k 0) (member k (3 ∷ 4 ∷ 6 ∷ [])) h;
+      answered = λ z. absurd (not-none (3 ∷ 4 ∷ 6 ∷ []) k refl h z);
+      refused = λ l. refl;
+    }
+    go (answer b) h = record { number = refl; answered = λ z. (b, refl); refused = λ l. absurd (lt-irrefl 0 l) }
 
 pub sound-numbers : (L : Limits) → SoundNumbers L
 unfolding isSoundReply

@@ -13,7 +13,8 @@ use Rattle.rules.specs.Limits.{Limits}
 use Rattle.rules.specs.Lists.{if_then_else_}
 use Rattle.rules.specs.Floats.{sideOf, crossingPoint, edgeTest}
 use Rattle.rules.specs.Table.{Element, Table, elementCount, element, rank, rankOf, planeOf, isPrimordial, boundaryOf, pointAt, Plane}
-use Rattle.rules.specs.Cut.{sideOfCut, including, Cutting, newIntersection, addPolytope, planeOfIntersection, Gathered, rule7, next, rule6, given, cut, crossEdge, addVertex, cutEnds, distanceOf, gathering, cornerAnswer, nothingYet, cutEdge, _>>=_, Step, cutBoundary, cutHigher, cutElement, cutCorner, done, cutFinite, addPlane, cutAtDistance}
+use Rattle.rules.specs.Cut.{sideOfCut, including, Cutting, newIntersection, addPolytope, planeOfIntersection, Gathered, rule7, next, rule6, given, cut, crossEdge, addVertex, cutEnds, distanceOf}
+use Rattle.rules.specs.Cut.{gathering, cornerAnswer, nothingYet, cutEdge, _>>=_, Step, cutBoundary, cutHigher, cutElement, cutCorner, done, cutFinite, addPlane, cutAtDistance}
 use Rattle.rules.specs.declared.Crossing.{Crossing}
 use Rattle.rules.specs.declared.Crossing.the-variants.{None as NoCrossing, At}
 use Rattle.rules.specs.declared.ElementCutOutput.{ElementCutOutput}

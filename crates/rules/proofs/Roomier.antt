@@ -4,10 +4,10 @@ use Prim.Native.Nat.{_-_, ℕ, _≤_, suc, zero}
 use mathlib.Core.Bool.{Bool, true, false, not}
 use mathlib.Core.List.{List, [], _∷_}
 use mathlib.Core.Option.{Option, some, none}
-use mathlib.Core.Path.{_≡_, subst, sym, refl}
+use mathlib.Core.Path.{_≡_, subst, sym, refl, ap}
 use native.Mathlib.Nat.{le-trans, le-of-suc-le-suc}
 use native.Mathlib.Omega.{arith}
-use lib.Dec.{ltb, leb}
+use lib.Dec.{ltb, leb, eqb}
 use lib.Ieee.{fin, Float, inf, nan}
 use lib.ListN.{length, drop, getD}
 use Rattle.rules.specs.Limits.{Limits, Roomier}
@@ -15,22 +15,23 @@ use Rattle.rules.specs.Lists.{if_then_else_, find, findFrom, all}
 use Rattle.rules.specs.Floats.{pointMatches, crossingPoint, edgeTest}
 use Rattle.rules.specs.Table.{Table, element, Element, elementCount, sameElement, polytope, corner, Plane, primordials, rank, rankOf, planeOf, isPrimordial, boundaryOf, pointAt}
 use Rattle.rules.specs.Sound.{closed, sound}
-use Rattle.rules.specs.Cut.{Outcome, refused, done, next, Step, shareElement, addElement, addPolytope, shareVertex, withPoint, addVertex, sharePlane, addPlane, planeMatches, sideOfCut, including, rule7, Cutting, Gathered, rule6, newIntersection, planeOfIntersection, given, crossEdge, cutEdge, cut, cutEnds, distanceOf, cutBoundary, gathering, cutElement, cutCorner, cutHigher, nothingYet, cutFinite, cutAtDistance}
-use Rattle.rules.specs.Promises.{RoomierAlike}
+use Rattle.rules.specs.Cut.{Outcome, refused, done, next, Step, shareElement, addElement, addPolytope, shareVertex, withPoint, addVertex, sharePlane, addPlane, planeMatches}
+use Rattle.rules.specs.Cut.{sideOfCut, including, rule7, Cutting, Gathered, rule6, newIntersection, planeOfIntersection, given, crossEdge, cutEdge, cut, cutEnds, distanceOf}
+use Rattle.rules.specs.Cut.{cutBoundary, gathering, cutElement, cutCorner, cutHigher, nothingYet, cutFinite, cutAtDistance}
 use Rattle.rules.specs.declared.Crossing.{Crossing}
 use Rattle.rules.specs.declared.Crossing.the-variants.{None as NoCrossing, At}
 use Rattle.rules.specs.declared.ElementCutOutput.{ElementCutOutput}
 use Rattle.rules.specs.declared.ElementOrNone.{ElementOrNone}
 use Rattle.rules.proofs.Good.{sound-good, good-sound}
-use Rattle.rules.proofs.Laws.{test-le, le-test, not-le, and-true, and-left, and-right}
+use Rattle.rules.proofs.Laws.{test-le, le-test, not-le, and-true, and-left, and-right, unlike-eq}
 
--- the second outcome is the first, unless that is a refusal
+-- the second outcome is the first, unless that is a refusal of the room's own: 7 is none
 abbrev pub Alike : {A : Type 0} → Outcome A → Outcome A → Type 0
-Alike (refused n) p = Unit {0}
+Alike (refused n) p = n ≡ 7 → p ≡ refused n
 Alike (done a t) p = p ≡ done a t
 
 next-alike : {A B : Type 0} (o p : Outcome A) (f g : A → Step B) → Alike o p → ((a : A) (t : Table) → Alike (f a t) (g a t)) → Alike (next o f) (next p g)
-next-alike (refused n) p f g h k = tt
+next-alike {A} (refused n) p f g h k = λ e. ap (λ (q : Outcome A). next q g) (h e)
 next-alike {A} (done a t) p f g h k = subst (λ (q : Outcome A). Alike (f a t) (next q g)) (sym h) (k a t)
 
 if-alike : {A : Type 0} (b : Bool) (o p o′ p′ : Outcome A) → Alike o p → Alike o′ p′ → Alike (if b then o else o′) (if b then p else p′)
@@ -38,19 +39,19 @@ if-alike true o p o′ p′ h k = h
 if-alike false o p o′ p′ h k = k
 
 -- room for one more
-room-alike : {A : Type 0} (n a b r : ℕ) (o p : Outcome A) → a ≤ b → Alike o p → Alike (if ltb n a then o else refused r) (if ltb n b then p else refused r)
-room-alike {A} n a b r o p l h = go (ltb n a) refl
+room-alike : {A : Type 0} (n a b r : ℕ) (o p : Outcome A) → eqb r 7 ≡ false → a ≤ b → Alike o p → Alike (if ltb n a then o else refused r) (if ltb n b then p else refused r)
+room-alike {A} n a b r o p z l h = go (ltb n a) refl
   where
     go : (c : Bool) → ltb n a ≡ c → Alike (if c then o else refused r) (if ltb n b then p else refused r)
     go true e = subst (λ (c : Bool). Alike o (if c then p else refused r)) (sym (test-le (suc n) b (le-trans (le-test (suc n) a e) l))) h
-    go false e = tt
+    go false e = λ q. absurd (unlike-eq r 7 z q)
 
 -- no more than there is room for
-fits-alike : {A : Type 0} (n a b r : ℕ) (o p : Outcome A) → a ≤ b → Alike o p → Alike (if ltb a n then refused r else o) (if ltb b n then refused r else p)
-fits-alike {A} n a b r o p l h = go (ltb a n) (ltb b n) refl refl
+fits-alike : {A : Type 0} (n a b r : ℕ) (o p : Outcome A) → eqb r 7 ≡ false → a ≤ b → Alike o p → Alike (if ltb a n then refused r else o) (if ltb b n then refused r else p)
+fits-alike {A} n a b r o p z l h = go (ltb a n) (ltb b n) refl refl
   where
     go : (c d : Bool) → ltb a n ≡ c → ltb b n ≡ d → Alike (if c then refused r else o) (if d then refused r else p)
-    go true d e f = tt
+    go true d e f = λ q. absurd (unlike-eq r 7 z q)
     go false true e f =
         let x = le-of-suc-le-suc (not-le (suc a) n e) in
         let y = le-test (suc b) n f in
@@ -60,7 +61,7 @@ fits-alike {A} n a b r o p l h = go (ltb a n) (ltb b n) refl refl
 module _ (L M : Limits) (R : Roomier L M) where
   share-element : (e : Element) (o : Option ℕ) (t : Table) → Alike (shareElement L e o t) (shareElement M e o t)
   share-element e (some i) t = refl
-  share-element e none t = room-alike (elementCount t) (L .elements) (M .elements) 9 _ _ (R .elements) refl
+  share-element e none t = room-alike (elementCount t) (L .elements) (M .elements) 9 _ _ refl (R .elements) refl
 
   add-element : (e : Element) (t : Table) → Alike (addElement L e t) (addElement M e t)
   unfolding addElement
@@ -70,13 +71,13 @@ module _ (L M : Limits) (R : Roomier L M) where
   unfolding addPolytope
   add-polytope r b h m t =
       if-alike (leb (length b) r) _ _ _ _ refl
-      (fits-alike (length b) (L .boundary) (M .boundary) 11 _ _ (R .boundary)
-      (if-alike (not (closed t r b)) _ _ _ _ tt
+      (fits-alike (length b) (L .boundary) (M .boundary) 11 _ _ refl (R .boundary)
+      (if-alike (not (closed t r b)) _ _ _ _ (λ q. refl)
       (next-alike (addElement L (polytope r b h m) t) (addElement M (polytope r b h m) t) _ _ (add-element (polytope r b h m) t) (λ i s. refl))))
 
   share-vertex : (p : List Float) (o : Option ℕ) (t : Table) → Alike (shareVertex L p o t) (shareVertex M p o t)
   share-vertex p (some v) t = add-element (corner v) t
-  share-vertex p none t = room-alike (length (t .points)) (L .vertices) (M .vertices) 8 _ _ (R .vertices) (add-element (corner (length (t .points))) (withPoint p t))
+  share-vertex p none t = room-alike (length (t .points)) (L .vertices) (M .vertices) 8 _ _ refl (R .vertices) (add-element (corner (length (t .points))) (withPoint p t))
 
   add-vertex : (p : List Float) (t : Table) → Alike (addVertex L p t) (addVertex M p t)
   unfolding addVertex
@@ -84,7 +85,7 @@ module _ (L M : Limits) (R : Roomier L M) where
 
   share-plane : (h : Plane) (o : Option ℕ) (t : Table) → Alike (sharePlane L h o t) (sharePlane M h o t)
   share-plane h (some n) t = refl
-  share-plane h none t = room-alike (length (t .planes)) (L .hyperplanes) (M .hyperplanes) 10 _ _ (R .hyperplanes) refl
+  share-plane h none t = room-alike (length (t .planes)) (L .hyperplanes) (M .hyperplanes) 10 _ _ refl (R .hyperplanes) refl
 
   add-plane : (h : Plane) (t : Table) → Alike (addPlane L h t) (addPlane M h t)
   unfolding addPlane
@@ -173,9 +174,3 @@ module _ (L M : Limits) (R : Roomier L M) where
           and-true (leb (length (boundaryOf e)) (M .boundary)) (all (λ x. leb (length (boundaryOf x)) (M .boundary)) es)
           (more (length (boundaryOf e)) (R .boundary) (and-left (leb (length (boundaryOf e)) (L .boundary)) _ h))
           (each es (and-right (leb (length (boundaryOf e)) (L .boundary)) _ h))
-
-pub roomier-alike : (L : Limits) → RoomierAlike L
-roomier-alike L M R = (
-  λ h i o root t t′ a e. subst (λ (p : Outcome ElementCutOutput). Alike p (cut M h i o root t)) e (cut-alike L M R h i o root t),
-  sound-alike L M R,
-)

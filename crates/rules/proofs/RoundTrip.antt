@@ -1,5 +1,5 @@
--- A sound table is read read-rows from the memory that it is written to, and a sound memory is what is written of its table.
--- Each row is read read-rows by itself; the law of rows does the rest.
+-- A sound table is read back from the memory that it is written to, and a sound memory is what is written of its table.
+-- Each row is read back by itself; the law of rows does the rest.
 use Prim.Native.Nat.{_-_, _≤_, _+_, suc, ℕ, zero, _<_, _*_}
 use mathlib.Core.Bool.{true, _&&_, not, Bool, false≢true, false, cond}
 use mathlib.Core.List.{_++_, List, _∷_, [], append-assoc}
@@ -19,7 +19,7 @@ use Rattle.rules.specs.Sound.{namesNone, soundPoint, sound, soundPlane, 
 use Rattle.rules.specs.Memory.{elementWidth, elementRow, planeNumber, planeNamed, readElement, planeRow, planeWidth, readPlane, decode, encode, rightSize, Memory, sameMemory, soundMemory}
 use Rattle.rules.specs.Held.{fitting}
 use Rattle.rules.proofs.Good.{whole, Good, sound-good}
-use Rattle.rules.proofs.Laws.{le-test, and-right, and-left, not-eq, eq-test, and-true, test-eq, eqb-self}
+use Rattle.rules.proofs.Laws.{le-test, and-right, and-left, not-eq, eq-test, and-true, test-eq, eqb-self, mark-back}
 use Rattle.rules.proofs.Rows.{length-pad, read-rows, rows-fill}
 use Rattle.rules.proofs.Selves.{alike-self, bits-self, alike-eq, same-floats}
 
@@ -46,16 +46,13 @@ module _ (L : Limits) (U : Readable L) where
   element-back (corner v) k = refl
   element-back (polytope zero b h m) k = absurd (false≢true k)
   element-back (polytope (suc r) b h m) k =
-      ap (λ (c : Bool). if c then corner (getD (pad 0 (elementWidth L) (elementRow (polytope (suc r) b h m))) 4 0) else polytope (suc r) (take (length b) (b ++ replicate (elementWidth L - suc (suc (suc (suc (length b))))) 0)) (planeNamed (planeNumber h)) (eqb (cond m 1 0) 1)) (not-eq (suc r) 0 (λ q. suc-ne r q))
+      ap (λ (c : Bool). if c then corner (getD (pad 0 (elementWidth L) (elementRow (polytope (suc r) b h m))) 4 0)
+      else polytope (suc r) (take (length b) (b ++ replicate (elementWidth L - suc (suc (suc (suc (length b))))) 0)) (planeNamed (planeNumber h)) (eqb (cond m 1 0) 1)) (not-eq (suc r) 0 (λ q. suc-ne r q))
       ∙ ap₂ (λ (c : List ℕ) (x : Option ℕ). polytope (suc r) c x (eqb (cond m 1 0) 1)) (take-append-seam b _) (plane-back h (and-right (leb 1 (suc r) && leb (length b) (L .boundary)) _ k))
-      ∙ ap (polytope (suc r) b h) (mark m)
+      ∙ ap (polytope (suc r) b h) (mark-back m)
     where
       suc-ne : (n : ℕ) → suc n ≡ zero → ⊥
       suc-ne n q = let z : ⊥ = omega (arith, q) in z
-
-      mark : (c : Bool) → eqb (cond c 1 0) 1 ≡ c
-      mark true = refl
-      mark false = refl
 
   pub point-long : (d : ℕ) → d ≤ L .dimensions → (p : List Float) → soundPoint d p ≡ true → length (pad plusZero (L .dimensions) p) ≡ L .dimensions
   unfolding soundPoint
@@ -125,16 +122,19 @@ module _ (L : Limits) (U : Readable L) where
     unfolding decode encode
     read-back = λ i. record {
       dimension = t .dimension;
-      points = read-rows plusZero (L .vertices * L .dimensions) (L .dimensions) (pad plusZero (L .dimensions)) (take (t .dimension)) (soundPoint (t .dimension)) (t .points) (point-long (t .dimension) dim-fits) (point-back (t .dimension)) (g .points) i;
+      points = read-rows plusZero (L .vertices * L .dimensions) (L .dimensions) (pad plusZero (L .dimensions)) (take (t .dimension)) (soundPoint (t .dimension)) (t .points)
+          (point-long (t .dimension) dim-fits) (point-back (t .dimension)) (g .points) i;
       elements = read-rows 0 (L .elements * elementWidth L) (elementWidth L) (λ e. pad 0 (elementWidth L) (elementRow e)) readElement (fitting L) (t .elements) element-long element-back (element-fits t g) i;
-      planes = read-rows plusZero (L .hyperplanes * planeWidth L) (planeWidth L) (planeRow L) (readPlane L (t .dimension)) (soundPlane (t .dimension)) (t .planes) (plane-long (t .dimension) dim-fits) (plane-read (t .dimension) dim-fits) (g .planes) i;
+      planes = read-rows plusZero (L .hyperplanes * planeWidth L) (planeWidth L) (planeRow L) (readPlane L (t .dimension)) (soundPlane (t .dimension)) (t .planes)
+          (plane-long (t .dimension) dim-fits) (plane-read (t .dimension) dim-fits) (g .planes) i;
     }
 
     size-right : rightSize L (encode L t) ≡ true
     unfolding rightSize encode
     size-right =
         and-true _ _ (and-true _ _ (and-true _ _ refl
-        (test-eq _ _ (rows-fill plusZero (L .vertices) (L .dimensions) (pad plusZero (L .dimensions)) (soundPoint (t .dimension)) (t .points) (point-long (t .dimension) dim-fits) (g .points) (le-test (length (t .points)) (L .vertices) (g .vertexRoom)))))
+        (test-eq _ _ (rows-fill plusZero (L .vertices) (L .dimensions) (pad plusZero (L .dimensions)) (soundPoint (t .dimension)) (t .points)
+        (point-long (t .dimension) dim-fits) (g .points) (le-test (length (t .points)) (L .vertices) (g .vertexRoom)))))
         (test-eq _ _ (rows-fill plusZero (L .hyperplanes) (planeWidth L) (planeRow L) (soundPlane (t .dimension)) (t .planes) (plane-long (t .dimension) dim-fits) (g .planes) (le-test (length (t .planes)) (L .hyperplanes) (g .planeRoom)))))
         (test-eq _ _ (rows-fill 0 (L .elements) (elementWidth L) (λ e. pad 0 (elementWidth L) (elementRow e)) (fitting L) (t .elements) element-long (element-fits t g) (le-test (elementCount t) (L .elements) (g .elementRoom))))
 

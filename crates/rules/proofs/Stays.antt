@@ -17,7 +17,6 @@ use Rattle.rules.specs.Floats.{pointMatches}
 use Rattle.rules.specs.Table.{Table, polytope, rank, Element, sameElement, rankOf, corner, samePlane, Plane, element, elementCount, primordials}
 use Rattle.rules.specs.Sound.{soundFacet, closed, soundPoint, soundPlane}
 use Rattle.rules.specs.Cut.{Outcome, refused, done, next, Step, withElement, addElement, shareElement, addPolytope, give, given, addVertex, withPoint, shareVertex, addPlane, planeMatches, withPlane, sharePlane}
-use Rattle.rules.specs.Marked.{Q}
 use Rattle.rules.specs.Held.{Extends, Ranked, SetOf, SomeOf}
 use Rattle.rules.specs.declared.ElementOrNone.the-variants.{None}
 use Rattle.rules.proofs.Corners.{corner-new, corner-there}

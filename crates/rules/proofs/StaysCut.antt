@@ -7,7 +7,7 @@ use mathlib.Core.Path.{_≡_, _∙_, sym, refl, ap, subst}
 use native.Mathlib.Nat.{suc-ne-zero, suc-inj, le-of-lt, le-trans, not-suc-le-zero, le-of-suc-le-suc}
 use native.Mathlib.Omega.{arith}
 use lib.Dec.{eqb, leb}
-use lib.Ieee.{Float, low, fin, inf, nan}
+use lib.Ieee.{Float, fin, inf, nan}
 use lib.IntN.{pos}
 use lib.ListN.{length, getD}
 use Rattle.rules.specs.Limits.{Limits}
@@ -15,7 +15,8 @@ use Rattle.rules.specs.Lists.{all, if_then_else_}
 use Rattle.rules.specs.Floats.{crossingPoint, within, farthest, sideOf, edgeTest}
 use Rattle.rules.specs.Table.{element, rank, Table, Element, rankOf, planeOf, isPrimordial, Plane, corner, pointAt, pointOf, polytope, boundaryOf, elementCount}
 use Rattle.rules.specs.Sound.{soundPoint, soundFacet, namesPlane, namesNone, soundElement, soundPlane}
-use Rattle.rules.specs.Cut.{Cutting, cut, planeOfIntersection, newIntersection, addPolytope, sideOfCut, including, Gathered, rule7, rule6, given, crossEdge, addVertex, cutEnds, distanceOf, gathering, cornerAnswer, nothingYet, cutEdge, Step, cutBoundary, cutHigher, cutElement, Outcome, refused, done, cutCorner, cutFinite, addPlane, cutAtDistance}
+use Rattle.rules.specs.Cut.{Cutting, cut, planeOfIntersection, newIntersection, addPolytope, sideOfCut, including, Gathered, rule7, rule6, given, crossEdge, addVertex, cutEnds, distanceOf}
+use Rattle.rules.specs.Cut.{gathering, cornerAnswer, nothingYet, cutEdge, Step, cutBoundary, cutHigher, cutElement, Outcome, refused, done, cutCorner, cutFinite, addPlane, cutAtDistance}
 use Rattle.rules.specs.Promises.{OneBelow, NamesBelow}
 use Rattle.rules.specs.Held.{Extends, SetOf, SomeOf, Sets, OutputOf, AllOf, Ranked}
 use Rattle.rules.specs.declared.Crossing.{Crossing}
@@ -71,6 +72,14 @@ owner-later {t} {l} r e x o = record {
   low = subst (λ (d : ℕ). leb (rankOf e) d ≡ true) (sym (x .dimension)) (o .low);
   facet = facet-later t l (rankOf e) (planeOf e) (isPrimordial e) x (o .facet);
 }
+
+-- a corner's point is sound
+pub point-at-sound : (L : Limits) (t : Table) (e : ℕ) → Good L t → Ranked t 1 e → soundPoint (t .dimension) (pointAt t e) ≡ true
+point-at-sound L t e k h = go (element t e) refl
+  where
+    go : (y : Element) → element t e ≡ y → soundPoint (t .dimension) (pointOf (t .points) y) ≡ true
+    go (corner v) q = all-get (soundPoint (t .dimension)) (t .points) v [] (corner-named L t k e v (h .0) q) (k .points)
+    go (polytope r b j m) q = absurd (above-zero L t e r b j m k (h .0) q (suc-inj (h .1)))
 
 module _ (L : Limits) (c : Cutting) where
   pub cut-facet : (t : Table) (r : ℕ) → c .number < length (t .planes) → soundFacet t r (planeOfIntersection t c (suc r)) false ≡ true
@@ -136,18 +145,10 @@ module _ (L : Limits) (c : Cutting) where
         intersections = set-later (g .intersections) e₁ (h .intersections);
       }))
 
-  -- a corner's point is sound
-  pub point-at-sound : (t : Table) (e : ℕ) → Good L t → Ranked t 1 e → soundPoint (t .dimension) (pointAt t e) ≡ true
-  point-at-sound t e k h = go (element t e) refl
-    where
-      go : (y : Element) → element t e ≡ y → soundPoint (t .dimension) (pointOf (t .points) y) ≡ true
-      go (corner v) q = all-get (soundPoint (t .dimension)) (t .points) v [] (corner-named L t k e v (h .0) q) (k .points)
-      go (polytope r b j m) q = absurd (above-zero L t e r b j m k (h .0) q (suc-inj (h .1)))
-
   pub ends-stays : (a b : ℕ) (t : Table) → Good L t → Ranked t 1 a → Ranked t 1 b → Stays L (Sets 0) t (cutEnds L c a b (pointAt t a) (pointAt t b) t)
   unfolding cutEnds
   ends-stays a b t k ha hb =
-      cross-stays (pointAt t a) (pointAt t b) (edgeTest (distanceOf c (pointAt t a)) (distanceOf c (pointAt t b))) _ t k (point-at-sound t a k ha) (point-at-sound t b k hb)
+      cross-stays (pointAt t a) (pointAt t b) (edgeTest (distanceOf c (pointAt t a)) (distanceOf c (pointAt t b))) _ t k (point-at-sound L t a k ha) (point-at-sound L t b k hb)
       (sets-gathering 0 b (cornerAnswer b (sideOf (distanceOf c (pointAt t b)))) _ t hb (corner-answer t b (sideOf (distanceOf c (pointAt t b))) hb)
       (sets-gathering 0 a (cornerAnswer a (sideOf (distanceOf c (pointAt t a)))) nothingYet t ha (corner-answer t a (sideOf (distanceOf c (pointAt t a))) ha) (sets-none 0 t)))
 

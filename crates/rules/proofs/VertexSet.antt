@@ -1,7 +1,7 @@
 -- The vertex set rises: sub-elements are listed in rising number, and vertex elements name vertices in order.
 -- And in one dimension no facet is primordial, for facets are corners.
 use Prim.Native.Nat.{ℕ, _<_, zero, suc, _+_, _≤_, suc-le-suc}
-use mathlib.Core.Bool.{Bool, true, false, false≢true}
+use mathlib.Core.Bool.{Bool, true, false, false≢true, not, _&&_}
 use mathlib.Core.List.{List, [], _∷_, map}
 use mathlib.Core.Path.{_≡_, refl, ap, subst, sym, _∙_}
 use native.Mathlib.Nat.{le-trans, le-of-lt, le-of-eq, not-suc-le-zero, le-of-suc-le-suc, zero-add, zero-lt-suc, suc-inj}
@@ -12,11 +12,14 @@ use Rattle.rules.specs.Limits.{Limits}
 use Rattle.rules.specs.Lists.{rises, keep, all, if_then_else_, upFrom, upTo, any}
 use Rattle.rules.specs.Table.{corner, Element, vertexOf, isCorner, polytope, Table, element, elementCount, rank, boundary, isPrimordial}
 use Rattle.rules.specs.Sound.{sound}
-use Rattle.rules.specs.Questions.{vertexSet, withRank, subElements, isBelow, primordialFacet, answer}
+use Rattle.rules.specs.Questions.{vertexSet, withRank, subElements, isBelow, primordialFacet, Asked, no-answer, answer}
+use Rattle.rules.specs.Memory.{decode}
+use Rattle.rules.specs.Replies.{facetAnswer, facetValue, primordialFacetReply}
 use Rattle.rules.specs.Promises.{NoFacetInOneDimension, border}
 use Rattle.rules.proofs.Borders.{sound-bordered}
 use Rattle.rules.proofs.Good.{above-zero, sound-good}
 use Rattle.rules.proofs.Laws.{and-right, and-true, and-left, test-le, eq-test, le-test, if-true, test-eq, neither}
+use Rattle.rules.proofs.OneCall.{sound-table}
 
 -- ---- what is each-kept of a rising list rises
 
@@ -136,9 +139,9 @@ module _ (L : Limits) (t : Table) (s : sound L t ≡ true) where
 
 -- ---- one dimension
 
-pub no-facet-in-one-dimension : (L : Limits) → NoFacetInOneDimension L
+no-facet : (L : Limits) (t : Table) → sound L t ≡ true → t .dimension ≡ 1 → (e : ℕ) → e < elementCount t → rank t e ≡ 1 → primordialFacet t e ≡ answer false
 unfolding primordialFacet
-no-facet-in-one-dimension L t s d e u k =
+no-facet L t s d e u k =
     if-true (eqb (rank t e) (t .dimension)) _ _ (test-eq (rank t e) (t .dimension) (k ∙ sym d)) ∙ ap answer (no-marks (boundary t e) below)
   where
     below : (j : ℕ) → j < length (boundary t e) → isPrimordial (element t (border t e j)) ≡ false
@@ -157,3 +160,12 @@ no-facet-in-one-dimension L t s d e u k =
     no-marks [] h = refl
     no-marks (x ∷ xs) h =
         neither (isPrimordial (element t x)) (any (λ y. isPrimordial (element t y)) xs) (h 0 (zero-lt-suc (length xs))) (no-marks xs (λ j l. h (suc j) (suc-le-suc l)))
+
+pub no-facet-in-one-dimension : (L : Limits) → NoFacetInOneDimension L
+unfolding primordialFacetReply
+no-facet-in-one-dimension L m s d e u k =
+    (λ j. facetValue (facetAnswer (if not (s j) then no-answer 3 else if not (used j) then no-answer 4 else primordialFacet (decode L m) e)))
+    ∙ ap (λ (a : Asked Bool). facetValue (facetAnswer a)) (no-facet L (decode L m) (sound-table L m s) d e u k)
+  where
+    used : (ltb e (elementCount (decode L m)) && true) ≡ true
+    used = and-true (ltb e (elementCount (decode L m))) true (test-le (suc e) (elementCount (decode L m)) u) refl

@@ -1,11 +1,11 @@
 -- Examples beside the marked ones, for what those do not tell: each line of soundness broken once, each refusal met once, and choices that a wrong rule would make otherwise.
 -- Each row is what the rules give and what is right; proofs/Answers.antt has the theorems. Definitions only.
-use Prim.Native.Nat.{ℕ, _+_}
+use Prim.Native.Nat.{ℕ}
 use mathlib.Core.Bool.{Bool, true, false}
 use mathlib.Core.Option.{Option, none, some}
 use mathlib.Core.List.{List, [], _∷_, _++_, map}
 use lib.IntN.{pos, negsuc}
-use lib.ListN.{set, drop, replicate}
+use lib.ListN.{set, take, drop, replicate}
 use lib.Ieee.{Float, nan, inf, fin, neg, ofBits, binary64}
 use Rattle.rules.specs.Limits.{Limits}
 use Rattle.rules.specs.Floats.{plusZero, one, tolerance, sideOf, edgeTest, crossingPoint, clamp}
@@ -14,8 +14,7 @@ use Rattle.rules.specs.Sound.{sound}
 use Rattle.rules.specs.Memory.{Memory, encode, soundMemory}
 use Rattle.rules.specs.Cube.{cube}
 use Rattle.rules.specs.Replies.{crossingValue, isSoundReply, cubeReply, subElementsReply, withRankReply, vertexSetReply, greatestCommonReply, edgesInOrderReply, primordialFacetReply}
-use Rattle.rules.specs.Session.{cutlist}
-use Rattle.rules.specs.Marked.{Shown, cutShown, listShown, sideShown, verdict, numbers, floats, showCut, showList, atX, room}
+use Rattle.rules.specs.Marked.{Shown, cutShown, listShown, sideShown, verdict, numbers, floats, showCut, showList, atX, slanted, room}
 use Rattle.rules.specs.declared.Hyperplane.{Hyperplane}
 use Rattle.rules.specs.declared.Side.the-variants.{Inside, On, Outside}
 use Rattle.rules.specs.declared.FacetReply.{FacetReply}
@@ -161,8 +160,9 @@ soundness =
     -- a coordinate just beyond 65,536; a point with a coordinate too many
     ∷ broken (ofPoints ((ofBits binary64 0xc0f0000000000001 ∷ minusOne ∷ []) ∷ drop 1 points))
     ∷ broken (ofPoints ((minusOne ∷ minusOne ∷ plusZero ∷ []) ∷ drop 1 points))
-    -- squares that add up to 0; a component of 1 + 2^-22; a distance just beyond 262,144; a component too many; fewer than P hyperplanes
+    -- squares that add up to 0, and to 1 + 2^-18; a component of 1 + 2^-22; a distance just beyond 262,144; a component too many; fewer than P hyperplanes
     ∷ broken (ofPlanes (plane plusZero plusZero one ∷ drop 1 planes))
+    ∷ broken (ofPlanes (plane (fin false 1 (negsuc 8)) one one ∷ drop 1 planes))
     ∷ broken (ofPlanes (plane plusZero (ofBits binary64 0x3ff0000040000000) one ∷ drop 1 planes))
     ∷ broken (ofPlanes (plane plusZero one (ofBits binary64 0x4110000000000001) ∷ drop 1 planes))
     ∷ broken (ofPlanes (record { normal = plusZero ∷ one ∷ plusZero ∷ []; distance = one } ∷ drop 1 planes))
@@ -238,6 +238,11 @@ unfoldable pub zigzag : Table
 zigzag = made 2 ((minusOne ∷ plusZero ∷ []) ∷ (one ∷ one ∷ []) ∷ (minusOne ∷ two ∷ []) ∷ (one ∷ fin false 3 (pos 0) ∷ []) ∷ (minusOne ∷ fin false 1 (pos 2) ∷ []) ∷ [])
     (corners ++ corner 4 ∷ edge 0 1 0 ∷ edge 1 2 0 ∷ edge 2 3 0 ∷ edge 3 4 0 ∷ edge 0 4 0 ∷ face (5 ∷ 6 ∷ 7 ∷ 8 ∷ 9 ∷ []) ∷ []) planes
 
+-- a ring of four edges, whose corner 3 matches the point at 0 on edge 0-1 and lies inside of the plane through it
+unfoldable pub pinched : Table
+pinched = made 2 ((minusOne ∷ minusOne ∷ []) ∷ (one ∷ one ∷ []) ∷ (one ∷ minusOne ∷ []) ∷ (fin true 15 (negsuc 23) ∷ neg tolerance ∷ []) ∷ [])
+    (corners ++ edge 0 1 0 ∷ edge 1 2 1 ∷ edge 2 3 2 ∷ edge 0 3 3 ∷ wholeFace ∷ []) planes
+
 abbrev pub flatY : Hyperplane
 flatY = record { normal = plusZero ∷ one ∷ plusZero ∷ plusZero ∷ []; distance = plusZero }
 
@@ -273,6 +278,8 @@ choices =
     ∷ (cutSmall (atX one) true false 8, cutShown 0 (some 8 ∷ none ∷ some 7 ∷ []) (9 ∷ 4 ∷ 5 ∷ []))
     ∷ (cutSmall (atX (inf false)) false false 8, cutShown 0 (some 8 ∷ none ∷ none ∷ []) (9 ∷ 4 ∷ 4 ∷ []))
     ∷ (cutSmall (atX plusZero) false true 0, cutShown 0 (some 0 ∷ none ∷ none ∷ []) (9 ∷ 4 ∷ 5 ∷ []))
+    -- the corner (1, 1) lies at T: the products are added, and the distance is subtracted after them; before them it would lie beyond
+    ∷ (cutSmall (slanted 0x3ff6666566666666) true true 4, cutShown 0 [] (9 ∷ 4 ∷ 5 ∷ []))
     -- 0.8 T is nearer to vertex 1 than to vertex 0, which is the lowest match
     ∷ (showCut small (onLine 0x3ea999999999999a) true true 5 (encode small line), cutShown 0 (some 6 ∷ some 7 ∷ some 0 ∷ []) (8 ∷ 5 ∷ 1 ∷ []))
     -- 0.9 T is hyperplane 0, and the corner at 1.5 T is on the divider as given
@@ -300,6 +307,14 @@ choices =
 abbrev pub inRoom : Limits → Table → Float → Shown
 inRoom L t d = showCut L (record { normal = one ∷ []; distance = d }) true true 2 (encode L t)
 
+-- a face in a small room of two, by the normal (0.6, 0.8)
+abbrev pub inPlane : Limits → Table → Float → Shown
+inPlane L t d = showCut L (record { normal = take 2 (slanted 0 .normal); distance = d }) true true 8 (encode L t)
+
+-- the normal (1, y), and distance 0
+abbrev pub flat : Float → Hyperplane
+flat y = record { normal = one ∷ y ∷ plusZero ∷ plusZero ∷ []; distance = plusZero }
+
 unfoldable pub refusals : List (Shown × Shown)
 refusals =
     -- 3, 4 and 5 before the rules, in this order; 5 also with an infinite distance
@@ -308,15 +323,17 @@ refusals =
     ∷ (cutSmall (record { normal = plusZero ∷ plusZero ∷ plusZero ∷ plusZero ∷ []; distance = inf false }) true true 8, cutShown 5 [] (9 ∷ 4 ∷ 4 ∷ []))
     ∷ (cutSmall (record { normal = one ∷ plusZero ∷ plusZero ∷ neg plusZero ∷ []; distance = plusZero }) true true 8, cutShown 5 [] (9 ∷ 4 ∷ 4 ∷ []))
     ∷ (cutSmall (atX (ofBits binary64 0x4110000000000001)) true true 8, cutShown 5 [] (9 ∷ 4 ∷ 4 ∷ []))
+    -- squares that add up to 1 + 2^-18, and to 1 + 2^-20
+    ∷ (cutSmall (flat (fin false 1 (negsuc 8))) true true 0, cutShown 5 [] (9 ∷ 4 ∷ 4 ∷ []))
+    ∷ (cutSmall (flat (fin false 1 (negsuc 9))) true true 0, cutShown 0 (some 0 ∷ none ∷ none ∷ []) (9 ∷ 4 ∷ 5 ∷ []))
     -- no room: 10 for the hyperplane, then 8 for the vertex, then 9 for its element; a refusal leaves the counts
     ∷ (inRoom (roomOf 1 2 3 0 2) (cube 1 one) plusZero, cutShown 10 [] (3 ∷ 2 ∷ 0 ∷ []))
     ∷ (inRoom (roomOf 1 2 3 1 2) (cube 1 one) plusZero, cutShown 8 [] (3 ∷ 2 ∷ 0 ∷ []))
     ∷ (inRoom (roomOf 1 3 3 1 2) (cube 1 one) plusZero, cutShown 9 [] (3 ∷ 2 ∷ 0 ∷ []))
-    -- a corner cut off a square leaves five edges, in a room for four
-    ∷ (
-      showCut (roomOf 2 9 20 9 4) (record { normal = ofBits binary64 0x3fe3333333333333 ∷ ofBits binary64 0x3fe999999999999a ∷ []; distance = one }) true true 8 (encode (roomOf 2 9 20 9 4) square),
-      cutShown 11 [] (9 ∷ 4 ∷ 4 ∷ []),
-    )
+    -- a corner cut off a square leaves five edges, in a room for four; edges that are no ring are 7, and 11 where there are too many of them
+    ∷ (inPlane (roomOf 2 9 20 9 4) square one, cutShown 11 [] (9 ∷ 4 ∷ 4 ∷ []))
+    ∷ (inPlane (roomOf 2 9 20 9 5) pinched plusZero, cutShown 7 [] (9 ∷ 4 ∷ 4 ∷ []))
+    ∷ (inPlane (roomOf 2 9 20 9 4) pinched plusZero, cutShown 11 [] (9 ∷ 4 ∷ 4 ∷ []))
     -- a new edge with four ends
     ∷ (showCut small (atX plusZero) false false 10 (encode small zigzag), cutShown 7 [] (11 ∷ 5 ∷ 4 ∷ []))
     -- a new face of two triangles; each tetrahedron's own is taken
@@ -334,53 +351,4 @@ refusals =
     ∷ (showList (greatestCommonReply small smallQ [] room), listShown 6 [])
     ∷ (showList (edgesInOrderReply small smallQ 7 []), listShown 6 [])
     ∷ (showList (subElementsReply small smallQ 8 room), listShown 12 [])
-    ∷ []
-
--- ---- sessions
-
--- 1.0, by its bits
-abbrev pub oneBytes : List ℕ
-oneBytes = 0 ∷ 0 ∷ 0 ∷ 0 ∷ 0 ∷ 0 ∷ 240 ∷ 63 ∷ []
-
-abbrev pub zeroBytes : List ℕ
-zeroBytes = 0 ∷ 0 ∷ 0 ∷ 0 ∷ 0 ∷ 0 ∷ 0 ∷ 0 ∷ []
-
-abbrev pub cubeRecord : ℕ → List ℕ
-cubeRecord d = 0x43 ∷ 0x55 ∷ d ∷ oneBytes
-
--- keep some sides, root 8, normal (1, 0), distance 0
-abbrev pub cutRecord : ℕ → List ℕ
-cutRecord kept = 0x43 ∷ 0x54 ∷ kept ∷ 8 ∷ 0 ∷ (oneBytes ++ zeroBytes ++ zeroBytes)
-
--- what the program writes for some bytes, in the small room
-abbrev pub printed : List ℕ → Shown
-printed bs = numbers (cutlist small bs)
-
--- "cube 9 4 4" and "cut 16 17 15 18 6 5", each with its line feed
-abbrev pub cubeWords : List ℕ
-cubeWords = 99 ∷ 117 ∷ 98 ∷ 101 ∷ 32 ∷ 57 ∷ 32 ∷ 52 ∷ 32 ∷ 52 ∷ 10 ∷ []
-
-abbrev pub cutWords : List ℕ
-cutWords = 99 ∷ 117 ∷ 116 ∷ 32 ∷ 49 ∷ 54 ∷ 32 ∷ 49 ∷ 55 ∷ 32 ∷ 49 ∷ 53 ∷ 32 ∷ 49 ∷ 56 ∷ 32 ∷ 54 ∷ 32 ∷ 53 ∷ 10 ∷ []
-
--- "bad ", "refused " and a digit
-abbrev pub badWords : ℕ → List ℕ
-badWords d = 98 ∷ 97 ∷ 100 ∷ 32 ∷ (48 + d) ∷ 10 ∷ []
-
-abbrev pub refusedWords : ℕ → List ℕ
-refusedWords d = 114 ∷ 101 ∷ 102 ∷ 117 ∷ 115 ∷ 101 ∷ 100 ∷ 32 ∷ (48 + d) ∷ 10 ∷ []
-
-unfoldable pub sessions : List (Shown × Shown)
-sessions =
-    -- document 01's session, whole
-    (printed (cubeRecord 2 ++ cutRecord 3 ++ cutRecord 3), numbers (cubeWords ++ cutWords ++ cutWords))
-    -- nothing; a stray byte; another mark; a cut with no table
-    ∷ (printed [], numbers [])
-    ∷ (printed (0x43 ∷ []), numbers (badWords 0))
-    ∷ (printed (0x43 ∷ 0x56 ∷ []), numbers (badWords 0))
-    ∷ (printed (cutRecord 3), numbers (badWords 0))
-    -- a cube that is refused keeps the table before it; a kept byte of 4, and a short record, stop at their first byte
-    ∷ (printed (cubeRecord 5 ++ cubeRecord 2 ++ cubeRecord 0), numbers (refusedWords 1 ++ cubeWords ++ refusedWords 1))
-    ∷ (printed (cubeRecord 2 ++ cutRecord 4), numbers (cubeWords ++ 98 ∷ 97 ∷ 100 ∷ 32 ∷ 49 ∷ 49 ∷ 10 ∷ []))
-    ∷ (printed (cubeRecord 2 ++ drop 1 (cutRecord 3)), numbers (cubeWords ++ 98 ∷ 97 ∷ 100 ∷ 32 ∷ 49 ∷ 49 ∷ 10 ∷ []))
     ∷ []

@@ -15,5 +15,8 @@ pub mod Replies
 pub mod Session
 pub mod Marked
 pub mod Examples
+pub mod Sessions
+pub mod Calls
+pub mod Rooms
 pub mod Promises
 pub mod Held

@@ -2,21 +2,24 @@
 -- proofs/Promises.antt proves the record at the end, for every room that can be read back and has place for its cubes: the desk's, and the large one.
 use Prim.Native.Nat.{ℕ, zero, suc, _*_, _≤_, _<_}
 use mathlib.Core.Path.{_≡_}
-use mathlib.Core.Bool.{Bool, true, false, _&&_, _||_}
+use mathlib.Core.Bool.{Bool, true, false, not, _||_}
+use mathlib.Core.Option.{Option, none, some}
 use mathlib.Core.List.{List, [], _∷_}
 use lib.Dec.{eqb, ltb}
 use lib.ListN.{length, getD, take, drop}
 use lib.Ieee.{Float, inf, le, isNan}
-use Rattle.rules.specs.Limits.{Limits, Roomier}
+use Rattle.rules.specs.Limits.{Limits}
 use Rattle.rules.specs.Lists.{all, any, member, occurrences, rises}
-use Rattle.rules.specs.Floats.{sideOf, signedDistance, clamp, pointMatches}
-use Rattle.rules.specs.Table.{ElementNumber, VertexNumber, Plane, Table, vertexOf, element, rank, boundary, elementCount, pointAt}
+use Rattle.rules.specs.Floats.{plusZero, sideOf, signedDistance, clamp, crossingPoint, pointMatches}
+use Rattle.rules.specs.Table.{ElementNumber, VertexNumber, HyperplaneNumber, Plane, Table, vertexOf, element, rank, boundary, elementCount, pointAt}
 use Rattle.rules.specs.Sound.{sound}
 use Rattle.rules.specs.Memory.{Memory, elementWidth, planeWidth, encode, decode, soundMemory}
-use Rattle.rules.specs.Cut.{done, give, next, addPlane, cut, given}
-use Rattle.rules.specs.Questions.{answer, isBelow, vertexSet, greatestCommon, edgesInOrder, primordialFacet}
+use Rattle.rules.specs.Cut.{Outcome, refused, done, addPlane}
+use Rattle.rules.specs.Questions.{answer, isBelow, vertexSet, greatestCommon, edgesInOrder}
 use Rattle.rules.specs.Rings.{RuleIsOneRing, FaceIsOneRing, FaceIsWalked}
-use Rattle.rules.specs.Replies.{cutNumber, listNumber, isSoundReply, cubeReply, dividerFits, dividerOf, written, cutReply, subElementsReply, withRankReply, vertexSetReply, greatestCommonReply, edgesInOrderReply, primordialFacetReply}
+use Rattle.rules.specs.Replies.{cutNumber, cutValues, listNumber, listSize, facetValue, isSoundReply, cubeReply, dividerFits, dividerOf, cutReply, primordialFacetReply}
+use Rattle.rules.specs.Calls.{Call, afterCalls, NoCubeTaken, ListQuestion, listReply, listRefusals, Gives, CutNumbered, ListNumbered, FacetNumbered, Filled}
+use Rattle.rules.specs.Rooms.{RoomierAlike}
 use Rattle.rules.specs.declared.Hyperplane.{Hyperplane}
 use Rattle.rules.specs.declared.Side.{Side}
 use Rattle.rules.specs.declared.Side.the-variants.{Inside, Outside}
@@ -25,41 +28,6 @@ use Rattle.rules.specs.declared.ElementOrNone.the-variants.{None, Some}
 use Rattle.rules.specs.declared.ElementCutOutput.{ElementCutOutput}
 use Rattle.rules.specs.declared.ElementCutOutput.the-variants.{Flush, NonFlush}
 use Rattle.rules.specs.declared.CutReply.{CutReply}
-use Rattle.rules.specs.declared.CutReply.the-variants.{Refused, Answered}
-use Rattle.rules.specs.declared.ListReply.{ListReply}
-use Rattle.rules.specs.declared.ListReply.the-variants.{Refused as ListRefused, Listed}
-use Rattle.rules.specs.declared.FacetReply.the-variants.{Refused as FacetRefused}
-
--- ---- calls
-
--- a call on the table at hand: a cut, or a question, which only reads; a cube that is taken starts another table
-pub data Call : Type 0 where
-  cutting : Hyperplane → Bool → Bool → ElementNumber → Call
-  asking : Call
-
-abbrev pub after : Limits → Call → Memory → Memory
-after L (cutting h i o root) m = cutReply L h i o root m .1
-after L asking m = m
-
--- the memory after some calls in turn, each taken or refused
-abbrev pub afterCalls : Limits → List Call → Memory → Memory
-afterCalls L [] m = m
-afterCalls L (c ∷ cs) m = afterCalls L cs (after L c m)
-
--- the questions that give a list
-pub data ListQuestion : Type 0 where
-  subElementsOf : ElementNumber → ListQuestion
-  subElementsWithRank : ℕ → ElementNumber → ListQuestion
-  vertexSetOf : ElementNumber → ListQuestion
-  greatestCommonOf : List ElementNumber → ListQuestion
-  edgesInOrderOf : ElementNumber → ListQuestion
-
-abbrev pub listReply : Limits → ListQuestion → Memory → List ℕ → ListReply × List ℕ
-listReply L (subElementsOf e) m room = subElementsReply L m e room
-listReply L (subElementsWithRank k e) m room = withRankReply L m k e room
-listReply L (vertexSetOf e) m room = vertexSetReply L m e room
-listReply L (greatestCommonOf es) m room = greatestCommonReply L m es room
-listReply L (edgesInOrderOf e) m room = edgesInOrderReply L m e room
 
 -- ---- demand 1: an answer, or one numbered refusal that leaves everything as it came
 
@@ -78,30 +46,21 @@ RefusedListLeaves L = (q : ListQuestion) (m : Memory) (room : List ℕ) → 0 < 
 
 -- a list done fills the front of its room and leaves the remainder
 abbrev pub ListFillsFront : Limits → Type 0
-ListFillsFront L = (q : ListQuestion) (m : Memory) (room after : List ℕ) (n : ℕ) → listReply L q m room ≡ (Listed n, after)
-    → (n ≤ length room) × (length after ≡ length room) × (drop n after ≡ drop n room)
+ListFillsFront L = (q : ListQuestion) (m : Memory) (room : List ℕ) (n : ℕ) → listSize (listReply L q m room .0) ≡ some n → Filled n room (listReply L q m room .1)
 
--- which refusals each public reply can give
+-- which numbers each public reply can have
 abbrev pub CutNumbers : Limits → Type 0
-CutNumbers L = (h : Hyperplane) (i o : Bool) (root : ElementNumber) (m : Memory) (n : ℕ)
-    → cutReply L h i o root m .0 ≡ Refused n → member n (3 ∷ 4 ∷ 5 ∷ 7 ∷ 8 ∷ 9 ∷ 10 ∷ 11 ∷ []) ≡ true
+CutNumbers L = (h : Hyperplane) (i o : Bool) (root : ElementNumber) (m : Memory)
+    → CutNumbered (3 ∷ 4 ∷ 5 ∷ 7 ∷ 8 ∷ 9 ∷ 10 ∷ 11 ∷ []) (cutReply L h i o root m .0)
 
 abbrev pub CubeNumbers : Limits → Type 0
 CubeNumbers L = (d : ℕ) (radius : Float) (m : Memory) → member (cubeReply L d radius m .0) (0 ∷ 1 ∷ 2 ∷ 3 ∷ []) ≡ true
 
-abbrev pub listRefusals : ListQuestion → List ℕ
-listRefusals (subElementsOf e) = 3 ∷ 4 ∷ 12 ∷ []
-listRefusals (subElementsWithRank k e) = 3 ∷ 4 ∷ 12 ∷ []
-listRefusals (vertexSetOf e) = 3 ∷ 4 ∷ 12 ∷ []
-listRefusals (greatestCommonOf es) = 3 ∷ 4 ∷ 6 ∷ 12 ∷ []
-listRefusals (edgesInOrderOf e) = 3 ∷ 4 ∷ 6 ∷ 12 ∷ []
-
 abbrev pub ListNumbers : Limits → Type 0
-ListNumbers L = (q : ListQuestion) (m : Memory) (room : List ℕ) (n : ℕ)
-    → listReply L q m room .0 ≡ ListRefused n → member n (listRefusals q) ≡ true
+ListNumbers L = (q : ListQuestion) (m : Memory) (room : List ℕ) → ListNumbered (listRefusals q) (listReply L q m room .0)
 
 abbrev pub FacetNumbers : Limits → Type 0
-FacetNumbers L = (m : Memory) (e : ElementNumber) (n : ℕ) → primordialFacetReply L m e ≡ FacetRefused n → member n (3 ∷ 4 ∷ 6 ∷ []) ≡ true
+FacetNumbers L = (m : Memory) (e : ElementNumber) → FacetNumbered (3 ∷ 4 ∷ 6 ∷ []) (primordialFacetReply L m e)
 
 abbrev pub SoundNumbers : Limits → Type 0
 SoundNumbers L = (m : Memory) → member (isSoundReply L m) (0 ∷ 3 ∷ []) ≡ true
@@ -120,11 +79,11 @@ pub record Keeps (L : Limits) (old new : Memory) : Type 0 where
   pub hyperplanes : (h : ℕ) → h < getD (old .counts) 3 0 → rowAt (planeWidth L) (new .planes) h ≡ rowAt (planeWidth L) (old .planes) h
   pub noFewer : (k : ℕ) → getD (old .counts) k 0 ≤ getD (new .counts) k 0
 
--- old entries keep number and content, after any calls
+-- old entries keep number and content, after any calls of which no cube is taken: cuts, questions and refused cubes
 abbrev pub OldEntriesStay : Limits → Type 0
-OldEntriesStay L = (cs : List Call) (m : Memory) → soundMemory L m ≡ true → Keeps L m (afterCalls L cs m)
+OldEntriesStay L = (cs : List Call) (m : Memory) → soundMemory L m ≡ true → NoCubeTaken L cs m → Keeps L m (afterCalls L cs m)
 
--- the new table is sound, after any calls
+-- the new table is sound, after any calls, cubes too
 abbrev pub StaysSound : Limits → Type 0
 StaysSound L = (cs : List Call) (m : Memory) → soundMemory L m ≡ true → soundMemory L (afterCalls L cs m) ≡ true
 
@@ -144,10 +103,10 @@ abbrev pub EnoughBoundary : Limits → Type 0
 EnoughBoundary L = (cs : List Call) (m : Memory) → soundMemory L m ≡ true → (x : ElementNumber)
     → x < elementCount (decode L (afterCalls L cs m)) → 0 < rank (decode L (afterCalls L cs m)) x → Bordered (decode L (afterCalls L cs m)) x
 
--- the same cut again, after any further calls, gives the same reply and leaves the memory as it is
+-- the same cut again, after any further calls of which no cube is taken, gives the same reply and leaves the memory as it is
 abbrev pub AgainLater : Limits → Type 0
 AgainLater L = (h : Hyperplane) (i o : Bool) (root : ElementNumber) (m : Memory) → cutNumber (cutReply L h i o root m .0) ≡ 0
-    → (cs : List Call) → let later = afterCalls L cs (cutReply L h i o root m .1) in
+    → (cs : List Call) → NoCubeTaken L cs (cutReply L h i o root m .1) → let later = afterCalls L cs (cutReply L h i o root m .1) in
     cutReply L h i o root later ≡ (cutReply L h i o root m .0, later)
 
 -- a distance that is no infinity
@@ -156,17 +115,19 @@ Finite d = (s : Bool) → d ≡ inf s → ⊥
 
 -- both sides kept, a finite divider, and a root that is no corner: one side asked later is the same piece with the same face, and nothing is added
 abbrev pub OneSideLater : Limits → Type 0
-OneSideLater L = (h : Hyperplane) (root : ElementNumber) (m m′ : Memory) (in′ out x : ElementOrNone)
-    → Finite (h .distance) → 0 < rank (decode L m) root → cutReply L h true true root m ≡ (Answered (NonFlush in′ out x), m′)
-    → (cs : List Call) → let later = afterCalls L cs m′ in
-    (cutReply L h true false root later ≡ (Answered (NonFlush in′ None x), later))
-    × (cutReply L h false true root later ≡ (Answered (NonFlush None out x), later))
+OneSideLater L = (h : Hyperplane) (root : ElementNumber) (m : Memory) (in′ out x : Option ElementNumber)
+    → Finite (h .distance) → 0 < rank (decode L m) root → cutValues (cutReply L h true true root m .0) ≡ in′ ∷ out ∷ x ∷ []
+    → (cs : List Call) → NoCubeTaken L cs (cutReply L h true true root m .1) → let later = afterCalls L cs (cutReply L h true true root m .1) in
+    Gives (cutReply L h true false root later) (in′ ∷ none ∷ x ∷ []) later
+    × Gives (cutReply L h false true root later) (none ∷ out ∷ x ∷ []) later
 
--- and what was flush is flush, whichever sides are kept
+-- and what was flush, done and without values, is flush, whichever sides are kept
 abbrev pub FlushLater : Limits → Type 0
-FlushLater L = (h : Hyperplane) (root : ElementNumber) (m m′ : Memory)
-    → Finite (h .distance) → 0 < rank (decode L m) root → cutReply L h true true root m ≡ (Answered Flush, m′)
-    → (i o : Bool) (cs : List Call) → cutReply L h i o root (afterCalls L cs m′) ≡ (Answered Flush, afterCalls L cs m′)
+FlushLater L = (h : Hyperplane) (root : ElementNumber) (m : Memory) → Finite (h .distance) → 0 < rank (decode L m) root
+    → cutNumber (cutReply L h true true root m .0) ≡ 0 → cutValues (cutReply L h true true root m .0) ≡ []
+    → (i o : Bool) (cs : List Call) → NoCubeTaken L cs (cutReply L h true true root m .1)
+    → let later = afterCalls L cs (cutReply L h true true root m .1) in
+    cutReply L h i o root later ≡ (cutReply L h true true root m .0, later)
 
 -- ---- the cube, and what is reached from it
 
@@ -178,7 +139,7 @@ CubeIsSound L = (d : ℕ) (radius : Float) (m : Memory) → cubeReply L d radius
 abbrev pub Unmatched : Table → Type 0
 Unmatched t = (i j : ℕ) → i < j → j < length (t .points) → pointMatches (getD (t .points) i []) (getD (t .points) j []) ≡ false
 
--- one crossing, one corner: from a cube, by any calls, a crossing is never entered as two corners
+-- one crossing, one corner: from a cube, by any calls, cubes too, a crossing is never entered as two corners
 abbrev pub OneCrossingOneCorner : Limits → Type 0
 OneCrossingOneCorner L = (d : ℕ) (radius : Float) (m : Memory) → cubeReply L d radius m .0 ≡ 0
     → (cs : List Call) → Unmatched (decode L (afterCalls L cs (cubeReply L d radius m .1)))
@@ -199,23 +160,28 @@ pub record Passes (L : Limits) (h : Hyperplane) (root : ElementNumber) (m : Memo
   pub used : root < elementCount (decode L m)
   pub fits : dividerFits L (decode L m .dimension) h ≡ true
 
--- rule 2 and nothing more: the divider's hyperplane is matched or appended (or 10), and the answer is this one
-abbrev pub onlyPlane : Limits → Hyperplane → Memory → ElementCutOutput → CutReply × Memory
-onlyPlane L h m a = let t = decode L m in written L m (next (addPlane L (dividerOf (t .dimension) h) t) (λ n. give a))
+-- rule 2 and nothing more: the divider's hyperplane is matched or appended, and these are the values; or 10
+abbrev pub OnlyPlane : Limits → Memory → List (Option ElementNumber) → CutReply × Memory → Outcome HyperplaneNumber → Type 0
+OnlyPlane L m vs r (refused n) = (cutNumber (r .0) ≡ n) × (r .1 ≡ m)
+OnlyPlane L m vs r (done n t) = Gives r vs (encode L t)
 
--- a missed piece is its old entry: all corners Inside and inside kept, the answer is the root, none, none; the same for Outside
+-- the divider of a call, as a hyperplane of the table
+abbrev pub dividerIn : Limits → Memory → Hyperplane → Plane
+dividerIn L m h = dividerOf (decode L m .dimension) h
+
+-- a missed piece is its old entry: all corners Inside and inside kept, the values are the root, none, none; the same for Outside
 abbrev pub MissedPiece : Limits → Type 0
 MissedPiece L = (h : Hyperplane) (root : ElementNumber) (m : Memory) → Passes L h root m → Finite (h .distance)
-    → (AllOn Inside (dividerOf (decode L m .dimension) h) (decode L m) root
-    → (o : Bool) → cutReply L h true o root m ≡ onlyPlane L h m (NonFlush (given root) None None))
-    × (AllOn Outside (dividerOf (decode L m .dimension) h) (decode L m) root
-    → (i : Bool) → cutReply L h i true root m ≡ onlyPlane L h m (NonFlush None (given root) None))
+    → (AllOn Inside (dividerIn L m h) (decode L m) root
+    → (o : Bool) → OnlyPlane L m (some root ∷ none ∷ none ∷ []) (cutReply L h true o root m) (addPlane L (dividerIn L m h) (decode L m)))
+    × (AllOn Outside (dividerIn L m h) (decode L m) root
+    → (i : Bool) → OnlyPlane L m (none ∷ some root ∷ none ∷ []) (cutReply L h i true root m) (addPlane L (dividerIn L m h) (decode L m)))
 
 -- an infinite distance answers the root, as inside for + and as outside for -, and leaves the memory as it is
 abbrev pub InfiniteDistance : Limits → Type 0
 InfiniteDistance L = (h : Hyperplane) (i o : Bool) (root : ElementNumber) (m : Memory) → Passes L h root m
-    → (h .distance ≡ inf false → cutReply L h i o root m ≡ (Answered (NonFlush (given root) None None), m))
-    × (h .distance ≡ inf true → cutReply L h i o root m ≡ (Answered (NonFlush None (given root) None), m))
+    → (h .distance ≡ inf false → Gives (cutReply L h i o root m) (some root ∷ none ∷ none ∷ []) m)
+    × (h .distance ≡ inf true → Gives (cutReply L h i o root m) (none ∷ some root ∷ none ∷ []) m)
 
 -- ---- memory and room
 
@@ -224,15 +190,9 @@ abbrev pub ReadBack : Limits → Type 0
 ReadBack L = ((t : Table) → sound L t ≡ true → (soundMemory L (encode L t) ≡ true) × (decode L (encode L t) ≡ t))
     × ((m : Memory) → soundMemory L m ≡ true → encode L (decode L m) ≡ m)
 
--- what a room does not refuse, a roomier one answers alike; and what is sound in the one is sound in the other
-abbrev pub RoomierAlike : Limits → Type 0
-RoomierAlike L = (M : Limits) → Roomier L M
-    → ((h : Plane) (i o : Bool) (root : ElementNumber) (t t′ : Table) (a : ElementCutOutput) → cut L h i o root t ≡ done a t′ → cut M h i o root t ≡ done a t′)
-    × ((t : Table) → sound L t ≡ true → sound M t ≡ true)
-
 -- ---- beside the definitions
 
--- an element of the first n, or none; and so each of an answer's three places
+-- an element of the first n, or none; and so each of an answer's three places, as contracts say it
 abbrev pub OneBelow : ℕ → ElementOrNone → Type 0
 OneBelow n None = Unit {0}
 OneBelow n (Some e) = e .0 < n
@@ -241,18 +201,36 @@ abbrev pub NamesBelow : ℕ → ElementCutOutput → Type 0
 NamesBelow n Flush = Unit {0}
 NamesBelow n (NonFlush i o x) = OneBelow n i × OneBelow n o × OneBelow n x
 
--- the elements of an answer are in use in the memory after it
+-- the elements that a cut's values name are in use in the memory after it
 abbrev pub AnswersAreInUse : Limits → Type 0
-AnswersAreInUse L = (h : Hyperplane) (i o : Bool) (root : ElementNumber) (m : Memory) (a : ElementCutOutput) (m′ : Memory)
-    → cutReply L h i o root m ≡ (Answered a, m′) → NamesBelow (getD (m′ .counts) 1 0) a
+AnswersAreInUse L = (h : Hyperplane) (i o : Bool) (root : ElementNumber) (m : Memory) (k : ℕ) (e : ElementNumber)
+    → getD (cutValues (cutReply L h i o root m .0)) k none ≡ some e → e < getD (cutReply L h i o root m .1 .counts) 1 0
 
--- a crossing never lies outside the box of its edge: a clamped coordinate lies from the lesser end to the greater, whatever was clamped
+-- x lies from the lesser of a and b to the greater
 pub record Between (a b x : Float) : Type 0 where
   pub above : (le a x || le b x) ≡ true
   pub under : (le x a || le x b) ≡ true
 
-abbrev pub InTheBox : Type 0
-InTheBox = (a b x : Float) → isNan a ≡ false → isNan b ≡ false → Between a b (clamp a b x)
+-- the point x lies in the box of p and q: on every axis between them
+pub record InBox (p q x : List Float) : Type 0 where
+  pub axes : length x ≡ length p
+  pub between : (k : ℕ) → k < length p → Between (getD p k plusZero) (getD q k plusZero) (getD x k plusZero)
+
+-- two points of one dimension, with no NaN: the ends of an edge
+pub record EndsOfEdge (p q : List Float) : Type 0 where
+  pub axes : length q ≡ length p
+  pub first : all (λ x. not (isNan x)) p ≡ true
+  pub second : all (λ x. not (isNan x)) q ≡ true
+
+-- the point of an edge's end
+abbrev pub endAt : Table → ElementNumber → ℕ → List Float
+endAt t e n = pointAt t (border t e n)
+
+-- a crossing never lies outside the box of its edge, whatever its t; an edge of a sound table has ends of which this holds; and whatever is clamped lies between
+pub record InTheBox (L : Limits) : Type 0 where
+  pub crossing : (p q : List Float) → EndsOfEdge p q → (t : Float) → InBox p q (crossingPoint t p q)
+  pub edge : (t : Table) → sound L t ≡ true → (e : ElementNumber) → e < elementCount t → rank t e ≡ 1 → EndsOfEdge (endAt t e 0) (endAt t e 1)
+  pub coordinate : (a b x : Float) → isNan a ≡ false → isNan b ≡ false → Between a b (clamp a b x)
 
 -- x is e, or is reached from a boundary element of e
 pub data Reaches (t : Table) : ElementNumber → ElementNumber → Type 0 where
@@ -294,7 +272,7 @@ isCommon t es x = all (λ e. isBelow t e x) es
 -- members are common, of one rank, and all of it; no common element has a higher rank; where there are none, that rank is 0
 pub record Greatest (t : Table) (es xs : List ElementNumber) : Type 0 where
   pub level : ℕ
-  pub members : (x : ElementNumber) → member x xs ≡ true → (x < elementCount t) × (rank t x ≡ level) × (isCommon t es x ≡ true)
+  pub common : (x : ElementNumber) → member x xs ≡ true → (x < elementCount t) × (rank t x ≡ level) × (isCommon t es x ≡ true)
   pub whole : (x : ElementNumber) → x < elementCount t → 0 < rank t x → rank t x ≡ level → isCommon t es x ≡ true → member x xs ≡ true
   pub highest : (x : ElementNumber) → x < elementCount t → level < rank t x → isCommon t es x ≡ true → ⊥
 
@@ -338,8 +316,8 @@ WalkGoesRound L = (t : Table) → sound L t ≡ true → (f : ElementNumber) (ps
 
 -- always no in one dimension
 abbrev pub NoFacetInOneDimension : Limits → Type 0
-NoFacetInOneDimension L = (t : Table) → sound L t ≡ true → t .dimension ≡ 1 → (e : ElementNumber) → e < elementCount t → rank t e ≡ 1
-    → primordialFacet t e ≡ answer false
+NoFacetInOneDimension L = (m : Memory) → soundMemory L m ≡ true → decode L m .dimension ≡ 1
+    → (e : ElementNumber) → e < elementCount (decode L m) → rank (decode L m) e ≡ 1 → facetValue (primordialFacetReply L m e) ≡ some false
 
 -- ---- all of it
 
@@ -366,7 +344,7 @@ pub record Promises (L : Limits) : Type 0 where
   pub infinite-distance : InfiniteDistance L
   pub read-back : ReadBack L
   pub roomier-alike : RoomierAlike L
-  pub in-the-box : InTheBox
+  pub in-the-box : InTheBox L
   pub answers-are-in-use : AnswersAreInUse L
   pub sub-elements-are-reached : SubElementsAreReached L
   pub sub-elements-are-least : SubElementsAreLeast L

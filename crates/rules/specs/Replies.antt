@@ -15,8 +15,6 @@ use Rattle.rules.specs.Cube.{cube, radiusFits}
 use Rattle.rules.specs.Cut.{Outcome, refused, done, cut}
 use Rattle.rules.specs.Questions.{Asked, no-answer, answer, subElements, withRank, vertexSet, greatestCommon, edgesInOrder, primordialFacet}
 use Rattle.rules.specs.declared.Hyperplane.{Hyperplane}
-use Rattle.rules.specs.declared.Side.{Side}
-use Rattle.rules.specs.declared.Side.the-variants.{Inside, On, Outside}
 use Rattle.rules.specs.declared.Crossing.{Crossing}
 use Rattle.rules.specs.declared.Crossing.the-variants.{None as NoCrossing, At}
 use Rattle.rules.specs.declared.ElementOrNone.{ElementOrNone}
@@ -74,12 +72,6 @@ facetValue (Has b) = some b
 abbrev pub crossingValue : Crossing → Option Float
 crossingValue NoCrossing = none
 crossingValue (At t) = some t
-
--- as the session counts sides: 1 inside, 2 outside, and 0 for neither
-abbrev pub sideValue : Side → ℕ
-sideValue Inside = 1
-sideValue On = 0
-sideValue Outside = 2
 
 -- ---- whether a memory is sound: 0 or 3
 

@@ -92,8 +92,9 @@ blank L = record {
   elements = replicate (L .elements * elementWidth L) 0;
 }
 
-abbrev pub countsOf : Memory → List ℕ
-countsOf m = drop 1 (m .counts)
+-- elements, vertices, hyperplanes
+abbrev pub tableCounts : Memory → List ℕ
+tableCounts m = drop 1 (m .counts)
 
 -- 43 55, dimension (1 byte), radius (8)
 abbrev pub isCube : List ℕ → Bool
@@ -123,7 +124,7 @@ cutAsked L m bs =
 
 -- a refused cube leaves the memory, and keeps the table before it
 abbrev pub cubeTurn : Bool → ℕ × Memory → Turn
-cubeTurn stands (zero, m) = taken 11 (cubeLine (countsOf m)) true m
+cubeTurn stands (zero, m) = taken 11 (cubeLine (tableCounts m)) true m
 cubeTurn stands (suc n, m) = taken 11 (refusedLine (suc n)) stands m
 
 abbrev pub cutText : CutReply → List ℕ → Line
@@ -132,7 +133,7 @@ cutText (Answered Flush) ns = flushLine ns
 cutText (Answered (NonFlush i o x)) ns = cutLine i o x ns
 
 abbrev pub cutTurn : ℕ → CutReply × Memory → Turn
-cutTurn d (r, m) = taken (cutLength d) (cutText r (countsOf m)) true m
+cutTurn d (r, m) = taken (cutLength d) (cutText r (tableCounts m)) true m
 
 -- another mark, a short record, a kept byte above 3, or a cut with no table is bad
 unfoldable pub turn : Limits → Bool → Memory → List ℕ → Turn

@@ -40,6 +40,14 @@ pub enum PolytopeFate {
     Keep,
 }
 
+// The divider as given, its hyperplane's number, and which sides are kept.
+pub struct Cutter {
+    pub divider: Hyperplane,
+    pub number: HyperplaneId,
+    pub keep_inside: bool,
+    pub keep_outside: bool,
+}
+
 // What a cut of an element gives.
 pub enum ElementCutOutput {
     Flush,

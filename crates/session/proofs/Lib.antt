@@ -4,3 +4,5 @@ pub mod Puts
 pub mod Records
 pub mod Turns
 pub mod Enough
+pub mod Lines
+pub mod Promises

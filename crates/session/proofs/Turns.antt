@@ -86,8 +86,9 @@ same-divider h g i o root m true t f = ap (λ (x : Hyperplane). cutReply desk x 
 same-divider h g i o root m false t f = let l = not-le (getD (m .counts) 0 0) 4 t in too-many h i o root m l ∙ sym (too-many g i o root m l)
 
 module _ (bs room room′ : List ℕ) (m m′ : Memory) (r : CutReply) (h : Hyperplane) (i o : Bool) (d root kept line : ℕ) where
-  pub cut-taken : (r, m′) ≡ cutReply desk h i o root m → d ≡ getD (m .counts) 0 0 → (d ≤ 4 → h ≡ dividerAt desk d bs) → kept ≡ numberAt 1 2 bs → i ≡ eqb (kept % 2) 1 → o ≡ eqb (kept / 2) 1 → root ≡ numberAt 2 3 bs →
-      Put room 0 (text (cutText r (drop 1 (m′ .counts)))) line room′ → (Taken (13 + 8 * d) line true, m′, room′) ≡ replyOf m room (cutTurn (getD (m .counts) 0 0) (cutAsked desk m bs))
+  pub cut-taken : (r, m′) ≡ cutReply desk h i o root m → d ≡ getD (m .counts) 0 0 → (d ≤ 4 → h ≡ dividerAt desk d bs) → kept ≡ numberAt 1 2 bs → i ≡ eqb (kept % 2) 1
+      → o ≡ eqb (kept / 2) 1 → root ≡ numberAt 2 3 bs → Put room 0 (text (cutText r (drop 1 (m′ .counts)))) line room′
+      → (Taken (13 + 8 * d) line true, m′, room′) ≡ replyOf m room (cutTurn (getD (m .counts) 0 0) (cutAsked desk m bs))
   cut-taken e ed eh ek ei eo er p =
       (λ j. (Taken (long j) (line-length p j) true, m′, p .room j))
       ∙ ap (λ (x : CutReply × Memory). replyOf m room (cutTurn (getD (m .counts) 0 0) x)) (e ∙ same-divider h (dividerAt desk (getD (m .counts) 0 0) bs) i o root m (leb (getD (m .counts) 0 0) 4) refl divider ∙ sides)

@@ -1,2 +1,3 @@
--- What the contracts of this crate cite beside the rules.
+-- What the contracts of this crate cite beside the rules, and what is promised of a turn.
 pub mod Written
+pub mod Promises

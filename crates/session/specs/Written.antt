@@ -2,6 +2,7 @@
 use Prim.Native.Nat.{ℕ, _+_}
 use mathlib.Core.Bool.{Bool}
 use mathlib.Core.Path.{_≡_}
+use mathlib.Core.Option.{Option, none, some}
 use mathlib.Core.List.{List}
 use lib.Dec.{ltb}
 use lib.ListN.{length}
@@ -34,6 +35,18 @@ LineFits (Answered a) counts = NamesBelow 512 a × (length counts ≡ 4)
 abbrev pub replyOf : Memory → List ℕ → Turn → TurnReply × Memory × List ℕ
 replyOf m room bad = (Bad, m, room)
 replyOf m room (taken k line stands after) = (Taken k (length (text line)) stands, after, sets room 0 (text line))
+
+-- document 01's values of a turn that is taken: the record's length, its line's length, and whether a table stands then; no other turn has any
+abbrev pub turnValues : TurnReply → Option (ℕ × ℕ × Bool)
+turnValues NoRoom = none
+turnValues Bad = none
+turnValues (Taken k n stands) = some (k, n, stands)
+
+-- its number: 0 is taken, 12 too little room; a bad record has no number, only its line
+abbrev pub turnNumber : TurnReply → Option ℕ
+turnNumber NoRoom = some 12
+turnNumber Bad = none
+turnNumber (Taken k n stands) = some 0
 
 -- a record's turn; in too little room nothing is done
 unfoldable pub turnReply : Bool → Memory → List ℕ → List ℕ → TurnReply × Memory × List ℕ

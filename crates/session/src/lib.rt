@@ -36,7 +36,8 @@ pub fn turn(
     elements: &mut [u16],
     room: &mut [u8],
 ) -> TurnReply
-    ensures { λ r. ⌜ (r, memoryOf (now (counts .exit)) (now (points .exit)) (now (planes .exit)) (now (elements .exit)), now (room .exit)) ≡ turnReply stands (memoryOf (now (counts .entry)) (now (points .entry)) (now (planes .entry)) (now (elements .entry))) (now (input .entry)) (now (room .entry)) ⌝ }
+    ensures { λ r. ⌜ (r, memoryOf (now (counts .exit)) (now (points .exit)) (now (planes .exit)) (now (elements .exit)), now (room .exit))
+        ≡ turnReply stands (memoryOf (now (counts .entry)) (now (points .entry)) (now (planes .entry)) (now (elements .entry))) (now (input .entry)) (now (room .entry)) ⌝ }
 {
     if room.len() < LINE_ROOM {
         return TurnReply::NoRoom;

@@ -113,7 +113,9 @@ pub fn cube_turn(
 ) -> TurnReply
     requires { ⌜ isCube (now input) ≡ true ⌝ }
     requires { ⌜ lineRoom ≤ length (now room) ⌝ }
-    ensures { λ r. ⌜ (r, memoryOf (now (counts .exit)) (now (points .exit)) (now (planes .exit)) (now (elements .exit)), now (room .exit)) ≡ replyOf (memoryOf (now (counts .entry)) (now (points .entry)) (now (planes .entry)) (now (elements .entry))) (now (room .entry)) (cubeTurn stands (cubeAsked desk (memoryOf (now (counts .entry)) (now (points .entry)) (now (planes .entry)) (now (elements .entry))) (now (input .entry)))) ⌝ }
+    ensures { λ r. ⌜ (r, memoryOf (now (counts .exit)) (now (points .exit)) (now (planes .exit)) (now (elements .exit)), now (room .exit))
+        ≡ replyOf (memoryOf (now (counts .entry)) (now (points .entry)) (now (planes .entry)) (now (elements .entry))) (now (room .entry))
+        (cubeTurn stands (cubeAsked desk (memoryOf (now (counts .entry)) (now (points .entry)) (now (planes .entry)) (now (elements .entry))) (now (input .entry)))) ⌝ }
 {
     let d = read::one(input, 2);
     let radius = read::float(input, 3);
@@ -172,7 +174,9 @@ pub fn cut_turn(
 ) -> TurnReply
     requires { ⌜ isCut (getD (now counts) 0 0) (now input) ≡ true ⌝ }
     requires { ⌜ lineRoom ≤ length (now room) ⌝ }
-    ensures { λ r. ⌜ (r, memoryOf (now (counts .exit)) (now (points .exit)) (now (planes .exit)) (now (elements .exit)), now (room .exit)) ≡ replyOf (memoryOf (now (counts .entry)) (now (points .entry)) (now (planes .entry)) (now (elements .entry))) (now (room .entry)) (cutTurn (getD (now (counts .entry)) 0 0) (cutAsked desk (memoryOf (now (counts .entry)) (now (points .entry)) (now (planes .entry)) (now (elements .entry))) (now (input .entry)))) ⌝ }
+    ensures { λ r. ⌜ (r, memoryOf (now (counts .exit)) (now (points .exit)) (now (planes .exit)) (now (elements .exit)), now (room .exit))
+        ≡ replyOf (memoryOf (now (counts .entry)) (now (points .entry)) (now (planes .entry)) (now (elements .entry))) (now (room .entry))
+        (cutTurn (getD (now (counts .entry)) 0 0) (cutAsked desk (memoryOf (now (counts .entry)) (now (points .entry)) (now (planes .entry)) (now (elements .entry))) (now (input .entry)))) ⌝ }
 {
     let d = dimension_of(counts);
     let divider = divider_at(input, d);

@@ -11,9 +11,9 @@ use lib.ListN.{length, getD, take, drop, drop-of-length-le}
 use lib.Seq.{getD-take, length-take-le, drop-cons}
 use Rattle.rules.specs.Limits.{desk}
 use Rattle.rules.specs.Lists.{all, rises}
-use Rattle.rules.proofs.Laws.{and-left, and-right, test-le}
+use Rattle.rules.proofs.Laws.{and-left, and-right, test-le, and-when}
 use Rattle.soundness.specs.Words.{numberFits, numbersFit}
-use Rattle.soundness.proofs.ReadBack.{and-assoc, and-when}
+use Rattle.soundness.proofs.ReadBack.{and-assoc}
 use borrow.Author.Tests.{ltb-true, lt-ltb}
 
 -- each above the one before it is enough

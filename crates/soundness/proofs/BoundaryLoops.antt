@@ -15,7 +15,7 @@ use Rattle.rules.proofs.Borders.{rise-at}
 use Rattle.rules.proofs.Growing.{all-get}
 use Rattle.space.specs.Closed.{closedRaw, metTwice, ringRaw, few, EndsLow}
 use Rattle.space.proofs.TwiceMet.{closed-one, closed-few, closed-many, closed-other}
-use Rattle.soundness.specs.Words.{facetWords, headWords, elementSound, numberFits, numbersFit, fewWords, faceWords, boundaryWords, boundaryIn, EdgesLow}
+use Rattle.soundness.specs.Words.{facetWords, headWords, elementSound, numberFits, numbersFit, fewWords, faceWords, boundarySound, boundaryIn, EdgesLow}
 use Rattle.soundness.proofs.ReadBack.{and-one, and-zero}
 use Rattle.soundness.proofs.RowLoops.{head-few, drop-take, row-first, row-word}
 use borrow.Author.Tests.{ltb-true, lt-ltb}
@@ -25,8 +25,8 @@ unfolding facetWords
 facet-are d h r p m a b c e w x y z = sym (λ i. if w i then x i else (y i && z i))
 
 -- an entry of a tested list
-pub all-at : (p : ℕ → Bool) (l : List ℕ) (from to i : ℕ) → to ≤ length l → all p (drop from (take to l)) ≡ true → from ≤ i → i < to → p (getD l i 0) ≡ true
-all-at p l from to i fit h a b =
+all-between : (p : ℕ → Bool) (l : List ℕ) (from to i : ℕ) → to ≤ length l → all p (drop from (take to l)) ≡ true → from ≤ i → i < to → p (getD l i 0) ≡ true
+all-between p l from to i fit h a b =
     subst (λ (x : ℕ). p x ≡ true) (getD-take to l i 0 b) (go (take to l) from i h a (let e = length-take-le to l fit in let q : i < length (take to l) = omega (arith, e, b) in q))
   where
     go : (k : List ℕ) (f i : ℕ) → all p (drop f k) ≡ true → f ≤ i → i < length k → p (getD k i 0) ≡ true
@@ -53,21 +53,21 @@ module _ (es : List ℕ) (e d h r : ℕ) (er : r ≡ getD es (e * 36) 0) where
 
   -- by whether it is a vertex
   abbrev byKind : Bool → Bool
-  byKind c = if c then true else (leb (getD row 0 0) d && boundaryWords desk es d e (getD row 0 0) (boundaryIn row) && facetWords d h (getD row 0 0) (getD row 2 0) (getD row 1 0))
+  byKind c = if c then true else (leb (getD row 0 0) d && boundarySound desk es d e (getD row 0 0) (boundaryIn row) && facetWords d h (getD row 0 0) (getD row 2 0) (getD row 1 0))
 
   pub element-zero : r ≡ 0 → elementSound desk es d h e row ≡ true
   unfolding elementSound
   element-zero z = ap byKind (test-eq (getD row 0 0) 0 (row-first (e * 36) es ∙ sym er ∙ z))
 
   pub element-more : (p m : ℕ) → p ≡ getD es (e * 36 + 2) 0 → m ≡ getD es (e * 36 + 1) 0 → (r ≡ 0 → ⊥)
-      → elementSound desk es d h e row ≡ (leb r d && boundaryWords desk es d e r (boundaryIn row) && facetWords d h r p m)
+      → elementSound desk es d h e row ≡ (leb r d && boundarySound desk es d e r (boundaryIn row) && facetWords d h r p m)
   unfolding elementSound
   element-more p m ep em z =
       let first = row-first (e * 36) es ∙ sym er in
       let second = row-word (e * 36) 1 es (lit≤ tt) ∙ sym em in
       let third = row-word (e * 36) 2 es (lit≤ tt) ∙ sym ep in
       ap byKind (not-eq (getD row 0 0) 0 (λ q. z (sym first ∙ q)))
-      ∙ (λ i. leb (first i) d && boundaryWords desk es d e (first i) (boundaryIn row) && facetWords d h (first i) (third i) (second i))
+      ∙ (λ i. leb (first i) d && boundarySound desk es d e (first i) (boundaryIn row) && facetWords d h (first i) (third i) (second i))
 
 -- ---- a boundary, test by test
 
@@ -82,8 +82,8 @@ module _ (es : List ℕ) (at n d e r : ℕ) (s : length es ≡ 18432) (f : at + 
       let q : length there ≡ n = omega (arith, k, j) in q
 
   boundary-are : (G R A K C : Bool) → ltb r n ≡ G → rises there ≡ R → all (λ x. ltb x e) there ≡ A → all (λ x. eqb (suc (getD es (x * 36) 0)) r) there ≡ K → closedRaw d es r there ≡ C
-      → (G && R && A && K && C) ≡ boundaryWords desk es d e r there
-  unfolding boundaryWords
+      → (G && R && A && K && C) ≡ boundarySound desk es d e r there
+  unfolding boundarySound
   boundary-are G R A K C p₁ p₂ p₃ p₄ p₅ = shuffle G R A K C ∙ sym ((λ i. p₂ i && p₃ i && p₄ i && ltb r (boundary-long i) && p₅ i) ∙ ap (λ (g : Bool). R && A && K && g && C) p₁)
     where
       shuffle : (G R A K C : Bool) → (G && R && A && K && C) ≡ (R && A && K && G && C)
@@ -96,7 +96,7 @@ module _ (es : List ℕ) (at n d e r : ℕ) (s : length es ≡ 18432) (f : at + 
       shuffle true false A K C = refl
       shuffle false false A K C = refl
 
-  pub boundary-by : (G F C : Bool) → ltb r n ≡ G → numbersFit desk es e r there ≡ F → closedRaw d es r there ≡ C → (G && F && C) ≡ boundaryWords desk es d e r there
+  pub boundary-by : (G F C : Bool) → ltb r n ≡ G → numbersFit desk es e r there ≡ F → closedRaw d es r there ≡ C → (G && F && C) ≡ boundarySound desk es d e r there
   boundary-by G F C p q c = ap (λ (b : Bool). G && b && C) (sym q) ∙ regroup G (rises there) (all (λ x. ltb x e) there) (all (λ x. eqb (suc (getD es (x * 36) 0)) r) there) C
       ∙ boundary-are G _ _ _ C p refl refl refl c
     where
@@ -105,25 +105,25 @@ module _ (es : List ℕ) (at n d e r : ℕ) (s : length es ≡ 18432) (f : at + 
       regroup false R A K C = refl
 
   -- an edge's is closed by its count, and a body's always
-  pub boundary-edge : {x : Bool} → r ≡ 1 → n ≡ 2 → x ≡ numbersFit desk es e 1 (drop at (take (at + 2) es)) → x ≡ boundaryWords desk es d e r there
+  pub boundary-edge : {x : Bool} → r ≡ 1 → n ≡ 2 → x ≡ numbersFit desk es e 1 (drop at (take (at + 2) es)) → x ≡ boundarySound desk es d e r there
   boundary-edge one two q =
       q ∙ (λ i. numbersFit desk es e (sym one i) (drop at (take (at + sym two i) es))) ∙ sym (and-one (numbersFit desk es e r there))
       ∙ boundary-by true _ true (lt-ltb r n (let z : r < n = omega (arith, one, two) in z)) refl (sym (closed-one d es there r n boundary-long one) ∙ test-eq n 2 two)
 
-  pub boundary-open : r ≡ 1 → (n ≡ 2 → ⊥) → false ≡ boundaryWords desk es d e r there
+  pub boundary-open : r ≡ 1 → (n ≡ 2 → ⊥) → false ≡ boundarySound desk es d e r there
   boundary-open one more =
       sym (and-zero (ltb r n && numbersFit desk es e r there)) ∙ boundary-by _ _ false refl refl (sym (closed-one d es there r n boundary-long one) ∙ not-eq n 2 more)
 
-  pub boundary-body : {x : Bool} → (r ≡ 1 → ⊥) → (r ≡ 2 → ⊥) → ltb r n ≡ true → x ≡ numbersFit desk es e r there → x ≡ boundaryWords desk es d e r there
+  pub boundary-body : {x : Bool} → (r ≡ 1 → ⊥) → (r ≡ 2 → ⊥) → ltb r n ≡ true → x ≡ numbersFit desk es e r there → x ≡ boundarySound desk es d e r there
   boundary-body no-edge no-face g q = q ∙ sym (and-one (numbersFit desk es e r there)) ∙ boundary-by true _ true g refl (sym (closed-other d es there r no-edge no-face))
 
   -- a face's, both at once
-  pub boundary-few : {x : Bool} → r ≡ 2 → ltb r n ≡ true → n ≤ few d → x ≡ fewWords desk es e there → x ≡ boundaryWords desk es d e r there
+  pub boundary-few : {x : Bool} → r ≡ 2 → ltb r n ≡ true → n ≤ few d → x ≡ fewWords desk es e there → x ≡ boundarySound desk es d e r there
   boundary-few two g l q =
       q ∙ ap (λ (k : ℕ). numbersFit desk es e k there && metTwice es there) (sym two)
       ∙ boundary-by true _ _ g refl (sym (closed-few d es there r refl (let m = boundary-long in let z : length there ≤ few d = omega (arith, m, l) in z) two))
 
-  pub boundary-face : {x : Bool} → r ≡ 2 → ltb r n ≡ true → few d < n → x ≡ faceWords desk es e there → x ≡ boundaryWords desk es d e r there
+  pub boundary-face : {x : Bool} → r ≡ 2 → ltb r n ≡ true → few d < n → x ≡ faceWords desk es e there → x ≡ boundarySound desk es d e r there
   boundary-face two g l q =
       q ∙ ap (λ (k : ℕ). numbersFit desk es e k there && ringRaw es there) (sym two)
       ∙ boundary-by true _ _ g refl (sym (closed-many d es there r refl (let m = boundary-long in let z : few d < length there = omega (arith, m, l) in z) two))
@@ -170,11 +170,11 @@ module _ (es : List ℕ) (e d h : ℕ) (s : length es ≡ 18432) (u : e < 512) (
     size-fits : size ≤ 32
     size-fits = head-few (e * 36) es w
 
-    tested : boundaryWords desk es d e (getD es (e * 36) 0) bound ≡ true
+    tested : boundarySound desk es d e (getD es (e * 36) 0) bound ≡ true
     tested =
         let F = facetWords d h (getD es (e * 36) 0) (getD es (e * 36 + 2) 0) (getD es (e * 36 + 1) 0) in
-        let B = boundaryWords desk es d e (getD es (e * 36) 0) (boundaryIn (take 36 (drop (e * 36) es))) in
-        ap (boundaryWords desk es d e (getD es (e * 36) 0)) (sym (bound-is es (e * 36) size refl size-fits))
+        let B = boundarySound desk es d e (getD es (e * 36) 0) (boundaryIn (take 36 (drop (e * 36) es))) in
+        ap (boundarySound desk es d e (getD es (e * 36) 0)) (sym (bound-is es (e * 36) size refl size-fits))
         ∙ and-right (leb (getD es (e * 36) 0) d) B (and-left (leb (getD es (e * 36) 0) d && B) F (sym (element-more es e d h _ refl _ _ refl refl some) ∙ S))
 
     parts : (ltb (getD es (e * 36) 0) size && rises bound && all (λ x. ltb x e) bound) ≡ true
@@ -195,7 +195,7 @@ module _ (es : List ℕ) (e d h : ℕ) (s : length es ≡ 18432) (u : e < 512) (
     end-low : (j : ℕ) → e * 36 + 4 ≤ j → j < e * 36 + 4 + size → getD es j 0 < 512
     end-low j a b =
         let f = size-fits in
-        let l = ltb-true (getD es j 0) e (all-at (λ x. ltb x e) es (e * 36 + 4) (e * 36 + 4 + size) j (let q : e * 36 + 4 + size ≤ length es = omega (arith, f, u, s) in q)
+        let l = ltb-true (getD es j 0) e (all-between (λ x. ltb x e) es (e * 36 + 4) (e * 36 + 4 + size) j (let q : e * 36 + 4 + size ≤ length es = omega (arith, f, u, s) in q)
         (and-right (ltb (getD es (e * 36) 0) size && rises bound) (all (λ x. ltb x e) bound) parts) a b) in
         let q : getD es j 0 < 512 = omega (arith, l, u) in q
 

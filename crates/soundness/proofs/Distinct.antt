@@ -11,7 +11,7 @@ use lib.ListN.{take, drop}
 use lib.Seq.{drop-drop}
 use Rattle.rules.specs.Limits.{desk}
 use Rattle.rules.specs.Lists.{if_then_else_, alike, any, distinct, find, findFrom, rows}
-use Rattle.space.specs.Chains.{rowAt}
+use Rattle.space.specs.Chains.{storedRow}
 use Rattle.soundness.specs.Words.{rowNew, rowsDistinct}
 use Rattle.soundness.proofs.ReadBack.{and-zero}
 
@@ -56,7 +56,7 @@ module _ {A : Type 0} where
 
 -- ---- rows
 
-rows-last : (i : ℕ) (es : List ℕ) → rows (suc i) 36 es ≡ rows i 36 es ++ rowAt es i ∷ []
+rows-last : (i : ℕ) (es : List ℕ) → rows (suc i) 36 es ≡ rows i 36 es ++ storedRow es i ∷ []
 rows-last zero es = refl
 rows-last (suc i) es =
     ap (λ (l : List (List ℕ)). take 36 es ∷ l)
@@ -66,17 +66,17 @@ module _ (es : List ℕ) where
   abbrev pub apart : ℕ → Bool
   apart i = distinct (alike eqb) (rows i 36 es)
 
-  one-more : (i : ℕ) → apart (suc i) ≡ (apart i && not (any (alike eqb (rowAt es i)) (rows i 36 es)))
-  one-more i = ap (distinct (alike eqb)) (rows-last i es) ∙ distinct-last (alike eqb) (rows i 36 es) (rowAt es i)
+  one-more : (i : ℕ) → apart (suc i) ≡ (apart i && not (any (alike eqb (storedRow es i)) (rows i 36 es)))
+  one-more i = ap (distinct (alike eqb)) (rows-last i es) ∙ distinct-last (alike eqb) (rows i 36 es) (storedRow es i)
 
   -- a row that is found among the earlier ones, and one that is not
-  pub row-met : (i j : ℕ) → some j ≡ find (alike eqb (rowAt es i)) (rows i 36 es) → false ≡ rowNew es i
+  pub row-met : (i j : ℕ) → some j ≡ find (alike eqb (storedRow es i)) (rows i 36 es) → false ≡ rowNew es i
   unfolding rowNew
-  row-met i j f = ap not (sym (some-any (alike eqb (rowAt es i)) 0 j (rows i 36 es) (sym f)))
+  row-met i j f = ap not (sym (some-any (alike eqb (storedRow es i)) 0 j (rows i 36 es) (sym f)))
 
-  pub row-unmet : (i : ℕ) → none ≡ find (alike eqb (rowAt es i)) (rows i 36 es) → true ≡ rowNew es i
+  pub row-unmet : (i : ℕ) → none ≡ find (alike eqb (storedRow es i)) (rows i 36 es) → true ≡ rowNew es i
   unfolding rowNew
-  row-unmet i f = ap not (sym (none-any (alike eqb (rowAt es i)) 0 (rows i 36 es) (sym f)))
+  row-unmet i f = ap not (sym (none-any (alike eqb (storedRow es i)) 0 (rows i 36 es) (sym f)))
 
   one-new : (i : ℕ) → apart (suc i) ≡ (apart i && rowNew es i)
   unfolding rowNew
@@ -88,7 +88,7 @@ module _ (es : List ℕ) where
   stays-false : (d i : ℕ) → apart i ≡ false → apart (i + d) ≡ false
   stays-false zero i a = ap apart (let q : i + 0 ≡ i = omega arith in q) ∙ a
   stays-false (suc d) i a =
-      ap apart (let q : i + suc d ≡ suc (i + d) = omega arith in q) ∙ one-more (i + d) ∙ ap (λ (b : Bool). b && not (any (alike eqb (rowAt es (i + d))) (rows (i + d) 36 es))) (stays-false d i a)
+      ap apart (let q : i + suc d ≡ suc (i + d) = omega arith in q) ∙ one-more (i + d) ∙ ap (λ (b : Bool). b && not (any (alike eqb (storedRow es (i + d))) (rows (i + d) 36 es))) (stays-false d i a)
 
   pub apart-no : (n i : ℕ) → i < n → rowNew es i ≡ false → apart n ≡ false
   apart-no n i l f =

@@ -1,34 +1,17 @@
 -- The loop over elements, and the whole test, each answer read off the tests that were taken.
-use Prim.Native.Nat.{ℕ, _*_, _≤_}
+use Prim.Native.Nat.{ℕ, _*_}
 use mathlib.Core.Bool.{Bool, true, _&&_, false}
 use mathlib.Core.List.{List}
 use mathlib.Core.Path.{_≡_, sym, _∙_, refl}
-use lib.Dec.{leb}
 use lib.Ieee.{Float}
 use lib.ListN.{getD, drop}
 use Rattle.rules.specs.Limits.{desk}
 use Rattle.rules.specs.Lists.{all, rows}
 use Rattle.rules.specs.Memory.{soundMemory, rightSize}
-use Rattle.rules.specs.Table.{primordials}
-use Rattle.rules.proofs.Laws.{and-left, and-right, le-test}
 use Rattle.rules.specs.Held.{memoryOf}
-use Rattle.soundness.specs.Words.{recordsSound, recordWords, blank, elementsSound, rowsInUse, countsFit, pointsSound, planesSound, floatsSound, cornersSound, rowsDistinct, rowsSound, wordsSound}
+use Rattle.soundness.specs.Words.{recordsSound, recordWords, blankWords, elementsSound, rowsInUse, countsFit, pointsSound, planesSound, floatsSound, cornersSound, rowsDistinct, rowsSound, wordsSound}
 use Rattle.soundness.proofs.ReadBack.{and-one, and-zero}
 use Rattle.soundness.proofs.SoundWhole.{words-memory}
-
-pub fit-counts : (d n v h : ℕ) → countsFit desk d n v h ≡ true → (d ≤ 4) × (v ≤ 256) × (n ≤ 512) × (h ≤ 64)
-unfolding countsFit
-fit-counts d n v h k =
-    let a = leb 1 d in
-    let b = leb d 4 in
-    let c = leb v 256 in
-    let e = leb n 512 in
-    let f = leb h 64 in
-    let k₁ = and-left (a && b && c && e && f) (leb (primordials d) h) k in
-    let k₂ = and-left (a && b && c && e) f k₁ in
-    let k₃ = and-left (a && b && c) e k₂ in
-    let k₄ = and-left (a && b) c k₃ in
-    (le-test d 4 (and-right a b k₄), le-test v 256 (and-right (a && b) c k₃), le-test n 512 (and-right (a && b && c) e k₂), le-test h 64 (and-right (a && b && c && e) f k₁))
 
 -- ---- the whole, test by test
 
@@ -36,10 +19,10 @@ pub floats-are : (d v h : ℕ) (ps hs : List Float) (a b : Bool) → pointsSound
 unfolding floatsSound
 floats-are d v h ps hs a b p q = sym (λ i. p i && q i)
 
-pub rows-both : (d n v h : ℕ) (es : List ℕ) (a b : Bool) → (rowsInUse desk d n v h es && rowsDistinct desk n es) ≡ a → blank (drop (n * 36) es) ≡ b → (a && b) ≡ rowsSound desk d n v h es
+pub rows-both : (d n v h : ℕ) (es : List ℕ) (a b : Bool) → (rowsInUse desk d n v h es && rowsDistinct desk n es) ≡ a → blankWords (drop (n * 36) es) ≡ b → (a && b) ≡ rowsSound desk d n v h es
 unfolding rowsSound recordsSound
 rows-both d n v h es a b p q =
-    sym (moved (all (recordWords desk) (rows n 36 es)) (blank (drop (n * 36) es)) (cornersSound desk n v es) (elementsSound desk d n h es) (rowsDistinct desk n es) ∙ (λ i. p i && q i))
+    sym (moved (all (recordWords desk) (rows n 36 es)) (blankWords (drop (n * 36) es)) (cornersSound desk n v es) (elementsSound desk d n h es) (rowsDistinct desk n es) ∙ (λ i. p i && q i))
   where
     moved : (w z k e c : Bool) → ((w && z) && k && e && c) ≡ (((w && k && e) && c) && z)
     moved false z k e c = refl

@@ -109,7 +109,7 @@ pub unmet-above : (s s′ : ℕ) (met : List ℕ) → s ≤ s′ → Unmet s met
 unmet-above s s′ met l u = record { long = u .long; under = λ v h. let k = u .under v h in let z : getD met v 0 < s′ = omega (arith, k, l) in z }
 
 pub unmet-next : (e : ℕ) (met : List ℕ) → Unmet (stampOf e) met → Unmet (stampOf (e + 1)) met
-unmet-next e met u = unmet-above (stampOf e) (stampOf (e + 1)) met (let z : 513 * e + 1 ≤ 513 * (e + 1) + 1 = omega arith in z) u
+unmet-next e met u = unmet-above (stampOf e) (stampOf (e + 1)) met (let z : stampOf e ≤ stampOf (e + 1) = omega arith in z) u
 
 pub stamped-next : (e : ℕ) (met : List ℕ) → Stamped (stampOf e) met → Unmet (stampOf (e + 1)) met
-stamped-next e met u = record { long = u .long; under = λ v h. let k = u .under v h in let z : getD met v 0 < 513 * (e + 1) + 1 = omega (arith, k) in z }
+stamped-next e met u = record { long = u .long; under = λ v h. let k = u .under v h in let z : getD met v 0 < stampOf (e + 1) = omega (arith, k) in z }

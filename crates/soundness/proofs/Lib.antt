@@ -12,4 +12,5 @@ pub mod OnePass
 pub mod RowKinds
 pub mod ElementLoops
 pub mod Distinct
+pub mod RowsRead
 pub mod FaceLoops

@@ -1,4 +1,4 @@
--- The one loop over the rows in use. What is asked of all rows is asked of those that are left, where k is the vertex that is
+-- The one loop over the rows in use. What is asked of all rows is asked of those that are rowsLeft, where k is the vertex that is
 -- to be named next: records, vertices in order and elements are three tests of the first row and of the rows after it. What
 -- stands past a boundary is asked for all rows at once, at the end.
 use Prim.Native.Nat.{ℕ, suc, _+_, _-_, _*_, _≤_, _<_}
@@ -26,10 +26,10 @@ module _ (es : List ℕ) (d n v h : ℕ) where
   abbrev row : ℕ → List ℕ
   row i = take 36 (drop (i * 36) es)
 
-  abbrev pub left : ℕ → ℕ → Bool
-  left k i = all (recordWords desk) (rowsFrom i) && inOrder k v (rowsFrom i) && allFrom i (elementSound desk es d h) (rowsFrom i)
+  abbrev pub rowsLeft : ℕ → ℕ → Bool
+  rowsLeft k i = all (recordWords desk) (rowsFrom i) && inOrder k v (rowsFrom i) && allFrom i (elementSound desk es d h) (rowsFrom i)
 
-  pub pass-start : rowsInUse desk d n v h es ≡ left 0 0
+  pub pass-start : rowsInUse desk d n v h es ≡ rowsLeft 0 0
   unfolding cornersSound elementsSound
   pass-start = ap (λ (m : ℕ). all (recordWords desk) (rows m 36 es) && inOrder 0 v (rows m 36 es) && allFrom 0 (elementSound desk es d h) (rows m 36 es)) (sym (sub-zero n))
 
@@ -40,41 +40,41 @@ module _ (es : List ℕ) (d n v h : ℕ) where
       go true = ap (λ (j : ℕ). eqb (getD r 4 0) k && inOrder j v rs) (sym (add-one k))
       go false = ap (λ (j : ℕ). inOrder j v rs) (let z : k ≡ k + 0 = omega arith in z)
 
-  on : (k i o : ℕ) → i < n → o ≡ cond (eqb (getD (row i) 0 0) 0) 1 0 → left k i ≡ ((pastBlank (row i) && rowSound desk es d h k i (row i)) && left (k + o) (i + 1))
+  on : (k i o : ℕ) → i < n → o ≡ cond (eqb (getD (row i) 0 0) 0) 1 0 → rowsLeft k i ≡ ((pastBlank (row i) && rowSound desk es d h k i (row i)) && rowsLeft (k + o) (i + 1))
   on k i o l e =
       ap (λ (rs : List (List ℕ)). all (recordWords desk) rs && inOrder k v rs && allFrom i (elementSound desk es d h) rs) (rows-on 36 i n es l)
       ∙ ap₂ (λ (b : Bool) (j : ℕ). (recordWords desk (row i) && all (recordWords desk) (rowsFrom (i + 1))) && b && (elementSound desk es d h i (row i) && allFrom j (elementSound desk es d h) (rowsFrom (i + 1))))
       (corner k (row i) (rowsFrom (i + 1)) o e) (sym (add-one i))
       ∙ by-three (recordWords desk (row i)) (all (recordWords desk) (rowsFrom (i + 1))) (cornerNamed k (row i)) (inOrder (k + o) v (rowsFrom (i + 1)))
       (elementSound desk es d h i (row i)) (allFrom (i + 1) (elementSound desk es d h) (rowsFrom (i + 1)))
-      ∙ ap (λ (b : Bool). (b && cornerNamed k (row i) && elementSound desk es d h i (row i)) && left (k + o) (i + 1)) (record-parts (row i))
-      ∙ ap (λ (b : Bool). b && left (k + o) (i + 1)) (past-first (headWords desk (row i)) (pastBlank (row i)) (cornerNamed k (row i)) (elementSound desk es d h i (row i)))
+      ∙ ap (λ (b : Bool). (b && cornerNamed k (row i) && elementSound desk es d h i (row i)) && rowsLeft (k + o) (i + 1)) (record-parts (row i))
+      ∙ ap (λ (b : Bool). b && rowsLeft (k + o) (i + 1)) (past-first (headWords desk (row i)) (pastBlank (row i)) (cornerNamed k (row i)) (elementSound desk es d h i (row i)))
     where
       past-first : (a p c e : Bool) → ((a && p) && c && e) ≡ (p && (a && c && e))
       past-first true p c e = sym (and-assoc p c e)
       past-first false p c e = sym (and-zero p)
 
   -- clear: nothing was seen past a boundary so far
-  pub pass-go : {reply : Bool} (clear clear′ : Bool) (k i o : ℕ) → reply ≡ (clear && left k i) → i < n → rowSound desk es d h k i (row i) ≡ true → clear′ ≡ (clear && pastBlank (row i))
-      → o ≡ cond (eqb (getD (row i) 0 0) 0) 1 0 → reply ≡ (clear′ && left (k + o) (i + 1))
+  pub pass-go : {reply : Bool} (clear clear′ : Bool) (k i o : ℕ) → reply ≡ (clear && rowsLeft k i) → i < n → rowSound desk es d h k i (row i) ≡ true → clear′ ≡ (clear && pastBlank (row i))
+      → o ≡ cond (eqb (getD (row i) 0 0) 0) 1 0 → reply ≡ (clear′ && rowsLeft (k + o) (i + 1))
   pass-go clear clear′ k i o t l q c e =
-      t ∙ ap (λ (b : Bool). clear && b) (on k i o l e ∙ ap (λ (b : Bool). (pastBlank (row i) && b) && left (k + o) (i + 1)) q ∙ ap (λ (b : Bool). b && left (k + o) (i + 1)) (and-one (pastBlank (row i))))
-      ∙ and-assoc clear (pastBlank (row i)) (left (k + o) (i + 1)) ∙ ap (λ (b : Bool). b && left (k + o) (i + 1)) (sym c)
+      t ∙ ap (λ (b : Bool). clear && b) (on k i o l e ∙ ap (λ (b : Bool). (pastBlank (row i) && b) && rowsLeft (k + o) (i + 1)) q ∙ ap (λ (b : Bool). b && rowsLeft (k + o) (i + 1)) (and-one (pastBlank (row i))))
+      ∙ and-assoc clear (pastBlank (row i)) (rowsLeft (k + o) (i + 1)) ∙ ap (λ (b : Bool). b && rowsLeft (k + o) (i + 1)) (sym c)
 
-  pub pass-no : {reply : Bool} (clear : Bool) (k i : ℕ) → reply ≡ (clear && left k i) → i < n → rowSound desk es d h k i (row i) ≡ false → false ≡ reply
+  pub pass-no : {reply : Bool} (clear : Bool) (k i : ℕ) → reply ≡ (clear && rowsLeft k i) → i < n → rowSound desk es d h k i (row i) ≡ false → false ≡ reply
   pass-no clear k i t l q =
       let o : ℕ = cond (eqb (getD (row i) 0 0) 0) 1 0 in
-      sym (t ∙ ap (λ (b : Bool). clear && b) (on k i o l refl ∙ ap (λ (b : Bool). (pastBlank (row i) && b) && left (k + o) (i + 1)) q ∙ ap (λ (b : Bool). b && left (k + o) (i + 1)) (and-zero (pastBlank (row i)))) ∙ and-zero clear)
+      sym (t ∙ ap (λ (b : Bool). clear && b) (on k i o l refl ∙ ap (λ (b : Bool). (pastBlank (row i) && b) && rowsLeft (k + o) (i + 1)) q ∙ ap (λ (b : Bool). b && rowsLeft (k + o) (i + 1)) (and-zero (pastBlank (row i)))) ∙ and-zero clear)
 
-  end : {reply : Bool} (clear : Bool) (k i : ℕ) → reply ≡ (clear && left k i) → n ≤ i → (clear && eqb k v) ≡ reply
+  end : {reply : Bool} (clear : Bool) (k i : ℕ) → reply ≡ (clear && rowsLeft k i) → n ≤ i → (clear && eqb k v) ≡ reply
   end clear k i t l =
       sym (t ∙ ap (λ (m : ℕ). clear && (all (recordWords desk) (rows m 36 (drop (i * 36) es)) && inOrder k v (rows m 36 (drop (i * 36) es)) && allFrom i (elementSound desk es d h) (rows m 36 (drop (i * 36) es))))
       (let z : n - i ≡ 0 = omega arith in z) ∙ ap (λ (b : Bool). clear && b) (and-one (eqb k v)))
 
-  pub pass-short : {reply : Bool} (clear : Bool) (k i : ℕ) → reply ≡ (clear && left k i) → n ≤ i → (k ≡ v → ⊥) → false ≡ reply
+  pub pass-short : {reply : Bool} (clear : Bool) (k i : ℕ) → reply ≡ (clear && rowsLeft k i) → n ≤ i → (k ≡ v → ⊥) → false ≡ reply
   pass-short clear k i t l q = sym (ap (λ (b : Bool). clear && b) (not-eq k v q) ∙ and-zero clear) ∙ end clear k i t l
 
-  pub pass-end : {reply : Bool} (clear : Bool) (k i : ℕ) → reply ≡ (clear && left k i) → n ≤ i → k ≡ v → clear ≡ reply
+  pub pass-end : {reply : Bool} (clear : Bool) (k i : ℕ) → reply ≡ (clear && rowsLeft k i) → n ≤ i → k ≡ v → clear ≡ reply
   pass-end clear k i t l q = sym (ap (λ (b : Bool). clear && b) (test-eq k v q) ∙ and-one clear) ∙ end clear k i t l
 
 -- the tests of one row

@@ -3,9 +3,9 @@ use Prim.Native.Nat.{_-_, zero, _≤_, _+_, suc, ℕ, _*_}
 use mathlib.Core.Bool.{Bool, _&&_, true, false}
 use mathlib.Core.List.{List, _++_, [], _∷_, map, append-assoc}
 use mathlib.Core.Path.{_≡_, refl, ap, sym, _∙_, ap₂}
-use native.Mathlib.Nat.{not-suc-le-zero, le-of-suc-le-suc, le-trans, le-of-eq, zero-mul, suc-mul}
+use native.Mathlib.Nat.{not-suc-le-zero, le-of-suc-le-suc, le-trans, le-of-eq, zero-mul, suc-mul, min-le-left, min-le-right}
 use native.Mathlib.Omega.{arith}
-use lib.ListN.{length, take, drop, replicate, length-drop, length-append}
+use lib.ListN.{length, take, drop, replicate, length-take, length-drop, length-append}
 use lib.Seq.{length-take-le, drop-drop}
 use Rattle.rules.specs.Held.{Wide}
 use Rattle.rules.specs.Lists.{alike, all, pad, joined, rows}
@@ -22,14 +22,13 @@ pub and-zero : (a : Bool) → (a && false) ≡ false
 and-zero true = refl
 and-zero false = refl
 
-pub and-swap : (a b : Bool) → (a && b) ≡ (b && a)
-and-swap true b = sym (and-one b)
-and-swap false b = sym (and-zero b)
+-- a part from the front is no longer than the list, and no longer than it was asked to be
+module _ {A : Type 0} (n : ℕ) (l : List A) where
+  pub take-short : length (take n l) ≤ length l
+  take-short = le-trans (le-of-eq (length-take n l)) (min-le-right n (length l))
 
--- a part that matters only when what stands before it holds
-pub and-when : (a b c : Bool) → (a ≡ true → b ≡ c) → (a && b) ≡ (a && c)
-and-when true b c h = h refl
-and-when false b c h = refl
+  pub take-few : length (take n l) ≤ n
+  take-few = le-trans (le-of-eq (length-take n l)) (min-le-left n (length l))
 
 module _ {A : Type 0} (p : A → A → Bool) where
   pub alike-split : (xs ys zs : List A) → length xs ≤ length zs → alike p (xs ++ ys) zs ≡ (alike p xs (take (length xs) zs) && alike p ys (drop (length xs) zs))

@@ -7,9 +7,9 @@ use native.Mathlib.Omega.{arith}
 use lib.Dec.{eqb, leb, lit≤}
 use lib.ListN.{length, getD, take, drop}
 use Rattle.rules.specs.Limits.{desk, noPlane}
-use Rattle.rules.proofs.Laws.{test-le, le-test, test-eq, not-eq}
-use Rattle.soundness.specs.Words.{headWords, cornerNamed, boundaryIn, boundaryWords, polytopeWords, numbersFit, facetWords, rowSound}
-use Rattle.soundness.proofs.ReadBack.{and-one, and-when}
+use Rattle.rules.proofs.Laws.{test-le, le-test, test-eq, not-eq, and-when}
+use Rattle.soundness.specs.Words.{headWords, cornerNamed, boundaryIn, boundarySound, polytopeWords, numbersFit, facetWords, rowSound}
+use Rattle.soundness.proofs.ReadBack.{and-one}
 use Rattle.soundness.proofs.RowLoops.{row-word, head-corner, head-polytope, named-is}
 use Rattle.soundness.proofs.BoundaryLoops.{bound-is, boundary-edge, boundary-open, element-zero, element-more}
 use Rattle.soundness.proofs.OnePass.{row-is}
@@ -24,17 +24,17 @@ module _ (es : List ℕ) (d e n : ℕ) (en : n ≡ getD es (e * 36 + 3) 0) where
   abbrev there : List ℕ
   there = drop (e * 36 + 4) (take (e * 36 + 4 + n) es)
 
-  counted : (r : ℕ) → polytopeWords desk es d e r row ≡ (leb n 32 && boundaryWords desk es d e r there)
+  counted : (r : ℕ) → polytopeWords desk es d e r row ≡ (leb n 32 && boundarySound desk es d e r there)
   unfolding polytopeWords
   counted r =
-      ap (λ (k : ℕ). leb k 32 && boundaryWords desk es d e r (boundaryIn row)) (row-word (e * 36) 3 es (lit≤ tt) ∙ sym en)
-      ∙ and-when (leb n 32) (boundaryWords desk es d e r (boundaryIn row)) (boundaryWords desk es d e r there) (λ t. ap (boundaryWords desk es d e r) (bound-is es (e * 36) n en (le-test n 32 t)))
+      ap (λ (k : ℕ). leb k 32 && boundarySound desk es d e r (boundaryIn row)) (row-word (e * 36) 3 es (lit≤ tt) ∙ sym en)
+      ∙ and-when (leb n 32) (boundarySound desk es d e r (boundaryIn row)) (boundarySound desk es d e r there) (λ t. ap (boundarySound desk es d e r) (bound-is es (e * 36) n en (le-test n 32 t)))
 
   pub polytope-many : (r : ℕ) → 32 < n → false ≡ polytopeWords desk es d e r row
-  polytope-many r h = sym (counted r ∙ ap (λ (b : Bool). b && boundaryWords desk es d e r there) (lt-leb n 32 h))
+  polytope-many r h = sym (counted r ∙ ap (λ (b : Bool). b && boundarySound desk es d e r there) (lt-leb n 32 h))
 
-  pub polytope-few : {x : Bool} (r : ℕ) → n ≤ 32 → x ≡ boundaryWords desk es d e r there → x ≡ polytopeWords desk es d e r row
-  polytope-few r h q = q ∙ sym (counted r ∙ ap (λ (b : Bool). b && boundaryWords desk es d e r there) (test-le n 32 h))
+  pub polytope-few : {x : Bool} (r : ℕ) → n ≤ 32 → x ≡ boundarySound desk es d e r there → x ≡ polytopeWords desk es d e r row
+  polytope-few r h q = q ∙ sym (counted r ∙ ap (λ (b : Bool). b && boundarySound desk es d e r there) (test-le n 32 h))
 
   module _ (s : length es ≡ 18432) (u : e < 512) where
     pub edge-open : (n ≡ 2 → ⊥) → false ≡ polytopeWords desk es d e 1 row
@@ -44,7 +44,7 @@ module _ (es : List ℕ) (d e n : ℕ) (en : n ≡ getD es (e * 36 + 3) 0) where
         go true t =
             let l = le-test n 32 t in
             polytope-few 1 l (boundary-open es (e * 36 + 4) n d e 1 s (let z : e * 36 + 4 + n ≤ 18432 = omega (arith, l, u) in z) refl more)
-        go false t = sym (counted 1 ∙ ap (λ (b : Bool). b && boundaryWords desk es d e 1 there) t)
+        go false t = sym (counted 1 ∙ ap (λ (b : Bool). b && boundarySound desk es d e 1 there) t)
 
     pub edge-two : {x : Bool} → n ≡ 2 → x ≡ numbersFit desk es e 1 (drop (e * 36 + 4) (take (e * 36 + 4 + 2) es)) → x ≡ polytopeWords desk es d e 1 row
     edge-two two q =
@@ -71,7 +71,7 @@ module _ (es : List ℕ) (d h k e r : ℕ) (er : r ≡ getD es (e * 36) 0) where
   unfolding polytopeWords
   row-polytope p m M D B F z ep em pM pD pB pF =
       let N = leb (getD whole 3 0) 32 in
-      let W = boundaryWords desk es d e r (boundaryIn whole) in
+      let W = boundarySound desk es d e r (boundaryIn whole) in
       ap (λ (b : Bool). M && D && b && F) (sym pB) ∙ order M N D W F
       ∙ row-is es d h k e whole (M && N) true (D && W && F)
       (sym (head-polytope (e * 36) es M N some pM (ap (λ (x : ℕ). leb x 32) (sym (row-word (e * 36) 3 es (lit≤ tt))))))

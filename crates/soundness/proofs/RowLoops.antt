@@ -14,9 +14,8 @@ use Rattle.rules.specs.Limits.{desk, noPlane}
 use Rattle.rules.specs.Lists.{all, rows, if_then_else_}
 use Rattle.rules.specs.Table.{primordials}
 use Rattle.rules.proofs.Indexed.{rows-on}
-use Rattle.rules.proofs.Laws.{test-le, test-eq, not-eq, eq-test, le-test, and-right}
-use Rattle.soundness.specs.Words.{countsFit, blankFloats, blank, pointWords, pointsSound, recordWords, headWords, pastBlank, cornerNamed}
-use Rattle.soundness.proofs.ReadBack.{and-when}
+use Rattle.rules.proofs.Laws.{test-le, test-eq, not-eq, eq-test, le-test, and-right, and-when}
+use Rattle.soundness.specs.Words.{countsFit, blankFloats, blankWords, pointWords, pointsSound, recordWords, headWords, pastBlank, cornerNamed}
 
 -- ---- counts
 
@@ -63,7 +62,7 @@ module _ {A : Type 0} where
   drop-take (suc a) k (x ∷ l) = ap (λ (n : ℕ). drop (suc a) (take n (x ∷ l))) (let q : suc a + k ≡ suc (a + k) = omega arith in q) ∙ drop-take a k l
 
   -- the words from at + j up to the end of a row of w
-  pub row-part : (at j w : ℕ) (l : List A) → j ≤ w → drop (at + j) (take (at + w) l) ≡ drop j (take w (drop at l))
+  row-part : (at j w : ℕ) (l : List A) → j ≤ w → drop (at + j) (take (at + w) l) ≡ drop j (take w (drop at l))
   row-part at j w l h = sym (drop-drop j at (take (at + w) l)) ∙ ap (drop j) (drop-take at w l)
 
   pub front : (at j w : ℕ) (l : List A) → j ≤ w → drop at (take (at + j) l) ≡ take j (take w (drop at l))
@@ -90,7 +89,7 @@ row-word at j es h = getD-take 36 (drop at es) j 0 h ∙ getD-drop at es j 0
 pub row-first : (at : ℕ) (es : List ℕ) → getD (take 36 (drop at es)) 0 0 ≡ getD es at 0
 row-first at es = row-word at 0 es (lit≤ tt) ∙ ap (λ (k : ℕ). getD es k 0) (let q : at + 0 ≡ at = omega arith in q)
 
-pub row-fifth : (at : ℕ) (es : List ℕ) → getD (take 36 (drop at es)) 4 0 ≡ getD es (at + 4) 0
+row-fifth : (at : ℕ) (es : List ℕ) → getD (take 36 (drop at es)) 4 0 ≡ getD es (at + 4) 0
 row-fifth at es = row-word at 4 es (lit≤ tt)
 
 abbrev headTests : ℕ → ℕ → ℕ → ℕ → Bool
@@ -125,22 +124,22 @@ module _ (at : ℕ) (es : List ℕ) where
       go false t = le-test (getD es (at + 3) 0) 32 (and-right (leb (getD es (at + 1) 0) 1) (leb (getD es (at + 3) 0) 32) t)
 
   -- past the boundary, in the row and in the memory
-  pub past-is : pastBlank row ≡ blank (drop (at + 4 + getD es (at + 3) 0) (take (at + 36) es))
+  pub past-is : pastBlank row ≡ blankWords (drop (at + 4 + getD es (at + 3) 0) (take (at + 36) es))
   unfolding pastBlank
   past-is =
-      ap (λ (k : ℕ). blank (drop k (drop 4 row))) (row-word at 3 es (lit≤ tt))
-      ∙ ap blank (ap (drop (getD es (at + 3) 0)) (sym (row-part at 4 36 es (lit≤ tt))) ∙ drop-drop (getD es (at + 3) 0) (at + 4) (take (at + 36) es))
+      ap (λ (k : ℕ). blankWords (drop k (drop 4 row))) (row-word at 3 es (lit≤ tt))
+      ∙ ap blankWords (ap (drop (getD es (at + 3) 0)) (sym (row-part at 4 36 es (lit≤ tt))) ∙ drop-drop (getD es (at + 3) 0) (at + 4) (take (at + 36) es))
 
 -- a record is its head, and nothing past its boundary
 pub record-parts : (r : List ℕ) → recordWords desk r ≡ (headWords desk r && pastBlank r)
 unfolding recordWords headWords pastBlank
 record-parts r = go (eqb (getD r 0 0) 0)
   where
-    go : (y : Bool) → (if y then eqb 0 (getD r 1 0) && eqb noPlane (getD r 2 0) && eqb 1 (getD r 3 0) && blank (drop 5 r) else (leb (getD r 1 0) 1 && leb (getD r 3 0) 32 && blank (drop (getD r 3 0) (drop 4 r))))
-        ≡ ((if y then eqb 0 (getD r 1 0) && eqb noPlane (getD r 2 0) && eqb 1 (getD r 3 0) else (leb (getD r 1 0) 1 && leb (getD r 3 0) 32)) && blank (drop (getD r 3 0) (drop 4 r)))
+    go : (y : Bool) → (if y then eqb 0 (getD r 1 0) && eqb noPlane (getD r 2 0) && eqb 1 (getD r 3 0) && blankWords (drop 5 r) else (leb (getD r 1 0) 1 && leb (getD r 3 0) 32 && blankWords (drop (getD r 3 0) (drop 4 r))))
+        ≡ ((if y then eqb 0 (getD r 1 0) && eqb noPlane (getD r 2 0) && eqb 1 (getD r 3 0) else (leb (getD r 1 0) 1 && leb (getD r 3 0) 32)) && blankWords (drop (getD r 3 0) (drop 4 r)))
     go true =
-        and-when (eqb 0 (getD r 1 0) && eqb noPlane (getD r 2 0) && eqb 1 (getD r 3 0)) (blank (drop 5 r)) (blank (drop (getD r 3 0) (drop 4 r)))
-        (λ t. sym (ap (λ (k : ℕ). blank (drop k (drop 4 r))) (sym (eq-test 1 (getD r 3 0) (and-right (eqb 0 (getD r 1 0) && eqb noPlane (getD r 2 0)) (eqb 1 (getD r 3 0)) t))) ∙ ap blank (drop-drop 1 4 r)))
+        and-when (eqb 0 (getD r 1 0) && eqb noPlane (getD r 2 0) && eqb 1 (getD r 3 0)) (blankWords (drop 5 r)) (blankWords (drop (getD r 3 0) (drop 4 r)))
+        (λ t. sym (ap (λ (k : ℕ). blankWords (drop k (drop 4 r))) (sym (eq-test 1 (getD r 3 0) (and-right (eqb 0 (getD r 1 0) && eqb noPlane (getD r 2 0)) (eqb 1 (getD r 3 0)) t))) ∙ ap blankWords (drop-drop 1 4 r)))
     go false = refl
 
 -- ---- corners

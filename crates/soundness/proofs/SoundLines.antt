@@ -4,28 +4,28 @@ use mathlib.Core.Bool.{Bool, _&&_, true, false, not, _||_, cond}
 use mathlib.Core.List.{List, map, _∷_, [], _++_}
 use mathlib.Core.Option.{some, none}
 use mathlib.Core.Path.{_≡_, ap, _∙_, refl, ap₂, sym, subst}
-use native.Mathlib.Nat.{le-trans, le-of-eq, le-refl}
+use native.Mathlib.Nat.{le-trans, le-of-eq}
 use native.Mathlib.Omega.{arith}
 use lib.Dec.{eqb, leb}
-use lib.Ieee.{Float, lt}
+use lib.Ieee.{Float}
 use lib.ListN.{length, drop, take, length-append, getD, drop-of-length-le, replicate, length-drop}
 use lib.Seq.{length-take-le, drop-cons, take-take, take-all}
-use Rattle.rules.specs.Floats.{one, sameBits, plusZero, within, farthest, unit, farthestPlane}
+use Rattle.rules.specs.Floats.{sameBits, plusZero, within, farthest, unit, farthestPlane}
 use Rattle.rules.specs.Held.{elementWords, Wide}
 use Rattle.rules.specs.Limits.{Limits, noPlane}
 use Rattle.rules.specs.Lists.{rows, alike, pad, joined, all, if_then_else_, keep, upFrom, distinct, any}
 use Rattle.rules.specs.Memory.{planeWidth, planeRow, readPlane, readElement, planeNamed, planeNumber, elementWidth, elementRow}
 use Rattle.rules.specs.Sound.{soundPoint, soundPlane}
 use Rattle.rules.specs.Table.{corner, vertexOf, isCorner, Element, polytope, sameElement}
-use Rattle.rules.proofs.Laws.{test-eq, not-eq, eq-test, eqb-self, le-test, and-left, and-right, both-ways}
+use Rattle.rules.proofs.Laws.{test-eq, not-eq, eq-test, eqb-self, le-test, and-left, and-right, both-ways, and-swap}
 use Rattle.rules.proofs.Selves.{bits-self, eq-alike, alike-eq, element-self, same-element}
-use Rattle.soundness.specs.Words.{pointWords, blankFloats, blank, pointsSound, planeWords, planesSound, inOrder, recordWords, recordsSound}
+use Rattle.soundness.specs.Words.{pointWords, blankFloats, blankWords, pointsSound, planeWords, planesSound, inOrder, recordWords, recordsSound}
 use Rattle.space.proofs.Laid.{length-padded}
-use Rattle.soundness.proofs.ReadBack.{laid-alike, all-and, all-same, rows-wide, and-swap, alike-front, map-map, all-map, alike-split, and-one, and-zero, alike-fill, and-assoc}
+use Rattle.soundness.proofs.ReadBack.{take-short, laid-alike, all-and, all-same, rows-wide, alike-front, map-map, all-map, alike-split, and-one, and-zero, alike-fill, and-assoc}
 use borrow.Author.Tests.{lt-leb, leb-false}
 
 -- the round trip of rows with a test of each
-pub rows-tested : {A : Type 0} (p : A → A → Bool) (f : List A → List A) (s t : List A → Bool) (z : A) (w v room : ℕ) (l : List A) → ((r : List A) → length r ≡ w → length (f r) ≡ w)
+rows-tested : {A : Type 0} (p : A → A → Bool) (f : List A → List A) (s t : List A → Bool) (z : A) (w v room : ℕ) (l : List A) → ((r : List A) → length r ≡ w → length (f r) ≡ w)
     → ((r : List A) → length r ≡ w → (alike p (f r) r && s r) ≡ t r) → v ≤ room → length l ≡ room * w
     → (alike p (pad z (room * w) (joined (map f (rows v w l)))) l && all s (rows v w l)) ≡ (all t (rows v w l) && all (p z) (drop (v * w) l))
 rows-tested p f s t z w v room l long one h e =
@@ -54,7 +54,8 @@ module _ (L : Limits) (d : ℕ) (low : d ≤ L .dimensions) where
       && all (soundPoint d) (map (take d) (rows v (L .dimensions) ps))) ≡ pointsSound L d v ps
   unfolding pointsSound
   points-same v ps h e =
-      ap₂ (λ (l : List (List Float)) (b : Bool). alike sameBits (pad plusZero (L .vertices * L .dimensions) (joined l)) ps && b) (map-map (pad plusZero (L .dimensions)) (take d) (rows v (L .dimensions) ps)) (all-map (soundPoint d) (take d) (rows v (L .dimensions) ps))
+      ap₂ (λ (l : List (List Float)) (b : Bool). alike sameBits (pad plusZero (L .vertices * L .dimensions) (joined l)) ps && b)
+      (map-map (pad plusZero (L .dimensions)) (take d) (rows v (L .dimensions) ps)) (all-map (soundPoint d) (take d) (rows v (L .dimensions) ps))
       ∙ rows-tested sameBits (λ r. pad plusZero (L .dimensions) (take d r)) (λ r. soundPoint d (take d r)) (pointWords d) plusZero (L .dimensions) v (L .vertices) ps
       (λ r k. length-padded plusZero (L .dimensions) (take d r) (le-trans (le-of-eq (length-take-le d r (le-trans low (le-of-eq (sym k))))) low)) point-row h e
 
@@ -93,7 +94,8 @@ module _ (L : Limits) (d : ℕ) (low : d ≤ L .dimensions) where
       && all (soundPlane d) (map (readPlane L d) (rows h (planeWidth L) hs))) ≡ planesSound L d h hs
   unfolding planesSound
   planes-same h hs l e =
-      ap₂ (λ (l : List (List Float)) (b : Bool). alike sameBits (pad plusZero (L .hyperplanes * planeWidth L) (joined l)) hs && b) (map-map (planeRow L) (readPlane L d) (rows h (planeWidth L) hs)) (all-map (soundPlane d) (readPlane L d) (rows h (planeWidth L) hs))
+      ap₂ (λ (l : List (List Float)) (b : Bool). alike sameBits (pad plusZero (L .hyperplanes * planeWidth L) (joined l)) hs && b)
+      (map-map (planeRow L) (readPlane L d) (rows h (planeWidth L) hs)) (all-map (soundPlane d) (readPlane L d) (rows h (planeWidth L) hs))
       ∙ rows-tested sameBits (λ r. planeRow L (readPlane L d r)) (λ r. soundPlane d (readPlane L d r)) (planeWords L d) plusZero (planeWidth L) h (L .hyperplanes) hs plane-long plane-row l e
 
 -- ---- corners
@@ -161,13 +163,13 @@ module _ (L : Limits) (some-room : 1 ≤ L .boundary) where
       go false q = eqb-self p
 
   list-back : (n : ℕ) (l : List ℕ) → length l ≡ L .boundary
-      → (eqb (length (take n l)) n && alike eqb (take n l ++ replicate (elementWidth L - suc (suc (suc (suc (length (take n l)))))) 0) l) ≡ (leb n (L .boundary) && blank (drop n l))
+      → (eqb (length (take n l)) n && alike eqb (take n l ++ replicate (elementWidth L - suc (suc (suc (suc (length (take n l)))))) 0) l) ≡ (leb n (L .boundary) && blankWords (drop n l))
   list-back n l e = go (leb n (L .boundary)) refl
     where
       B : ℕ
       B = L .boundary
 
-      go : (b : Bool) → leb n B ≡ b → (eqb (length (take n l)) n && alike eqb (take n l ++ replicate (elementWidth L - suc (suc (suc (suc (length (take n l)))))) 0) l) ≡ (b && blank (drop n l))
+      go : (b : Bool) → leb n B ≡ b → (eqb (length (take n l)) n && alike eqb (take n l ++ replicate (elementWidth L - suc (suc (suc (suc (length (take n l)))))) 0) l) ≡ (b && blankWords (drop n l))
       go true q =
           let h = le-test n B q in
           let k = length-take-le n l (le-trans h (le-of-eq (sym e))) in
@@ -194,15 +196,15 @@ module _ (L : Limits) (some-room : 1 ≤ L .boundary) where
 
       go : (b : Bool) → eqb a 0 ≡ b
           → alike eqb (elementWords L (if b then corner x else polytope a (take n (x ∷ l)) (planeNamed p) (eqb m 1))) (a ∷ m ∷ p ∷ n ∷ x ∷ l)
-          ≡ (if b then eqb 0 m && eqb noPlane p && eqb 1 n && blank l else (leb m 1 && leb n (L .boundary) && blank (drop n (x ∷ l))))
+          ≡ (if b then eqb 0 m && eqb noPlane p && eqb 1 n && blankWords l else (leb m 1 && leb n (L .boundary) && blankWords (drop n (x ∷ l))))
       go true q =
           ap₂ (λ (b c : Bool). b && (eqb 0 m && (eqb noPlane p && (eqb 1 n && (c && alike eqb (replicate (elementWidth L - 5) 0) l))))) (test-eq 0 a (sym (eq-test a 0 q))) (eqb-self x)
           ∙ ap (λ (b : Bool). eqb 0 m && (eqb noPlane p && (eqb 1 n && b))) (alike-fill eqb 0 (elementWidth L - 5) l (let z : length l ≡ elementWidth L - 5 = omega (arith, e) in z))
-          ∙ ands (eqb 0 m) (eqb noPlane p) (eqb 1 n) (blank l)
+          ∙ ands (eqb 0 m) (eqb noPlane p) (eqb 1 n) (blankWords l)
       go false q =
           ap₂ (λ (b c : Bool). b && (eqb (cond (eqb m 1) 1 0) m && (c && tests))) (eqb-self a) (plane-back p)
           ∙ ap₂ (λ (b c : Bool). b && c) (mark-back m) (list-back n (x ∷ l) (let z : length (x ∷ l) ≡ L .boundary = omega (arith, e) in z))
-          ∙ and-assoc (leb m 1) (leb n (L .boundary)) (blank (drop n (x ∷ l)))
+          ∙ and-assoc (leb m 1) (leb n (L .boundary)) (blankWords (drop n (x ∷ l)))
         where
           tests : Bool
           tests = eqb (length (take n (x ∷ l))) n && alike eqb (take n (x ∷ l) ++ replicate (elementWidth L - suc (suc (suc (suc (length (take n (x ∷ l))))))) 0) (x ∷ l)
@@ -211,15 +213,10 @@ module _ (L : Limits) (some-room : 1 ≤ L .boundary) where
   unfolding elementRow readElement
   record-long r e = length-padded {A = ℕ} 0 (elementWidth L) (elementRow (readElement r)) (go (eqb (getD r 0 0) 0))
     where
-      short : (n : ℕ) (l : List ℕ) → length (take n l) ≤ length l
-      short zero l = let z : 0 ≤ length l = omega arith in z
-      short (suc n) [] = le-refl 0
-      short (suc n) (y ∷ l) = let q = short n l in let z : suc (length (take n l)) ≤ suc (length l) = omega (arith, q) in z
-
       go : (b : Bool) → length (elementRow (if b then corner (getD r 4 0) else polytope (getD r 0 0) (take (getD r 3 0) (drop 4 r)) (planeNamed (getD r 2 0)) (eqb (getD r 1 0) 1))) ≤ elementWidth L
       go true = let q : 5 ≤ elementWidth L = omega (arith, some-room) in q
       go false =
-          let s = short (getD r 3 0) (drop 4 r) in
+          let s = take-short (getD r 3 0) (drop 4 r) in
           let k = length-drop 4 r in
           let q : suc (suc (suc (suc (length (take (getD r 3 0) (drop 4 r)))))) ≤ elementWidth L = omega (arith, s, k, e) in q
 
@@ -229,7 +226,8 @@ module _ (L : Limits) (some-room : 1 ≤ L .boundary) where
   records-same n es h e =
       ap (λ (l : List (List ℕ)). alike eqb (pad 0 (L .elements * elementWidth L) (joined l)) es) (map-map (elementWords L) readElement (rows n (elementWidth L) es))
       ∙ laid-alike eqb (λ r. elementWords L (readElement r)) 0 (elementWidth L) record-long n (L .elements) es h e
-      ∙ ap (λ (b : Bool). b && blank (drop (n * elementWidth L) es)) (all-same (elementWidth L) (λ r. alike eqb (elementWords L (readElement r)) r) (recordWords L) record-row (rows n (elementWidth L) es) (rows-wide (elementWidth L) n (L .elements) es h e))
+      ∙ ap (λ (b : Bool). b && blankWords (drop (n * elementWidth L) es))
+      (all-same (elementWidth L) (λ r. alike eqb (elementWords L (readElement r)) r) (recordWords L) record-row (rows n (elementWidth L) es) (rows-wide (elementWidth L) n (L .elements) es h e))
 
   pub records-own : (rs : List (List ℕ)) → Wide (elementWidth L) rs → all (recordWords L) rs ≡ true → Own L rs
   records-own [] w h = tt

@@ -3,7 +3,6 @@ use Prim.Native.Nat.{ℕ, _≤_, zero, suc, _+_, _*_}
 use mathlib.Core.Bool.{Bool, true, _&&_, false}
 use mathlib.Core.List.{List, _∷_, [], map}
 use mathlib.Core.Path.{_≡_, sym, _∙_, refl, ap}
-use native.Mathlib.Nat.{le-refl}
 use native.Mathlib.Omega.{arith}
 use lib.Dec.{eqb, leb, lit≤}
 use lib.Ieee.{Float}
@@ -16,8 +15,8 @@ use Rattle.rules.specs.Memory.{readElement, planeNamed, Memory, readPlane, soun
 use Rattle.rules.specs.Sound.{roomFits, sound, cornersInOrder, soundPoint, soundPlane, soundElement}
 use Rattle.rules.specs.Table.{boundaryOf, Element, corner, polytope, Plane, Table, primordials, sameElement, vertexOf, isCorner}
 use Rattle.rules.proofs.Laws.{and-left, and-right, and-true, eqb-self, test-eq, test-le, le-test, both-ways}
-use Rattle.soundness.specs.Words.{countsFit, wordsSound, cornersSound, rowsDistinct, recordsSound, pointsSound, planesSound, elementsSound, recordWords, blank}
-use Rattle.soundness.proofs.ReadBack.{rows-length, and-one, rows-wide}
+use Rattle.soundness.specs.Words.{countsFit, wordsSound, cornersSound, rowsDistinct, recordsSound, pointsSound, planesSound, elementsSound, recordWords, blankWords}
+use Rattle.soundness.proofs.ReadBack.{take-short, take-few, rows-length, and-one, rows-wide}
 use Rattle.space.proofs.Sizes.{size-known}
 use Rattle.soundness.proofs.SoundElements.{elements-same}
 use Rattle.soundness.proofs.SoundLines.{points-same, planes-same, records-same, order-same, distinct-same, records-own}
@@ -51,7 +50,10 @@ both S A1 A2 A3 A4 F B2 B3 B4 B5 B6 B7 C P H E O R D a1 c p h e o r dd =
     let f = and-left F B2 (and-left (F && B2) B3 y₄) in
     let cc : C ≡ true = sym c ∙ and-true F B4 f b4 in
     let ee : E ≡ true = sym (e s cc) ∙ a4 in
-    and-true _ _ (and-true _ _ (and-true _ _ (and-true _ _ (and-true _ _ (and-true _ _ (and-true S C s cc) (sym (p s cc) ∙ and-true A2 B2 a2 b2)) (sym (h s cc) ∙ and-true A3 B3 a3 b3)) ee) (sym o ∙ b5)) (sym (r s cc b7) ∙ b6)) (sym (dd s cc ee) ∙ b7))
+    let points = and-true _ _ (and-true S C s cc) (sym (p s cc) ∙ and-true A2 B2 a2 b2) in
+    let planes = and-true _ _ points (sym (h s cc) ∙ and-true A3 B3 a3 b3) in
+    let named = and-true _ _ (and-true _ _ planes ee) (sym o ∙ b5) in
+    and-true _ _ (and-true _ _ named (sym (r s cc b7) ∙ b6)) (sym (dd s cc ee) ∙ b7))
     (λ k.
     let d₁ = and-right ((((((S && C) && P) && H) && E) && O) && R) D k in
     let k₁ = and-left ((((((S && C) && P) && H) && E) && O) && R) D k in
@@ -74,6 +76,32 @@ both S A1 A2 A3 A4 F B2 B3 B4 B5 B6 B7 C P H E O R D a1 c p h e o r dd =
     (and-true S _ s (and-true _ A4 (and-true _ A3 (and-true A1 A2 (a1 s cc) (and-left A2 B2 pp)) (and-left A3 B3 hh)) (e s cc ∙ e₁)))
     (and-true _ B7 (and-true _ B6 (and-true _ B5 (and-true _ B4 (and-true _ B3 (and-true F B2 (and-left F B4 fb) (and-right A2 B2 pp)) (and-right A3 B3 hh)) (and-right F B4 fb)) (o ∙ o₁)) (r s cc b7 ∙ r₁)) b7))
 
+-- the counts that fit
+pub record CountsLow (d n v h : ℕ) : Type 0 where
+  pub dimension : d ≤ 4
+  pub vertices : v ≤ 256
+  pub elements : n ≤ 512
+  pub hyperplanes : h ≤ 64
+
+pub fit-counts : (d n v h : ℕ) → countsFit desk d n v h ≡ true → CountsLow d n v h
+unfolding countsFit
+fit-counts d n v h k =
+    let a = leb 1 d in
+    let b = leb d 4 in
+    let c = leb v 256 in
+    let e = leb n 512 in
+    let f = leb h 64 in
+    let k₁ = and-left (a && b && c && e && f) (leb (primordials d) h) k in
+    let k₂ = and-left (a && b && c && e) f k₁ in
+    let k₃ = and-left (a && b && c) e k₂ in
+    let k₄ = and-left (a && b) c k₃ in
+    record {
+      dimension = le-test d 4 (and-right a b k₄);
+      vertices = le-test v 256 (and-right (a && b) c k₃);
+      elements = le-test n 512 (and-right (a && b && c) e k₂);
+      hyperplanes = le-test h 64 (and-right (a && b && c && e) f k₁);
+    }
+
 -- four counts are written again
 counts-back : (cs : List ℕ) (n v h : ℕ) → length cs ≡ 4 → n ≡ getD cs 1 0 → v ≡ getD cs 2 0 → h ≡ getD cs 3 0 → alike eqb (getD cs 0 0 ∷ n ∷ v ∷ h ∷ []) cs ≡ true
 counts-back [] n v h e p q r = absurd (let z : ⊥ = omega (arith, e) in z)
@@ -84,11 +112,6 @@ counts-back (a ∷ b ∷ c ∷ d ∷ []) n v h e p q r = and-true _ _ (eqb-self 
 counts-back (a ∷ b ∷ c ∷ d ∷ x ∷ l) n v h e p q r = absurd (let z : ⊥ = omega (arith, e) in z)
 
 -- a row's boundary is never wider than the row
-short : {A : Type 0} (n : ℕ) (l : List A) → (length (take n l) ≤ length l) × (length (take n l) ≤ n)
-short zero l = (let z : 0 ≤ length l = omega arith in z, le-refl 0)
-short (suc n) [] = (le-refl 0, let z : 0 ≤ suc n = omega arith in z)
-short (suc n) (y ∷ l) = let q = short n l in let a = q .0 in let b = q .1 in (let z : suc (length (take n l)) ≤ suc (length l) = omega (arith, a) in z, let z : suc (length (take n l)) ≤ suc n = omega (arith, b) in z)
-
 narrow : (n : ℕ) (l : List ℕ) → all (λ e. leb (length (boundaryOf e)) 32) (map readElement (rows n 36 l)) ≡ true
 unfolding readElement
 narrow zero l = refl
@@ -100,9 +123,9 @@ narrow (suc n) l = and-true _ _ (test-le _ 32 (go (eqb (getD r 0 0) 0))) (narrow
     go : (b : Bool) → length (boundaryOf (if b then corner (getD r 4 0) else polytope (getD r 0 0) (take (getD r 3 0) (drop 4 r)) (planeNamed (getD r 2 0)) (eqb (getD r 1 0) 1))) ≤ 32
     go true = let z : 0 ≤ 32 = omega arith in z
     go false =
-        let a = short (getD r 3 0) (drop 4 r) .0 in
+        let a = take-short (getD r 3 0) (drop 4 r) in
         let k = length-drop 4 r in
-        let b = short 36 l .1 in
+        let b = take-few 36 l in
         let z : length (take (getD r 3 0) (drop 4 r)) ≤ 32 = omega (arith, a, k, b) in z
 
 module _ (cs : List ℕ) (ps hs : List Float) (es : List ℕ) where
@@ -148,25 +171,8 @@ module _ (cs : List ℕ) (ps hs : List Float) (es : List ℕ) where
   nh : length H ≡ h
   nh = length-map (rows h 5 hs) (readPlane desk d) ∙ rows-length h 5 hs
 
-  record Counts : Type 0 where
-    d₄ : d ≤ 4
-    v₂ : v ≤ 256
-    n₅ : n ≤ 512
-    h₆ : h ≤ 64
-
-  counts : C ≡ true → Counts
-  unfolding countsFit
-  counts k =
-      let a = leb 1 d in
-      let b = leb d 4 in
-      let c = leb v 256 in
-      let e = leb n 512 in
-      let f = leb h 64 in
-      let k₁ = and-left (a && b && c && e && f) (leb (primordials d) h) k in
-      let k₂ = and-left (a && b && c && e) f k₁ in
-      let k₃ = and-left (a && b && c) e k₂ in
-      let k₄ = and-left (a && b) c k₃ in
-      record { d₄ = le-test d 4 (and-right a b k₄); v₂ = le-test v 256 (and-right (a && b) c k₃); n₅ = le-test n 512 (and-right (a && b && c) e k₂); h₆ = le-test h 64 (and-right (a && b && c && e) f k₁) }
+  low : C ≡ true → CountsLow d n v h
+  low = fit-counts d n v h
 
   room : (roomFits desk t && leb (primordials d) (length H)) ≡ C
   unfolding roomFits countsFit
@@ -186,9 +192,10 @@ module _ (cs : List ℕ) (ps hs : List Float) (es : List ℕ) where
       C (pointsSound desk d v ps) (planesSound desk d h hs) (recordsSound desk n es) (cornersSound desk n v es) (elementsSound desk d n h es) (rowsDistinct desk n es)
       (λ s k. counts-back cs (length E) (length P) (length H) (size-known cs ps hs es s .0) ne np nh)
       room
-      (λ s k. points-same desk d (counts k .d₄) v ps (counts k .v₂) (size-known cs ps hs es s .1))
-      (λ s k. planes-same desk d (counts k .d₄) h hs (counts k .h₆) (size-known cs ps hs es s .2))
-      (λ s k. records-same desk (lit≤ tt) n es (counts k .n₅) (size-known cs ps hs es s .3))
+      (λ s k. points-same desk d (low k .dimension) v ps (low k .vertices) (size-known cs ps hs es s .1))
+      (λ s k. planes-same desk d (low k .dimension) h hs (low k .hyperplanes) (size-known cs ps hs es s .2))
+      (λ s k. records-same desk (lit≤ tt) n es (low k .elements) (size-known cs ps hs es s .3))
       (ap (λ (j : ℕ). alike eqb (map vertexOf (keep isCorner E)) (upTo j)) np ∙ order-same (rows n 36 es) 0 v v (let q : 0 + v ≡ v = omega arith in q))
-      (λ s k u. elements-same t es n (size-known cs ps hs es s .3) (counts k .n₅) refl h nh (counts k .h₆) u)
-      (λ s k r. distinct-same desk (rows n 36 es) (records-own desk (lit≤ tt) (rows n 36 es) (rows-wide 36 n 512 es (counts k .n₅) (size-known cs ps hs es s .3)) (and-left (all (recordWords desk) (rows n 36 es)) (blank (drop (n * 36) es)) r)))
+      (λ s k u. elements-same t es n (size-known cs ps hs es s .3) (low k .elements) refl h nh (low k .hyperplanes) u)
+      (λ s k r. distinct-same desk (rows n 36 es) (records-own desk (lit≤ tt) (rows n 36 es) (rows-wide 36 n 512 es (low k .elements) (size-known cs ps hs es s .3))
+      (and-left (all (recordWords desk) (rows n 36 es)) (blankWords (drop (n * 36) es)) r)))

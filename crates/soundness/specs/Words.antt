@@ -12,11 +12,11 @@ use Rattle.rules.specs.Lists.{all, any, rows, if_then_else_, rises, allFrom, di
 use Rattle.rules.specs.Memory.{planeWidth, elementWidth, rightSize}
 use Rattle.rules.specs.Held.{memoryOf}
 use Rattle.rules.specs.Table.{primordials}
-use Rattle.space.specs.Chains.{rowAt}
-use Rattle.space.specs.Closed.{closedRaw, metTwice, ringRaw, EndsLow}
+use Rattle.space.specs.Chains.{storedRow}
+use Rattle.space.specs.Closed.{closedRaw, metTwice, ringRaw, inside, EndsLow}
 
-abbrev pub blank : List ℕ → Bool
-blank = all (eqb 0)
+abbrev pub blankWords : List ℕ → Bool
+blankWords = all (eqb 0)
 
 abbrev pub blankFloats : List Float → Bool
 blankFloats = all (sameBits plusZero)
@@ -44,8 +44,8 @@ Mask l = (k : ℕ) → k < 64 → getD l k 0 ≡ cond (ltb k 32) 0 65535
 -- the row is what is written of some element
 unfoldable pub recordWords : Limits → List ℕ → Bool
 recordWords L row =
-    if eqb (getD row 0 0) 0 then eqb 0 (getD row 1 0) && eqb noPlane (getD row 2 0) && eqb 1 (getD row 3 0) && blank (drop 5 row)
-    else (leb (getD row 1 0) 1 && leb (getD row 3 0) (L .boundary) && blank (drop (getD row 3 0) (drop 4 row)))
+    if eqb (getD row 0 0) 0 then eqb 0 (getD row 1 0) && eqb noPlane (getD row 2 0) && eqb 1 (getD row 3 0) && blankWords (drop 5 row)
+    else (leb (getD row 1 0) 1 && leb (getD row 3 0) (L .boundary) && blankWords (drop (getD row 3 0) (drop 4 row)))
 
 -- its first words are those of some element: a vertex has one fixed form
 unfoldable pub headWords : Limits → List ℕ → Bool
@@ -55,11 +55,11 @@ headWords L row =
 
 -- and nothing stands past its boundary
 unfoldable pub pastBlank : List ℕ → Bool
-pastBlank row = blank (drop (getD row 3 0) (drop 4 row))
+pastBlank row = blankWords (drop (getD row 3 0) (drop 4 row))
 
 -- what stands there has joined what was seen before
-pub record Gathered (row before after : List ℕ) : Type 0 where
-  pub clear : blank after ≡ (blank before && pastBlank row)
+pub record PastSeen (row before after : List ℕ) : Type 0 where
+  pub clear : blankWords after ≡ (blankWords before && pastBlank row)
   pub long : length after ≡ 32
 
 -- corners name vertices from k up to v, in order
@@ -82,13 +82,13 @@ numberFits L es e r low x = leb low x && ltb x e && eqb (suc (getD es (x * eleme
 abbrev pub numbersFit : Limits → List ℕ → ℕ → ℕ → List ℕ → Bool
 numbersFit L es e r b = rises b && all (λ x. ltb x e) b && all (λ x. eqb (suc (getD es (x * elementWidth L) 0)) r) b
 
-unfoldable pub boundaryWords : Limits → List ℕ → ℕ → ℕ → ℕ → List ℕ → Bool
-boundaryWords L es d e r b =
+unfoldable pub boundarySound : Limits → List ℕ → ℕ → ℕ → ℕ → List ℕ → Bool
+boundarySound L es d e r b =
     rises b && all (λ x. ltb x e) b && all (λ x. eqb (suc (getD es (x * elementWidth L) 0)) r) b && ltb r (length b) && closedRaw d es r b
 
 -- the boundary of a row, for rank r: its count fits the room, and it is sound
 unfoldable pub polytopeWords : Limits → List ℕ → ℕ → ℕ → ℕ → List ℕ → Bool
-polytopeWords L es d e r row = leb (getD row 3 0) (L .boundary) && boundaryWords L es d e r (boundaryIn row)
+polytopeWords L es d e r row = leb (getD row 3 0) (L .boundary) && boundarySound L es d e r (boundaryIn row)
 
 -- the boundary of a face of few edges: its numbers fit, and each corner met lies on exactly two of its edges
 abbrev pub fewWords : Limits → List ℕ → ℕ → List ℕ → Bool
@@ -100,7 +100,7 @@ faceWords L es e b = numbersFit L es e 2 b && ringRaw es b
 
 -- the stamp of an element, above every word that was written for the elements before it
 abbrev pub stampOf : ℕ → ℕ
-stampOf e = 513 * e + 1
+stampOf e = suc inside * e + 1
 
 unfoldable pub facetWords : ℕ → ℕ → ℕ → ℕ → ℕ → Bool
 facetWords d h r plane mark = if eqb (suc r) d then ltb plane h else (eqb plane noPlane && not (eqb mark 1))
@@ -113,7 +113,7 @@ pub record EdgesLow (es : List ℕ) (e : ℕ) : Type 0 where
 unfoldable pub elementSound : Limits → List ℕ → ℕ → ℕ → ℕ → List ℕ → Bool
 elementSound L es d h e row =
     if eqb (getD row 0 0) 0 then true
-    else (leb (getD row 0 0) d && boundaryWords L es d e (getD row 0 0) (boundaryIn row) && facetWords d h (getD row 0 0) (getD row 2 0) (getD row 1 0))
+    else (leb (getD row 0 0) d && boundarySound L es d e (getD row 0 0) (boundaryIn row) && facetWords d h (getD row 0 0) (getD row 2 0) (getD row 1 0))
 
 -- the row of element e, where vertex k is the next to be named, but for what stands past its boundary
 abbrev pub rowSound : Limits → List ℕ → ℕ → ℕ → ℕ → ℕ → List ℕ → Bool
@@ -128,7 +128,7 @@ unfoldable pub planesSound : Limits → ℕ → ℕ → List Float → Bool
 planesSound L d h hs = all (planeWords L d) (rows h (planeWidth L) hs) && blankFloats (drop (h * planeWidth L) hs)
 
 unfoldable pub recordsSound : Limits → ℕ → List ℕ → Bool
-recordsSound L n es = all (recordWords L) (rows n (elementWidth L) es) && blank (drop (n * elementWidth L) es)
+recordsSound L n es = all (recordWords L) (rows n (elementWidth L) es) && blankWords (drop (n * elementWidth L) es)
 
 unfoldable pub cornersSound : Limits → ℕ → ℕ → List ℕ → Bool
 cornersSound L n v es = inOrder 0 v (rows n (elementWidth L) es)
@@ -142,7 +142,7 @@ rowsInUse L d n v h es = all (recordWords L) (rows n (elementWidth L) es) && cor
 
 -- row i is equal to no earlier one
 unfoldable pub rowNew : List ℕ → ℕ → Bool
-rowNew es i = not (any (alike eqb (rowAt es i)) (rows i 36 es))
+rowNew es i = not (any (alike eqb (storedRow es i)) (rows i 36 es))
 
 unfoldable pub rowsDistinct : Limits → ℕ → List ℕ → Bool
 rowsDistinct L n es = distinct (alike eqb) (rows n (elementWidth L) es)

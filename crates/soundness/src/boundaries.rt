@@ -1,45 +1,49 @@
 // A boundary that is sound: its numbers, and test 7 in the same pass, with a word for each corner that the edges of a face meet.
+use rules::ElementId;
 use space::closed::CLOSES;
+use space::closed::INSIDE;
 use space::closed::THRICE;
 use space::closed::few_edges;
 use space::closed::join_ends;
 use space::closed::meet_ends;
+use space::words::ELEMENTS;
 use space::words::WIDTH;
 use space::words::wide;
-ghost use Prim.Native.Nat.{_+_, _*_, _<_, _≤_};
+ghost use Prim.Native.Nat.{_+_, _<_, _≤_};
 ghost use mathlib.Core.Path.{_≡_};
-ghost use mathlib.Core.Bool.{true};
 ghost use lib.ListN.{length, take, drop};
 ghost use Rattle.rules.specs.Limits.{desk};
-ghost use Rattle.space.specs.Closed.{Unmet};
-ghost use Rattle.soundness.specs.Words.{numberFits, numbersFit, fewWords, faceWords, stampOf, boundaryWords, EdgesLow};
+ghost use Rattle.space.specs.Numbers.{elementSlice};
+ghost use Rattle.space.specs.Closed.{stampRoom};
+ghost use Rattle.soundness.specs.Words.{numberFits, numbersFit, fewWords, faceWords, stampOf, boundarySound};
+ghost use Rattle.soundness.specs.Tests.{NumbersReady, EdgesReady, NumbersThere, BoundaryTested};
 
-// An element's stamp is above every word that was written for the elements before it: the words of one face are 513 at most above its own.
-fn stamp_of(e: usize) -> u32
-    requires { ⌜ e < 512 ⌝ }
-    ensures { λ r. ⌜ (r ≡ stampOf e) × (r < 1000000) ⌝ }
+// An element's stamp is above every word that was written for the elements before it: a word of a face is at most INSIDE above the face's own.
+fn stamp_of(e: ElementId) -> u32
+    requires { ⌜ e .0 < desk .elements ⌝ }
+    ensures { λ r. ⌜ (r ≡ stampOf (e .0)) × (r < stampRoom) ⌝ }
 {
-    (513 * e + 1) as u32
+    ((INSIDE + 1) * e.0 + 1) as u32
 }
 
 // A boundary number is no lower than the least that it may be, below the element's own, and of rank one less: only a number below is one whose rank can be read.
-fn number_fits(elements: &[u16], x: usize, low: usize, e: usize, rank: usize) -> bool
-    requires { ⌜ (length (now elements) ≡ 18432) × (e ≤ 512) ⌝ }
-    ensures { λ r. ⌜ r ≡ numberFits desk (now (elements .entry)) e rank low x ⌝ }
+fn number_fits(elements: &[u16], x: usize, low: usize, e: ElementId, rank: usize) -> bool
+    requires { ⌜ (length (now elements) ≡ elementSlice) × (e .0 ≤ desk .elements) ⌝ }
+    ensures { λ r. ⌜ r ≡ numberFits desk (now (elements .entry)) (e .0) rank low x ⌝ }
 {
     if x < low {
         return false;
     }
-    if e <= x {
+    if e.0 <= x {
         return false;
     }
     wide(elements[x * WIDTH]) + 1 == rank
 }
 
 // The boundary numbers rise strictly, and each fits.
-pub fn numbers_fit(elements: &[u16], from: usize, to: usize, e: usize, rank: usize) -> bool
-    requires { ⌜ (from ≤ to) × (to ≤ length (now elements)) × (length (now elements) ≡ 18432) × (e ≤ 512) ⌝ }
-    ensures { λ r. ⌜ r ≡ numbersFit desk (now (elements .entry)) e rank (drop from (take to (now (elements .entry)))) ⌝ }
+pub fn numbers_fit(elements: &[u16], from: usize, to: usize, e: ElementId, rank: usize) -> bool
+    requires { ⌜ NumbersReady (now elements) from to (e .0) ⌝ }
+    ensures { λ r. ⌜ r ≡ numbersFit desk (now (elements .entry)) (e .0) rank (drop from (take to (now (elements .entry)))) ⌝ }
 {
     let mut low = 0usize;
     for i in from..to {
@@ -53,9 +57,15 @@ pub fn numbers_fit(elements: &[u16], from: usize, to: usize, e: usize, rank: usi
 }
 
 // The numbers of a face of few edges: the ends of each are met in the same pass.
-fn few_fits(elements: &[u16], from: usize, to: usize, e: usize, met: &mut [u32; 512]) -> bool
-    requires { ⌜ (from ≤ to) × (to ≤ from + 32) × (to ≤ length (now elements)) × (length (now elements) ≡ 18432) × (e < 512) × EdgesLow (now elements) e × Unmet (stampOf e) (now met) ⌝ }
-    ensures { λ r. ⌜ (r ≡ fewWords desk (now (elements .entry)) e (drop from (take to (now (elements .entry))))) × (r ≡ true → Unmet (stampOf (e + 1)) (now (met .exit))) ⌝ }
+fn few_fits(
+    elements: &[u16],
+    from: usize,
+    to: usize,
+    e: ElementId,
+    met: &mut [u32; ELEMENTS],
+) -> bool
+    requires { ⌜ EdgesReady (now elements) from to (e .0) (now met) ⌝ }
+    ensures { λ r. ⌜ BoundaryTested (fewWords desk (now (elements .entry)) (e .0) (drop from (take to (now (elements .entry))))) (e .0) r (now (met .exit)) ⌝ }
 {
     let stamp = stamp_of(e);
     let mut low = 0usize;
@@ -65,16 +75,22 @@ fn few_fits(elements: &[u16], from: usize, to: usize, e: usize, met: &mut [u32; 
         if !number_fits(elements, x, low, e, 2) {
             return false;
         }
-        twice = twice + meet_ends(elements, x, met, stamp);
+        twice = twice + meet_ends(elements, ElementId(x), met, stamp);
         low = x + 1;
     }
     twice == to - from
 }
 
 // The numbers of any other face: each edge joins paths in the same pass.
-fn face_fits(elements: &[u16], from: usize, to: usize, e: usize, met: &mut [u32; 512]) -> bool
-    requires { ⌜ (from ≤ to) × (to ≤ from + 32) × (to ≤ length (now elements)) × (length (now elements) ≡ 18432) × (e < 512) × EdgesLow (now elements) e × Unmet (stampOf e) (now met) ⌝ }
-    ensures { λ r. ⌜ (r ≡ faceWords desk (now (elements .entry)) e (drop from (take to (now (elements .entry))))) × (r ≡ true → Unmet (stampOf (e + 1)) (now (met .exit))) ⌝ }
+fn face_fits(
+    elements: &[u16],
+    from: usize,
+    to: usize,
+    e: ElementId,
+    met: &mut [u32; ELEMENTS],
+) -> bool
+    requires { ⌜ EdgesReady (now elements) from to (e .0) (now met) ⌝ }
+    ensures { λ r. ⌜ BoundaryTested (faceWords desk (now (elements .entry)) (e .0) (drop from (take to (now (elements .entry))))) (e .0) r (now (met .exit)) ⌝ }
 {
     let stamp = stamp_of(e);
     let mut low = 0usize;
@@ -84,7 +100,7 @@ fn face_fits(elements: &[u16], from: usize, to: usize, e: usize, met: &mut [u32;
         if !number_fits(elements, x, low, e, 2) {
             return false;
         }
-        let joins = join_ends(elements, x, met, stamp);
+        let joins = join_ends(elements, ElementId(x), met, stamp);
         if joins == THRICE {
             return false;
         }
@@ -105,13 +121,13 @@ pub fn boundary_sound(
     elements: &[u16],
     at: usize,
     n: usize,
-    e: usize,
+    e: ElementId,
     d: usize,
     rank: usize,
-    met: &mut [u32; 512],
+    met: &mut [u32; ELEMENTS],
 ) -> bool
-    requires { ⌜ (length (now elements) ≡ 18432) × (at + n ≤ 18432) × (n ≤ 32) × (e < 512) × (rank ≡ 1 → ⊥) × EdgesLow (now elements) e × Unmet (stampOf e) (now met) ⌝ }
-    ensures { λ r. ⌜ (r ≡ boundaryWords desk (now (elements .entry)) d e rank (drop at (take (at + n) (now (elements .entry))))) × (r ≡ true → Unmet (stampOf (e + 1)) (now (met .exit))) ⌝ }
+    requires { ⌜ NumbersThere (now elements) at n (e .0) rank (now met) ⌝ }
+    ensures { λ r. ⌜ BoundaryTested (boundarySound desk (now (elements .entry)) d (e .0) rank (drop at (take (at + n) (now (elements .entry))))) (e .0) r (now (met .exit)) ⌝ }
 {
     if n <= rank {
         return false;

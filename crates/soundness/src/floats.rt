@@ -2,6 +2,7 @@
 use hypermath::hyperplane_at;
 use hypermath::is_unit;
 use hypermath::is_within;
+use rules::HyperplaneId;
 use space::words::AXES;
 use space::words::PLANE_FLOATS;
 use space::words::PLANE_WIDTH;
@@ -81,9 +82,9 @@ fn points_sound(points: &[f64], d: usize, v: usize) -> bool
 }
 
 // A unit normal, zero bits past the dimension, and a distance from -262,144 to 262,144.
-fn plane_sound(planes: &[f64], k: usize, d: usize) -> bool
-    requires { ⌜ (d ≤ 4) × (k < 64) × (length (now planes) ≡ 320) ⌝ }
-    ensures { λ r. ⌜ r ≡ planeWords desk d (take 5 (drop (k * 5) (now (planes .entry)))) ⌝ }
+fn plane_sound(planes: &[f64], k: HyperplaneId, d: usize) -> bool
+    requires { ⌜ (d ≤ 4) × (k .0 < 64) × (length (now planes) ≡ 320) ⌝ }
+    ensures { λ r. ⌜ r ≡ planeWords desk d (take 5 (drop (k .0 * 5) (now (planes .entry)))) ⌝ }
 {
     let h = hyperplane_at(planes, k);
     let normal = h.normal;
@@ -99,7 +100,7 @@ fn planes_sound(planes: &[f64], d: usize, h: usize) -> bool
     ensures { λ r. ⌜ r ≡ planesSound desk d h (now (planes .entry)) ⌝ }
 {
     for i in 0..h {
-        if !plane_sound(planes, i, d) {
+        if !plane_sound(planes, HyperplaneId(i), d) {
             return false;
         }
     }

@@ -3,8 +3,11 @@ use crate::boundaries::boundary_sound;
 use crate::boundaries::numbers_fit;
 use crate::chains::row_new;
 use crate::floats::floats_sound;
+use rules::ElementId;
+use rules::VertexId;
 use space::chains::INDEX;
 use space::words::AXES;
+use space::words::BOUNDARY;
 use space::words::ELEMENT_WORDS;
 use space::words::ELEMENTS;
 use space::words::HYPERPLANES;
@@ -13,24 +16,24 @@ use space::words::VERTICES;
 use space::words::WIDTH;
 use space::words::right_size;
 use space::words::wide;
-ghost use Prim.Native.Nat.{ℕ, _+_, _*_, _<_, _≤_};
+ghost use Prim.Native.Nat.{_+_, _≤_};
 ghost use mathlib.Core.Path.{_≡_};
-ghost use mathlib.Core.Bool.{cond, true, _&&_};
-ghost use lib.Dec.{eqb};
-ghost use lib.ListN.{length, getD, take, drop};
+ghost use mathlib.Core.Bool.{_&&_};
+ghost use lib.ListN.{length, take, drop};
 ghost use Rattle.rules.specs.Limits.{desk};
 ghost use Rattle.rules.specs.Memory.{soundMemory};
 ghost use Rattle.rules.specs.Held.{memoryOf};
 ghost use Rattle.rules.specs.Replies.{isSoundReply};
-ghost use Rattle.space.specs.Chains.{Indexed};
-ghost use Rattle.space.specs.Closed.{Unmet};
-ghost use Rattle.soundness.specs.Words.{blank, countsFit, Mask, Gathered, headWords, cornerNamed, stampOf, facetWords, EdgesLow, polytopeWords, rowSound, rowsInUse, rowsDistinct, rowsSound};
+ghost use Rattle.space.specs.Chains.{Indexed, storedRow};
+ghost use Rattle.soundness.specs.Words.{blankWords, countsFit, Mask, PastSeen, facetWords, polytopeWords, rowSound, rowsInUse, rowsDistinct, rowsSound};
+ghost use Rattle.soundness.specs.Tests.{PartOf, Kept, MovesOn, PastReady, CornerReady, CornerTested, RowThere, EdgeTested};
+ghost use Rattle.soundness.specs.Tests.{RowReady, HigherReady, RowTested, RowsReady, RowsTested, MemoryTested};
 
 // How many words stand before a boundary: rank, mark, hyperplane, count.
 const HEAD: usize = 4;
 
-// Room for so many numbers in a boundary.
-const BOUNDARY: usize = 32;
+// Entries of the mask: twice the room of a boundary.
+const MASK: usize = 64;
 
 // The dimension and every count fit the room, and the hyperplanes of the space are there.
 fn counts_fit(d: usize, n: usize, v: usize, h: usize) -> bool
@@ -59,8 +62,8 @@ fn counts_fit(d: usize, n: usize, v: usize, h: usize) -> bool
 
 // Unused words are zero. Their bits are gathered to the end whatever is met, so that many words are read at once.
 fn blank_words(list: &[u16], from: usize, to: usize) -> bool
-    requires { ⌜ (from ≤ to) × (to ≤ length (now list)) ⌝ }
-    ensures { λ r. ⌜ r ≡ blank (drop from (take to (now (list .entry)))) ⌝ }
+    requires { ⌜ PartOf from to (length (now list)) ⌝ }
+    ensures { λ r. ⌜ r ≡ blankWords (drop from (take to (now (list .entry)))) ⌝ }
 {
     let mut seen = 0u16;
     for i in from..to {
@@ -70,11 +73,11 @@ fn blank_words(list: &[u16], from: usize, to: usize) -> bool
 }
 
 // Zeros and then ones: 32 entries of it, from entry 32 - n on, keep of 32 words those past the first n.
-fn past_mask() -> [u16; 64]
+fn past_mask() -> [u16; MASK]
     ensures { λ r. ⌜ Mask r ⌝ }
 {
-    let mut past = [0u16; 64];
-    for k in 32..64 {
+    let mut past = [0u16; MASK];
+    for k in BOUNDARY..MASK {
         past[k] = 65535;
     }
     past
@@ -82,25 +85,31 @@ fn past_mask() -> [u16; 64]
 
 // The word under an entry of the mask.
 fn kept(x: u16, mask: u16) -> u16
-    ensures { λ r. ⌜ (mask ≡ 0 → r ≡ 0) × (mask ≡ 65535 → r ≡ x) ⌝ }
+    ensures { λ r. ⌜ Kept x mask r ⌝ }
 {
     x & mask
 }
 
-// What stands past the boundary of a row joins what was seen there in the rows before. All of its room is read, so that the loop has one length and no test, and no mask where the count is a literal; whether anything was seen is asked once, after the last row.
-fn gather_past(elements: &[u16], at: usize, n: usize, past: &[u16; 64], seen: &mut [u16; 32])
-    requires { ⌜ (at + 36 ≤ length (now elements)) × (n ≡ getD (now elements) (at + 3) 0) × (n ≤ 32) × Mask (now past) × (length (now seen) ≡ 32) ⌝ }
-    ensures { λ _. ⌜ Gathered (take 36 (drop at (now (elements .entry)))) (now (seen .entry)) (now (seen .exit)) ⌝ }
+// What stands past a row's boundary joins what was seen before. All its room is read, with one length and no test; whether anything was seen is asked once, after the last row.
+fn gather_past(
+    elements: &[u16],
+    at: usize,
+    n: usize,
+    past: &[u16; MASK],
+    seen: &mut [u16; BOUNDARY],
+)
+    requires { ⌜ PastReady (now elements) at n (now past) (now seen) ⌝ }
+    ensures { λ _. ⌜ PastSeen (take 36 (drop at (now (elements .entry)))) (now (seen .entry)) (now (seen .exit)) ⌝ }
 {
-    for j in 0..32 {
-        seen[j] = seen[j] | kept(elements[at + HEAD + j], past[32 - n + j]);
+    for j in 0..BOUNDARY {
+        seen[j] = seen[j] | kept(elements[at + HEAD + j], past[BOUNDARY - n + j]);
     }
 }
 
 // How far the row of a vertex element moves the next vertex on.
 fn one_if_corner(elements: &[u16], at: usize) -> usize
     requires { ⌜ at + 36 ≤ length (now elements) ⌝ }
-    ensures { λ r. ⌜ (r ≡ cond (eqb (getD (take 36 (drop at (now (elements .entry)))) 0 0) 0) 1 0) × (r ≤ 1) ⌝ }
+    ensures { λ r. ⌜ MovesOn (take 36 (drop at (now (elements .entry)))) r ⌝ }
 {
     if elements[at] == 0 { 1 } else { 0 }
 }
@@ -123,12 +132,12 @@ fn facet_sound(d: usize, h: usize, rank: usize, plane: usize, mark: usize) -> bo
 fn corner_sound(
     elements: &[u16],
     at: usize,
-    k: usize,
-    past: &[u16; 64],
-    seen: &mut [u16; 32],
+    k: VertexId,
+    past: &[u16; MASK],
+    seen: &mut [u16; BOUNDARY],
 ) -> bool
-    requires { ⌜ (at + 36 ≤ length (now elements)) × (getD (now elements) at 0 ≡ 0) × Mask (now past) × (length (now seen) ≡ 32) ⌝ }
-    ensures { λ r. ⌜ (r ≡ (headWords desk (take 36 (drop at (now (elements .entry)))) && cornerNamed k (take 36 (drop at (now (elements .entry)))))) × (r ≡ true → Gathered (take 36 (drop at (now (elements .entry)))) (now (seen .entry)) (now (seen .exit))) ⌝ }
+    requires { ⌜ CornerReady (now elements) at (now past) (now seen) ⌝ }
+    ensures { λ r. ⌜ CornerTested (now (elements .entry)) at (k .0) r (now (seen .entry)) (now (seen .exit)) ⌝ }
 {
     if elements[at + 1] != 0 {
         return false;
@@ -140,15 +149,20 @@ fn corner_sound(
         return false;
     }
     gather_past(elements, at, 1, past, seen);
-    wide(elements[at + 4]) == k
+    wide(elements[at + 4]) == k.0
 }
 
 // The boundary of an edge: with the count as a literal the loop is two tests and no loop.
-fn edge_sound(elements: &[u16], e: usize, past: &[u16; 64], seen: &mut [u16; 32]) -> bool
-    requires { ⌜ (length (now elements) ≡ 18432) × (e < 512) × Mask (now past) × (length (now seen) ≡ 32) ⌝ }
-    ensures { λ r. ⌜ ((d : ℕ) → r ≡ polytopeWords desk (now (elements .entry)) d e 1 (take 36 (drop (e * 36) (now (elements .entry))))) × (r ≡ true → Gathered (take 36 (drop (e * 36) (now (elements .entry)))) (now (seen .entry)) (now (seen .exit))) ⌝ }
+fn edge_sound(
+    elements: &[u16],
+    e: ElementId,
+    past: &[u16; MASK],
+    seen: &mut [u16; BOUNDARY],
+) -> bool
+    requires { ⌜ RowThere (now elements) (e .0) (now past) (now seen) ⌝ }
+    ensures { λ r. ⌜ EdgeTested (now (elements .entry)) (e .0) r (now (seen .entry)) (now (seen .exit)) ⌝ }
 {
-    let at = e * WIDTH;
+    let at = e.0 * WIDTH;
     if elements[at + 3] != 2 {
         return false;
     }
@@ -159,17 +173,17 @@ fn edge_sound(elements: &[u16], e: usize, past: &[u16; 64], seen: &mut [u16; 32]
 // The boundary of a face or a body: it is read only once its count is known to fit.
 fn higher_sound(
     elements: &[u16],
-    e: usize,
+    e: ElementId,
     d: usize,
     rank: usize,
-    met: &mut [u32; 512],
-    past: &[u16; 64],
-    seen: &mut [u16; 32],
+    met: &mut [u32; ELEMENTS],
+    past: &[u16; MASK],
+    seen: &mut [u16; BOUNDARY],
 ) -> bool
-    requires { ⌜ (length (now elements) ≡ 18432) × (e < 512) × (rank ≡ 1 → ⊥) × EdgesLow (now elements) e × Unmet (stampOf e) (now met) × Mask (now past) × (length (now seen) ≡ 32) ⌝ }
-    ensures { λ r. ⌜ (r ≡ polytopeWords desk (now (elements .entry)) d e rank (take 36 (drop (e * 36) (now (elements .entry))))) × (r ≡ true → Unmet (stampOf (e + 1)) (now (met .exit))) × (r ≡ true → Gathered (take 36 (drop (e * 36) (now (elements .entry)))) (now (seen .entry)) (now (seen .exit))) ⌝ }
+    requires { ⌜ HigherReady (now elements) (e .0) rank (now met) (now past) (now seen) ⌝ }
+    ensures { λ r. ⌜ RowTested (polytopeWords desk (now (elements .entry)) d (e .0) rank (storedRow (now (elements .entry)) (e .0))) (now (elements .entry)) (e .0) r (now (met .exit)) (now (seen .entry)) (now (seen .exit)) ⌝ }
 {
-    let at = e * WIDTH;
+    let at = e.0 * WIDTH;
     let n = wide(elements[at + 3]);
     if BOUNDARY < n {
         return false;
@@ -181,15 +195,15 @@ fn higher_sound(
 // The boundary of a polytope, by its rank.
 fn polytope_sound(
     elements: &[u16],
-    e: usize,
+    e: ElementId,
     d: usize,
     rank: usize,
-    met: &mut [u32; 512],
-    past: &[u16; 64],
-    seen: &mut [u16; 32],
+    met: &mut [u32; ELEMENTS],
+    past: &[u16; MASK],
+    seen: &mut [u16; BOUNDARY],
 ) -> bool
-    requires { ⌜ (length (now elements) ≡ 18432) × (e < 512) × EdgesLow (now elements) e × Unmet (stampOf e) (now met) × Mask (now past) × (length (now seen) ≡ 32) ⌝ }
-    ensures { λ r. ⌜ (r ≡ polytopeWords desk (now (elements .entry)) d e rank (take 36 (drop (e * 36) (now (elements .entry))))) × (r ≡ true → Unmet (stampOf (e + 1)) (now (met .exit))) × (r ≡ true → Gathered (take 36 (drop (e * 36) (now (elements .entry)))) (now (seen .entry)) (now (seen .exit))) ⌝ }
+    requires { ⌜ RowReady (now elements) (e .0) (now met) (now past) (now seen) ⌝ }
+    ensures { λ r. ⌜ RowTested (polytopeWords desk (now (elements .entry)) d (e .0) rank (storedRow (now (elements .entry)) (e .0))) (now (elements .entry)) (e .0) r (now (met .exit)) (now (seen .entry)) (now (seen .exit)) ⌝ }
 {
     if rank == 1 {
         return edge_sound(elements, e, past, seen);
@@ -200,18 +214,18 @@ fn polytope_sound(
 // One row, where vertex k is the next to be named. Rows are tested by kind, so that the count of a vertex or an edge is a literal.
 fn row_sound(
     elements: &[u16],
-    e: usize,
+    e: ElementId,
     d: usize,
     h: usize,
-    k: usize,
-    met: &mut [u32; 512],
-    past: &[u16; 64],
-    seen: &mut [u16; 32],
+    k: VertexId,
+    met: &mut [u32; ELEMENTS],
+    past: &[u16; MASK],
+    seen: &mut [u16; BOUNDARY],
 ) -> bool
-    requires { ⌜ (length (now elements) ≡ 18432) × (e < 512) × EdgesLow (now elements) e × Unmet (stampOf e) (now met) × Mask (now past) × (length (now seen) ≡ 32) ⌝ }
-    ensures { λ r. ⌜ (r ≡ rowSound desk (now (elements .entry)) d h k e (take 36 (drop (e * 36) (now (elements .entry))))) × (r ≡ true → Unmet (stampOf (e + 1)) (now (met .exit))) × (r ≡ true → Gathered (take 36 (drop (e * 36) (now (elements .entry)))) (now (seen .entry)) (now (seen .exit))) ⌝ }
+    requires { ⌜ RowReady (now elements) (e .0) (now met) (now past) (now seen) ⌝ }
+    ensures { λ r. ⌜ RowTested (rowSound desk (now (elements .entry)) d h (k .0) (e .0) (storedRow (now (elements .entry)) (e .0))) (now (elements .entry)) (e .0) r (now (met .exit)) (now (seen .entry)) (now (seen .exit)) ⌝ }
 {
-    let at = e * WIDTH;
+    let at = e.0 * WIDTH;
     let rank = wide(elements[at]);
     if rank == 0 {
         return corner_sound(elements, at, k, past, seen);
@@ -232,18 +246,19 @@ fn row_sound(
 
 // The rows in use, in one pass: each is sound and equal to no earlier one, and vertex elements name vertices 0, 1, 2 .. in order, each once. From an empty index to that of all of them.
 fn rows_in_use(elements: &[u16], d: usize, n: usize, v: usize, h: usize, index: &mut [u16]) -> bool
-    requires { ⌜ (n ≤ 512) × (length (now elements) ≡ 18432) × Indexed (now elements) 0 (now index) ⌝ }
-    ensures { λ r. ⌜ (r ≡ (rowsInUse desk d n v h (now (elements .entry)) && rowsDistinct desk n (now (elements .entry)))) × (r ≡ true → Indexed (now (elements .entry)) n (now (index .exit))) ⌝ }
+    requires { ⌜ RowsReady (now elements) n (now index) ⌝ }
+    ensures { λ r. ⌜ RowsTested (rowsInUse desk d n v h (now (elements .entry)) && rowsDistinct desk n (now (elements .entry))) (now (elements .entry)) d n h (now (index .entry)) r (now (index .exit)) ⌝ }
 {
     let past = past_mask();
-    let mut met = [0u32; 512];
-    let mut seen = [0u16; 32];
+    let mut met = [0u32; ELEMENTS];
+    let mut seen = [0u16; BOUNDARY];
     let mut k = 0usize;
     for i in 0..n {
-        if !row_sound(elements, i, d, h, k, &mut met, &past, &mut seen) {
+        let e = ElementId(i);
+        if !row_sound(elements, e, d, h, VertexId(k), &mut met, &past, &mut seen) {
             return false;
         }
-        if !row_new(elements, i, index) {
+        if !row_new(elements, e, index) {
             return false;
         }
         k = k + one_if_corner(elements, i * WIDTH);
@@ -251,13 +266,13 @@ fn rows_in_use(elements: &[u16], d: usize, n: usize, v: usize, h: usize, index: 
     if k != v {
         return false;
     }
-    blank_words(&seen, 0, 32)
+    blank_words(&seen, 0, BOUNDARY)
 }
 
 // The slice of elements: the rows in use, and zeros past them.
 fn rows_along(elements: &[u16], d: usize, n: usize, v: usize, h: usize, index: &mut [u16]) -> bool
-    requires { ⌜ (n ≤ 512) × (length (now elements) ≡ 18432) × Indexed (now elements) 0 (now index) ⌝ }
-    ensures { λ r. ⌜ (r ≡ rowsSound desk d n v h (now (elements .entry))) × (r ≡ true → Indexed (now (elements .entry)) n (now (index .exit))) ⌝ }
+    requires { ⌜ RowsReady (now elements) n (now index) ⌝ }
+    ensures { λ r. ⌜ RowsTested (rowsSound desk d n v h (now (elements .entry))) (now (elements .entry)) d n h (now (index .entry)) r (now (index .exit)) ⌝ }
 {
     if !rows_in_use(elements, d, n, v, h, index) {
         return false;
@@ -267,8 +282,8 @@ fn rows_along(elements: &[u16], d: usize, n: usize, v: usize, h: usize, index: &
 
 // The same; with the dimension as a number a row's rank is compared with numbers.
 fn rows_sound(elements: &[u16], d: usize, n: usize, v: usize, h: usize, index: &mut [u16]) -> bool
-    requires { ⌜ (n ≤ 512) × (length (now elements) ≡ 18432) × Indexed (now elements) 0 (now index) ⌝ }
-    ensures { λ r. ⌜ (r ≡ rowsSound desk d n v h (now (elements .entry))) × (r ≡ true → Indexed (now (elements .entry)) n (now (index .exit))) ⌝ }
+    requires { ⌜ RowsReady (now elements) n (now index) ⌝ }
+    ensures { λ r. ⌜ RowsTested (rowsSound desk d n v h (now (elements .entry))) (now (elements .entry)) d n h (now (index .entry)) r (now (index .exit)) ⌝ }
 {
     if d == 2 {
         return rows_along(elements, 2, n, v, h, index);
@@ -279,7 +294,7 @@ fn rows_sound(elements: &[u16], d: usize, n: usize, v: usize, h: usize, index: &
     rows_along(elements, d, n, v, h, index)
 }
 
-// Lengths and counts come first: the other tests rely on them. The rows of a sound memory are in the index then.
+// Lengths and counts come first: the other tests rely on them. The rows that were read are in the index then: all in use where the memory is sound.
 pub fn memory_indexed(
     counts: &[u16],
     points: &[f64],
@@ -288,7 +303,7 @@ pub fn memory_indexed(
     index: &mut [u16],
 ) -> bool
     requires { ⌜ Indexed (now elements) 0 (now index) ⌝ }
-    ensures { λ r. ⌜ (r ≡ soundMemory desk (memoryOf (now (counts .entry)) (now (points .entry)) (now (planes .entry)) (now (elements .entry)))) × (r ≡ true → Indexed (now (elements .entry)) (getD (now (counts .entry)) 1 0) (now (index .exit))) ⌝ }
+    ensures { λ r. ⌜ MemoryTested (now (counts .entry)) (now (points .entry)) (now (planes .entry)) (now (elements .entry)) (now (index .entry)) r (now (index .exit)) ⌝ }
 {
     if !right_size(counts, points, planes, elements) {
         return false;

@@ -104,7 +104,8 @@ round-start es edges s met U = record {
   whole = λ v. sym (zero-add (occurrences v (rawEnds es edges)));
 }
 
-pub round-go : (es edges : List ℕ) (s : ℕ) (met : List ℕ) (twice k x : ℕ) → Round es edges s met twice k → k < length edges → x ≡ getD edges k 0 → EndsLow es x → Round es edges s (bothMet s es met x) (twice + seconds s es met x) (k + 1)
+pub round-go : (es edges : List ℕ) (s : ℕ) (met : List ℕ) (twice k x : ℕ) → Round es edges s met twice k → k < length edges → x ≡ getD edges k 0 → EndsLow es x
+    → Round es edges s (bothMet s es met x) (twice + seconds s es met x) (k + 1)
 unfolding bothMet seconds
 round-go es edges s met twice k x R h e E =
     let a = firstEnd es x in
@@ -127,7 +128,8 @@ round-go es edges s met twice k x R h e E =
     }
 
 -- the same, by what the call that meets both ends gives
-pub round-met : (es edges : List ℕ) (s : ℕ) (met after : List ℕ) (twice k x r : ℕ) → Round es edges s met twice k → k < length edges → x ≡ getD edges k 0 → EndsLow es x → r ≡ seconds s es met x → after ≡ bothMet s es met x → Round es edges s after (twice + r) (k + 1)
+pub round-met : (es edges : List ℕ) (s : ℕ) (met after : List ℕ) (twice k x r : ℕ) → Round es edges s met twice k → k < length edges → x ≡ getD edges k 0 → EndsLow es x
+    → r ≡ seconds s es met x → after ≡ bothMet s es met x → Round es edges s after (twice + r) (k + 1)
 round-met es edges s met after twice k x r R h e E p q = rw (p, q) (round-go es edges s met twice k x R h e E)
 
 module _ (es edges : List ℕ) (s : ℕ) (met : List ℕ) (twice k : ℕ) (R : Round es edges s met twice k) where

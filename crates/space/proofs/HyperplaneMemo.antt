@@ -1,17 +1,18 @@
 -- Sharing a hyperplane is the step of the rules; and its search, over the hyperplanes that are read back, is theirs.
 use Prim.Native.Nat.{ℕ, _<_, zero, suc, _≤_, _*_, _+_}
-use mathlib.Core.Bool.{Bool, true}
-use mathlib.Core.List.{List, _∷_, [], map, _++_}
+use mathlib.Core.Bool.{Bool, true, false}
+use mathlib.Core.List.{List, _∷_, []}
 use mathlib.Core.Option.{Option}
 use mathlib.Core.Path.{_≡_, refl, _∙_, ap, subst, sym, ap₂}
 use native.Mathlib.Nat.{le-trans, le-of-eq}
 use native.Mathlib.Omega.{arith}
+use lib.Dec.{ltb}
 use lib.Ieee.{Float}
 use lib.ListN.{set, length, getD, length-append, drop}
 use lib.Seq.{sets, take-take}
 use Rattle.rules.specs.Cut.{sharePlane, done, withPlane, refused, planeMatches, addPlane}
 use Rattle.rules.specs.Floats.{plusZero}
-use Rattle.rules.specs.Held.{countsOf, Holds, went, stopped, elementsOf, pointsOf, Wide, Fits, planesOf, Came}
+use Rattle.rules.specs.Held.{Holds, went, stopped, elementsOf, pointsOf, Fits, planesOf, Came}
 use Rattle.rules.specs.Limits.{desk}
 use Rattle.rules.specs.Lists.{if_then_else_, findFrom}
 use Rattle.rules.specs.Memory.{planeRow, readPlane}
@@ -29,25 +30,26 @@ use Rattle.rules.proofs.Laws.{le-test}
 use Rattle.rules.proofs.RoundTrip.{plane-read, plane-long}
 use Rattle.rules.proofs.Rows.{read-rows}
 use Rattle.space.specs.declared.memo.PlacedHyperplane.{PlacedHyperplane}
-use Rattle.space.specs.Shared.{five, HyperplaneShared, hyperplaneAt, rowOf, HyperplaneAdded}
-use Rattle.space.proofs.Room.{plane-counted, plane-stored}
+use Rattle.space.specs.Shared.{five, newHyperplane, hyperplaneBy, planeOutcome, planeFound, hyperplaneOutcome, HyperplaneShared, hyperplaneAt, rowOf, HyperplaneAdded}
+use Rattle.space.proofs.Room.{wide-more, plane-counted, plane-stored}
 use Rattle.space.proofs.RowAdds.{readable-desk}
+use Rattle.space.proofs.Slices.{slices}
 use Rattle.space.proofs.VertexMemo.{four-is, dimension-is}
 use borrow.Author.Tests.{le-ltb, lt-ltb}
 use Rattle.space.specs.declared.memo.PlacedHyperplane.the-variants as hyperplane
 
-pub few : (d : ℕ) → d < 2 → 0 ≡ primordials d
-few zero h = refl
-few (suc zero) h = refl
-few (suc (suc d)) h = absurd (let z : ⊥ = omega arith in z)
+pub primordials-none : (d : ℕ) → d < 2 → 0 ≡ primordials d
+primordials-none zero h = refl
+primordials-none (suc zero) h = refl
+primordials-none (suc (suc d)) h = absurd (let z : ⊥ = omega arith in z)
 
-pub many : (d : ℕ) → 2 ≤ d → 2 * d ≡ primordials d
-many zero h = absurd (let z : ⊥ = omega arith in z)
-many (suc zero) h = absurd (let z : ⊥ = omega arith in z)
-many (suc (suc d)) h = refl
+pub primordials-two : (d : ℕ) → 2 ≤ d → 2 * d ≡ primordials d
+primordials-two zero h = absurd (let z : ⊥ = omega arith in z)
+primordials-two (suc zero) h = absurd (let z : ⊥ = omega arith in z)
+primordials-two (suc (suc d)) h = refl
 
-pub stores : (l : List Float) (at : ℕ) (a b c d e : Float) → set (set (set (set (set l at a) (at + 1) b) (at + 2) c) (at + 3) d) (at + 4) e ≡ sets l at (a ∷ b ∷ c ∷ d ∷ e ∷ [])
-stores l at a b c d e =
+pub five-stores : (l : List Float) (at : ℕ) (a b c d e : Float) → set (set (set (set (set l at a) (at + 1) b) (at + 2) c) (at + 3) d) (at + 4) e ≡ sets l at (a ∷ b ∷ c ∷ d ∷ e ∷ [])
+five-stores l at a b c d e =
     let e₁ : at + 1 ≡ suc at = omega arith in
     let e₂ : at + 2 ≡ suc (suc at) = omega arith in
     let e₃ : at + 3 ≡ suc (suc (suc at)) = omega arith in
@@ -63,20 +65,26 @@ five-is (a ∷ b ∷ c ∷ d ∷ []) h = absurd (let z : ⊥ = omega (arith, h) 
 five-is (a ∷ b ∷ c ∷ d ∷ e ∷ []) h = refl
 five-is (a ∷ b ∷ c ∷ d ∷ e ∷ f ∷ r) h = absurd (let z : ⊥ = omega (arith, h) in z)
 
-planed : (t : Table) → getD (countsOf t) 3 0 ≡ length (t .planes)
-unfolding countsOf
-planed t = refl
-
 number : {cs : List ℕ} {ps hs : List Float} {es : List ℕ} {t : Table} (n : ℕ) → n ≡ getD cs 3 0 → Holds desk cs ps hs es t → n ≡ length (t .planes)
-number {t = t} n k H = k ∙ ap (λ (l : List ℕ). getD l 3 0) (H .counts) ∙ planed t
+number n k H = k ∙ slices H .planeCount
+
+-- the outcome where none was found, by the test for room
+by-room : (cs : List ℕ) (hs row : List Float) (m : FoundHyperplane) → m ≡ NoHyperplane → (b : Bool) → ltb (getD cs 3 0) 64 ≡ b → planeOutcome cs hs row (hyperplaneNumber m) ≡ hyperplaneBy cs hs row b
+unfolding planeOutcome
+by-room cs hs row m e b t = ap (λ (x : FoundHyperplane). planeOutcome cs hs row (hyperplaneNumber x)) e ∙ ap (hyperplaneBy cs hs row) t
 
 module _ {cs : List ℕ} {hs : List Float} {row : List Float} {m : FoundHyperplane} where
   pub shared-old : (k : HyperplaneId) → m ≡ AtHyperplane k → HyperplaneShared cs hs row m (hyperplane.At k) cs hs
-  shared-old k e = record { of = λ ps es t g H w l. went (k .0) t (ap (λ (x : FoundHyperplane). sharePlane desk g (hyperplaneNumber x) t) e) refl H }
+  unfolding planeOutcome
+  shared-old k e = record {
+    words = sym (ap (λ (x : FoundHyperplane). planeOutcome cs hs row (hyperplaneNumber x)) e);
+    of = λ ps es t g H w l. went (k .0) t (ap (λ (x : FoundHyperplane). sharePlane desk g (hyperplaneNumber x) t) e) refl H;
+  }
 
   module _ (n : ℕ) (k : n ≡ getD cs 3 0) (e : m ≡ NoHyperplane) where
     pub shared-full : 64 ≤ n → HyperplaneShared cs hs row m (hyperplane.Refused 10) cs hs
     shared-full h = record {
+      words = sym (by-room cs hs row m e false (le-ltb (getD cs 3 0) 64 (subst (λ (i : ℕ). 64 ≤ i) k h)));
       of = λ ps es t g H w l.
           stopped 10 t
           (ap (λ (x : FoundHyperplane). sharePlane desk g (hyperplaneNumber x) t) e
@@ -87,6 +95,7 @@ module _ {cs : List ℕ} {hs : List Float} {row : List Float} {m : FoundHyperpla
     pub shared-new : {hs′ : List Float} → n < 64 → hs′ ≡ sets hs (n * 5) (five row) → HyperplaneShared cs hs row m (hyperplaneAt n) (set cs 3 (n + 1)) hs′
     unfolding elementsOf pointsOf
     shared-new {hs′} h s = record {
+      words = (λ i. record { reply = hyperplaneAt n; counts = set cs 3 (n + 1); planes = s i }) ∙ ap (newHyperplane cs hs row) k ∙ sym (by-room cs hs row m e true (lt-ltb (getD cs 3 0) 64 (subst (λ (j : ℕ). j < 64) k h)));
       of = λ ps es t g H w l.
           (let i = number n k H in
           let u : length (t .planes) < 64 = subst (λ (j : ℕ). j < 64) i h in
@@ -104,10 +113,6 @@ module _ {cs : List ℕ} {hs : List Float} {row : List Float} {m : FoundHyperpla
           ∙ ap (λ (j : ℕ). done j (withPlane g t)) (sym i)) refl H′);
     }
       where
-        wide-more : (xs : List Plane) (g : Plane) → Wide 5 (map (planeRow desk) xs) → length (planeRow desk g) ≡ 5 → Wide 5 (map (planeRow desk) (xs ++ g ∷ []))
-        wide-more [] g a b = (b, tt)
-        wide-more (x ∷ xs) g a b = (a .0, wide-more xs g (a .1) b)
-
         fitted : (t : Table) → Fits desk t → (g : Plane) → length (t .planes) < 64 → length (planeRow desk g) ≡ 5 → Fits desk (withPlane g t)
         fitted t F g u z = record {
           elementRoom = F .elementRoom;
@@ -116,7 +121,7 @@ module _ {cs : List ℕ} {hs : List Float} {row : List Float} {m : FoundHyperpla
           elements = F .elements;
           kinds = F .kinds;
           points = F .points;
-          planes = wide-more (t .planes) g (F .planes) z;
+          planes = wide-more 5 (planeRow desk) (t .planes) g (F .planes) z;
         }
 
 -- ---- the hyperplanes of a sound table, as they are read back
@@ -143,8 +148,9 @@ plane-is d l h k g w s =
 pub hyperplane-added : {cs : List ℕ} {hs : List Float} {h : Hyperplane} {row : List Float} {m : FoundHyperplane} {r : PlacedHyperplane} {cs′ : List ℕ} {hs′ : List Float} (d k n : ℕ)
     → d ≡ getD cs 0 0 → k ≡ primordials d → n ≡ getD cs 3 0 → length (h .normal) ≡ 4 → row ≡ rowOf h
     → hyperplaneNumber m ≡ findFrom k (λ g. planeMatches g (dividerOf d h)) (drop k (planesIn d n hs)) → HyperplaneShared cs hs row m r cs′ hs′ → HyperplaneAdded cs hs h r cs′ hs′
-unfolding addPlane
+unfolding addPlane hyperplaneOutcome
 hyperplane-added {cs} {hs} {h} {row} {m} {r} {cs′} {hs′} d k n hd hk hn long hr f S = record {
+  words = S .words ∙ ap₂ (planeOutcome cs hs) hr (f ∙ ap (λ (j : ℕ). planeFound d j n hs h) hk ∙ (λ i. planeFound (hd i) (primordials (hd i)) (hn i) hs h));
   of = λ ps es t g H z w s.
       (let G = sound-good desk t z in
       let P = primordials (t .dimension) in

@@ -33,6 +33,10 @@ module _ {A : Type 0} where
   wide-append w [] x h k = (k, tt)
   wide-append w (y ∷ ys) x h k = (h .0, wide-append w ys x (h .1) k)
 
+  pub wide-left : (w : ℕ) (us vs : List (List A)) → Wide w (us ++ vs) → Wide w us
+  wide-left w [] vs g = tt
+  wide-left w (u ∷ us) vs g = (g .0, wide-left w us vs (g .1))
+
   pub drop-replicate : (k n : ℕ) (z : A) → drop k (replicate n z) ≡ replicate (n - k) z
   drop-replicate zero n z = ap (λ (m : ℕ). replicate m z) (let q : n ≡ n - zero = omega arith in q)
   drop-replicate (suc k) zero z = ap (λ (m : ℕ). replicate m z) (let q : 0 ≡ 0 - suc k = omega arith in q)
@@ -149,12 +153,8 @@ module _ {A B : Type 0} (w : ℕ) (f : A → List B) where
       k : ℕ
       k = m - n
 
-      wide-left : (us vs : List (List B)) → Wide w (us ++ vs) → Wide w us
-      wide-left [] vs g = tt
-      wide-left (u ∷ us) vs g = (g .0, wide-left us vs (g .1))
-
       c : length C ≡ n
-      c = rows-size xs (wide-left (map f xs) (map f (b .0)) (subst (Wide w) (ap (map f) (b .1) ∙ map-append f xs (b .0)) h))
+      c = rows-size xs (wide-left w (map f xs) (map f (b .0)) (subst (Wide w) (ap (map f) (b .1) ∙ map-append f xs (b .0)) h))
 
       whole : joined (map f ys) ≡ C ++ D
       whole = ap (λ (l : List A). joined (map f l)) (b .1) ∙ ap joined (map-append f xs (b .0)) ∙ concat-append (map f xs) (map f (b .0))

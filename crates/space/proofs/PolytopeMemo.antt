@@ -16,18 +16,19 @@ use Rattle.rules.specs.Table.{polytope, Table}
 use Rattle.rules.specs.Sound.{closed, namesNone}
 use Rattle.rules.specs.Memory.{planeNumber, planeNamed}
 use Rattle.rules.specs.Cut.{Outcome, refused, done, next, give, given, addElement, addPolytope}
-use Rattle.rules.specs.Held.{Holds, countsOf, elementWords, fitting, Came, went, stopped}
+use Rattle.rules.specs.Held.{Holds, elementWords, fitting, Came, went, stopped}
 use Rattle.rules.specs.declared.ElementId.{ElementId}
 use Rattle.rules.specs.declared.ElementOrNone.{ElementOrNone}
 use Rattle.rules.specs.declared.ElementOrNone.the-variants.{None, Some}
 use Rattle.rules.proofs.Laws.{and-true}
 use Rattle.rules.proofs.Extends.{extends-refl}
 use Rattle.space.specs.Closed.{closedRaw, Edges}
-use Rattle.space.specs.Found.{placedAt, RowAdded}
-use Rattle.space.specs.Shared.{PolytopeAdded}
+use Rattle.space.specs.Found.{placedAt, rowOutcome, RowAdded}
+use Rattle.space.specs.Shared.{madeOf, madeOutcome, polytopeTested, polytopeOutcome, PolytopeAdded}
 use Rattle.space.specs.declared.rows.Placed.{Placed}
 use Rattle.space.specs.declared.rows.Placed.the-variants as placed
 use Rattle.space.specs.declared.memo.Added.the-variants as added
+use Rattle.space.proofs.Slices.{slices}
 use Rattle.space.proofs.TwiceMet.{closed-is}
 
 -- ---- the outcome, from the tests
@@ -50,14 +51,19 @@ module _ (L : Limits) (r : ℕ) (b : List ℕ) (h : Option ℕ) (m : Bool) (t : 
       go true q = refl
       go false q = ap (λ (c : Bool). not (c && true)) q
 
--- the first count is the dimension
-dimension-held : {cs es : List ℕ} {ps hs : List Float} {t : Table} → Holds desk cs ps hs es t → getD cs 0 0 ≡ t .dimension
-unfolding countsOf
-dimension-held H = ap (λ (l : List ℕ). getD l 0 0) (H .counts)
-
 module _ (cs es : List ℕ) (r : ℕ) (b : List ℕ) (plane : ℕ) (mark : Bool) (n : ℕ) (len : length b ≡ n) where
+  abbrev row-of : List ℕ
+  row-of = elementWords desk (polytope r b (planeNamed plane) mark)
+
+  -- the outcome by the three tests
+  raw : (few many good : Bool) → leb (length b) r ≡ few → ltb 32 (length b) ≡ many → closedRaw (getD cs 0 0) es r b ≡ good
+      → polytopeTested cs es row-of few many good ≡ polytopeOutcome cs es r b plane mark
+  unfolding polytopeOutcome
+  raw few many good p q s = sym (λ i. polytopeTested cs es row-of (p i) (q i) (s i))
+
   pub poly-few : n ≤ r → PolytopeAdded cs es r b plane mark (added.Made None) cs es
   poly-few h = record {
+    words = raw true _ _ (le-leb (length b) r (le-trans (le-of-eq len) h)) refl refl;
     of = λ ps hs t H low edges. went None t (tested desk r b (planeNamed plane) mark t true _ _ (le-leb (length b) r (le-trans (le-of-eq len) h)) refl refl) refl H;
   }
 
@@ -67,6 +73,7 @@ module _ (cs es : List ℕ) (r : ℕ) (b : List ℕ) (plane : ℕ) (mark : Bool)
 
     pub poly-many : 32 < n → PolytopeAdded cs es r b plane mark (added.Refused 11) cs es
     poly-many h = record {
+      words = raw false true _ (lt-leb (length b) r more-b) (lt-ltb 32 (length b) (subst (λ (k : ℕ). 32 < k) (sym len) h)) refl;
       of = λ ps hs t H low edges. stopped 11 t (tested desk r b (planeNamed plane) mark t false true _ (lt-leb (length b) r more-b) (lt-ltb 32 (length b) (subst (λ (k : ℕ). 32 < k) (sym len) h)) refl) refl (extends-refl t) H;
     }
 
@@ -76,20 +83,28 @@ module _ (cs es : List ℕ) (r : ℕ) (b : List ℕ) (plane : ℕ) (mark : Bool)
 
       pub poly-open : closedRaw (getD cs 0 0) es r b ≡ false → PolytopeAdded cs es r b plane mark (added.Refused 7) cs es
       poly-open q = record {
+        words = raw false false false (lt-leb (length b) r more-b) (le-ltb 32 (length b) room-b) q;
         of = λ ps hs t H low edges.
-            stopped 7 t (tested desk r b (planeNamed plane) mark t false false false (lt-leb (length b) r more-b) (le-ltb 32 (length b) room-b) (sym (closed-is (getD cs 0 0) es t (dimension-held H) (H .elements) (H .fits) r b edges) ∙ q)) refl (extends-refl t) H;
+            (let not-closed = sym (closed-is (getD cs 0 0) es t (slices H .dimension) (H .elements) (H .fits) r b edges) ∙ q in
+            stopped 7 t (tested desk r b (planeNamed plane) mark t false false false (lt-leb (length b) r more-b) (le-ltb 32 (length b) room-b) not-closed) refl (extends-refl t) H);
       }
 
       module _ (q : closedRaw (getD cs 0 0) es r b ≡ true) (row cs′ es′ : List ℕ) (p : Placed) (w : row ≡ elementWords desk (polytope r b (planeNamed plane) mark)) (A : RowAdded cs es row p cs′ es′) where
         module _ (ps hs : List Float) (t : Table) (H : Holds desk cs ps hs es t) (low : r < length b → 1 ≤ r) (edges : r ≡ 2 → Edges t b) where
           whole : addPolytope desk r b (planeNamed plane) mark t ≡ next (addElement desk (polytope r b (planeNamed plane) mark) t) (λ i. give (given i))
-          whole = tested desk r b (planeNamed plane) mark t false false true (lt-leb (length b) r more-b) (le-ltb 32 (length b) room-b) (sym (closed-is (getD cs 0 0) es t (dimension-held H) (H .elements) (H .fits) r b edges) ∙ q)
+          whole = tested desk r b (planeNamed plane) mark t false false true (lt-leb (length b) r more-b) (le-ltb 32 (length b) room-b) (sym (closed-is (getD cs 0 0) es t (slices H .dimension) (H .elements) (H .fits) r b edges) ∙ q)
 
           added-row : Came placedAt placed.Refused (Holds desk cs′ ps hs es′) t (addElement desk (polytope r b (planeNamed plane) mark) t) p
           added-row = A .of ps hs t (polytope r b (planeNamed plane) mark) H w (fits-row desk r b (planeNamed plane) mark t (low more-b) room-b plane refl)
 
+        -- what was placed is made
+        made-raw : (x : Placed) → p ≡ x → record { reply = madeOf x; counts = cs′; elements = es′ } ≡ polytopeOutcome cs es r b plane mark
+        made-raw x g =
+            ap (λ (y : Placed). record { reply = madeOf y; counts = cs′; elements = es′ }) (sym g) ∙ ap madeOutcome (A .words ∙ ap (rowOutcome cs es) w)
+            ∙ raw false false true (lt-leb (length b) r more-b) (le-ltb 32 (length b) room-b) q
+
         pub poly-refused : (x : ℕ) → p ≡ placed.Refused x → PolytopeAdded cs es r b plane mark (added.Refused x) cs′ es′
-        poly-refused x g = record { of = λ ps hs t H low edges. go ps hs t (whole ps hs t H low edges) (added-row ps hs t H low edges) }
+        poly-refused x g = record { words = made-raw (placed.Refused x) g; of = λ ps hs t H low edges. go ps hs t (whole ps hs t H low edges) (added-row ps hs t H low edges) }
           where
             go : (ps hs : List Float) (t : Table) → addPolytope desk r b (planeNamed plane) mark t ≡ next (addElement desk (polytope r b (planeNamed plane) mark) t) (λ i. give (given i))
                 → Came placedAt placed.Refused (Holds desk cs′ ps hs es′) t (addElement desk (polytope r b (planeNamed plane) mark) t) p
@@ -100,7 +115,7 @@ module _ (cs es : List ℕ) (r : ℕ) (b : List ℕ) (plane : ℕ) (mark : Bool)
                 stopped k u (e ∙ ap (λ (c : Outcome ℕ). next c (λ i. give (given i))) o) (ap added.Refused y) x′ K
 
         pub poly-made : (x : ElementId) → p ≡ placed.At x → PolytopeAdded cs es r b plane mark (added.Made (Some x)) cs′ es′
-        poly-made x g = record { of = λ ps hs t H low edges. go ps hs t (whole ps hs t H low edges) (added-row ps hs t H low edges) }
+        poly-made x g = record { words = made-raw (placed.At x) g; of = λ ps hs t H low edges. go ps hs t (whole ps hs t H low edges) (added-row ps hs t H low edges) }
           where
             go : (ps hs : List Float) (t : Table) → addPolytope desk r b (planeNamed plane) mark t ≡ next (addElement desk (polytope r b (planeNamed plane) mark) t) (λ i. give (given i))
                 → Came placedAt placed.Refused (Holds desk cs′ ps hs es′) t (addElement desk (polytope r b (planeNamed plane) mark) t) p

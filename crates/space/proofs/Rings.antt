@@ -88,7 +88,8 @@ module _ (es edges : List ℕ) (up : rises edges ≡ true) (fine : (j : ℕ) →
     pub never-closed : k ≡ length edges → 0 < k → ringRaw es edges ≡ false
     unfolding rawEnds
     never-closed n o = refute (ringRaw es edges) (λ h.
-        let f = P .web .some (firstEnd es (getD edges 0 0)) (let c = counted (firstEnd es (getD edges 0 0)) in let m = ends-in es edges 0 (firstEnd es (getD edges 0 0)) (omega (arith, n, o)) (first-end es (getD edges 0 0)) in omega (arith, c, m)) in
+        let a = firstEnd es (getD edges 0 0) in
+        let f = P .web .some a (let c = counted a in let m = ends-in es edges 0 a (omega (arith, n, o)) (first-end es (getD edges 0 0)) in omega (arith, c, m)) in
         let c = counted (f .0) in
         let one = f .1 in
         let q = met-twice h (f .0) (omega (arith, c, one)) in

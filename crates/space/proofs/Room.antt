@@ -16,13 +16,13 @@ use Rattle.rules.specs.Limits.{Limits, Readable}
 use Rattle.rules.specs.Lists.{pad, all}
 use Rattle.rules.specs.Memory.{encode, elementWidth, planeWidth, planeRow, elementRow, planeNumber}
 use Rattle.rules.specs.Sound.{soundPoint, soundPlane}
-use Rattle.rules.specs.Table.{Table, element, elementCount, Plane, Element, corner, polytope, rank, rankOf, isPrimordial, planeOf}
+use Rattle.rules.specs.Table.{Table, element, elementCount, Plane, Element, corner, polytope, rank, rankOf, boundaryOf, isPrimordial, planeOf}
 use Rattle.rules.proofs.Good.{Good}
 use Rattle.rules.proofs.Growing.{all-snoc}
 use Rattle.rules.proofs.Laws.{le-test, and-right, and-left, and-true}
 use Rattle.rules.proofs.RoundTrip.{element-long, element-fits, point-long, dim-fits, plane-long}
 use Rattle.rules.proofs.Rows.{wide-map}
-use Rattle.space.proofs.Laid.{laid-size, laid-read, laid-append, map-append, wide-append, length-padded, laid-back}
+use Rattle.space.proofs.Laid.{laid-size, laid-read, laid-append, map-append, wide-append, wide-left, length-padded, laid-back}
 
 pub encode-parts : (L : Limits) (t : Table) → encode L t ≡ record { counts = countsOf t; points = pointsOf L t; planes = planesOf L t; elements = elementsOf L t }
 unfolding encode countsOf pointsOf planesOf elementsOf
@@ -39,6 +39,14 @@ good-fits L U t g = record {
   planes = wide-map (planeWidth L) (planeRow L) (soundPlane (t .dimension)) (plane-long L U (t .dimension) (dim-fits L U t g)) (t .planes) (g .planes);
 }
 
+-- a row that is as long as its room
+pub full : {A : Type 0} (z : A) (ys : List A) (n : ℕ) → length ys ≡ n → ys ≡ pad z n ys
+full z ys n e = sym (ap (λ (m : ℕ). ys ++ replicate m z) (let q : n - length ys ≡ 0 = omega (arith, e) in q) ∙ append-nil ys)
+
+-- one row more of the same width
+pub wide-more : {A B : Type 0} (w : ℕ) (f : A → List B) (xs : List A) (x : A) → Wide w (map f xs) → length (f x) ≡ w → Wide w (map f (xs ++ x ∷ []))
+wide-more w f xs x h k = subst (Wide w) (sym (map-append f xs (x ∷ []))) (wide-append w (map f xs) (f x) h k)
+
 -- how many numbers stand after the four
 abbrev pub sizeOf : Element → ℕ
 sizeOf (corner v) = 1
@@ -47,6 +55,15 @@ sizeOf (polytope r b h m) = length b
 abbrev pub listOf : Element → List ℕ
 listOf (corner v) = v ∷ []
 listOf (polytope r b h m) = b
+
+-- an element of some rank is a polytope
+pub size-bound : (x : Element) (n : ℕ) → rankOf x ≡ suc n → sizeOf x ≡ length (boundaryOf x)
+size-bound (corner v) n h = absurd (let z : ⊥ = omega (arith, h) in z)
+size-bound (polytope r b h m) n q = refl
+
+pub list-bound : (x : Element) (n : ℕ) → rankOf x ≡ suc n → listOf x ≡ boundaryOf x
+list-bound (corner v) n h = absurd (let z : ⊥ = omega (arith, h) in z)
+list-bound (polytope r b h m) n q = refl
 
 module _ (L : Limits) (t : Table) (F : Fits L t) where
   pub elements-size : length (elementsOf L t) ≡ L .elements * elementWidth L
@@ -127,7 +144,7 @@ module _ (L : Limits) (t : Table) (F : Fits L t) where
     elementRoom = subst (λ (n : ℕ). n ≤ L .elements) (sym (length-append (t .elements) (e ∷ []))) (let z : elementCount t + 1 ≤ L .elements = omega (arith, u) in z);
     pointRoom = F .pointRoom;
     planeRoom = F .planeRoom;
-    elements = subst (Wide (elementWidth L)) (sym (map-append (elementWords L) (t .elements) (e ∷ []))) (wide-append (elementWidth L) (map (elementWords L) (t .elements)) (elementWords L e) (F .elements) (length-padded 0 (elementWidth L) (elementRow e) k));
+    elements = wide-more (elementWidth L) (elementWords L) (t .elements) e (F .elements) (length-padded 0 (elementWidth L) (elementRow e) k);
     points = F .points;
     planes = F .planes;
   }
@@ -143,7 +160,7 @@ module _ (L : Limits) (t : Table) (F : Fits L t) where
     pointRoom = subst (λ (n : ℕ). n ≤ L .vertices) (sym (length-append (t .points) (p ∷ []))) (let z : length (t .points) + 1 ≤ L .vertices = omega (arith, u) in z);
     planeRoom = F .planeRoom;
     elements = F .elements;
-    points = subst (Wide (L .dimensions)) (sym (map-append (pad plusZero (L .dimensions)) (t .points) (p ∷ []))) (wide-append (L .dimensions) (map (pad plusZero (L .dimensions)) (t .points)) (pad plusZero (L .dimensions) p) (F .points) (length-padded plusZero (L .dimensions) p k));
+    points = wide-more (L .dimensions) (pad plusZero (L .dimensions)) (t .points) p (F .points) (length-padded plusZero (L .dimensions) p k);
     planes = F .planes;
   }
 
@@ -153,10 +170,8 @@ module _ (L : Limits) (t : Table) (F : Fits L t) where
 
   pub plane-stored : (h : Plane) → length (t .planes) < L .hyperplanes → length (planeRow L h) ≡ planeWidth L → planesOf L (withPlane h t) ≡ sets (planesOf L t) (length (t .planes) * planeWidth L) (planeRow L h)
   unfolding planesOf
-  plane-stored h u k = laid-append (planeWidth L) (planeRow L) plusZero (L .hyperplanes * planeWidth L) (t .planes) h (planeRow L h) (F .planes) (full (planeRow L h) (planeWidth L) k) (le-of-eq k) (row-fits (planeWidth L) u)
-    where
-      full : (ys : List Float) (n : ℕ) → length ys ≡ n → ys ≡ pad plusZero n ys
-      full ys n e = sym (ap (λ (m : ℕ). ys ++ replicate m plusZero) (let z : n - length ys ≡ 0 = omega (arith, e) in z) ∙ append-nil ys)
+  plane-stored h u k = laid-append (planeWidth L) (planeRow L) plusZero (L .hyperplanes * planeWidth L) (t .planes) h (planeRow L h) (F .planes) (full plusZero (planeRow L h) (planeWidth L) k) (le-of-eq k)
+      (row-fits (planeWidth L) u)
 
   pub plane-counted : (h : Plane) → countsOf (withPlane h t) ≡ set (countsOf t) 3 (length (t .planes) + 1)
   unfolding countsOf
@@ -170,10 +185,6 @@ row-short L U (polytope r b h m) k =
     let s = le-test (length b) (L .boundary) (and-right (leb 1 r) (leb (length b) (L .boundary)) (and-left (leb 1 r && leb (length b) (L .boundary)) _ k)) in
     let q : suc (suc (suc (suc (length b)))) ≤ 4 + L .boundary = omega (arith, s) in
     q
-
--- a row that is as long as its room
-pub full : {A : Type 0} (z : A) (ys : List A) (n : ℕ) → length ys ≡ n → ys ≡ pad z n ys
-full z ys n e = sym (ap (λ (m : ℕ). ys ++ replicate m z) (let q : n - length ys ≡ 0 = omega (arith, e) in q) ∙ append-nil ys)
 
 pub element-words-stored : (L : Limits) → Readable L → (t : Table) → Fits L t → (e : Element) → elementCount t < L .elements → fitting L e ≡ true
     → elementsOf L (withElement e t) ≡ sets (elementsOf L t) (elementCount t * elementWidth L) (elementWords L e)
@@ -223,10 +234,6 @@ module _ (L : Limits) (t u : Table) (x : Extends t u) (F : Fits L u) where
     where
       shorter : {A : Type 0} (xs ys : List A) → Begins xs ys → length xs ≤ length ys
       shorter xs ys b = let q = ap length (b .1) ∙ length-append xs (b .0) in let z : length xs ≤ length ys = omega (arith, q) in z
-
-      wide-left : {B : Type 0} (w : ℕ) (us vs : List (List B)) → Wide w (us ++ vs) → Wide w us
-      wide-left w [] vs g = tt
-      wide-left w (y ∷ us) vs g = (g .0, wide-left w us vs (g .1))
 
       front : {A B : Type 0} (w : ℕ) (f : A → List B) (xs ys : List A) → Begins xs ys → Wide w (map f ys) → Wide w (map f xs)
       front w f xs ys b g = wide-left w (map f xs) (map f (b .0)) (subst (Wide w) (ap (map f) (b .1) ∙ map-append f xs (b .0)) g)

@@ -9,6 +9,7 @@ use Rattle.rules.specs.Held.{Holds, countsOf}
 use Rattle.rules.specs.Limits.{desk}
 use Rattle.rules.specs.Table.{Table}
 use Rattle.rules.specs.Table as table
+use Rattle.space.specs.Numbers.{pointSlice, planeSlice, elementSlice}
 use Rattle.space.proofs.Room.{elements-size, points-size, planes-size}
 
 -- the words of the slice of counts
@@ -25,16 +26,16 @@ counts-of t = record { long = refl; dimension = refl; elements = refl; points = 
 
 pub record Slices (cs : List ℕ) (ps hs : List Float) (es : List ℕ) (t : Table) : Type 0 where
   pub counts : length cs ≡ 4
-  pub points : length ps ≡ 1024
-  pub planes : length hs ≡ 320
-  pub elements : length es ≡ 18432
+  pub points : length ps ≡ pointSlice
+  pub planes : length hs ≡ planeSlice
+  pub elements : length es ≡ elementSlice
   pub dimension : getD cs 0 0 ≡ t .dimension
   pub elementCount : getD cs 1 0 ≡ table.elementCount t
   pub pointCount : getD cs 2 0 ≡ length (t .points)
   pub planeCount : getD cs 3 0 ≡ length (t .planes)
-  pub elementsFit : getD cs 1 0 ≤ 512
-  pub pointsFit : getD cs 2 0 ≤ 256
-  pub planesFit : getD cs 3 0 ≤ 64
+  pub elementsFit : getD cs 1 0 ≤ desk .elements
+  pub pointsFit : getD cs 2 0 ≤ desk .vertices
+  pub planesFit : getD cs 3 0 ≤ desk .hyperplanes
 
 pub slices : {cs : List ℕ} {ps hs : List Float} {es : List ℕ} {t : Table} → Holds desk cs ps hs es t → Slices cs ps hs es t
 slices {cs} {t = t} H =

@@ -11,9 +11,9 @@ use lib.Ieee.{Float}
 use Rattle.rules.specs.Limits.{desk}
 use Rattle.rules.specs.Table.{elementCount}
 use Rattle.rules.specs.Floats.{plusZero}
-use Rattle.rules.specs.Held.{countsOf}
 use Rattle.space.proofs.Room.{elements-restored, points-restored, planes-restored, counts-restored, fits-before}
-use Rattle.space.specs.Restored.{Restored}
+use Rattle.space.proofs.Slices.{slices}
+use Rattle.space.specs.Restored.{zerosFrom, Restored}
 
 module _ {A : Type 0} (z : A) (l : List A) (at : ℕ) where
   zeros : (j : ℕ) → at + j ≤ length l → sets l at (replicate j z) ≡ paste l at (replicate j z) j
@@ -31,7 +31,8 @@ module _ {A : Type 0} (z : A) (l : List A) (at : ℕ) where
   zeros-more j h =
       let s = replicate (suc j) z in
       let n = length-replicate (suc j) z in
-      ap (λ (r : List A). set r (at + j) z) (zeros j (le-of-lt h) ∙ ap (λ (r : List A). take at l ++ r ++ drop (at + j) l) (take-all j (replicate j z) (le-of-eq (length-replicate j z)) ∙ sym (take-replicate j (suc j) (let q : j ≤ suc j = omega arith in q))))
+      let front = take-all j (replicate j z) (le-of-eq (length-replicate j z)) ∙ sym (take-replicate j (suc j) (let q : j ≤ suc j = omega arith in q)) in
+      ap (λ (r : List A). set r (at + j) z) (zeros j (le-of-lt h) ∙ ap (λ (r : List A). take at l ++ r ++ drop (at + j) l) front)
       ∙ ap (set (paste l at s j) (at + j)) (sym (getD-replicate (suc j) j z z (let q : j < suc j = omega arith in q)))
       ∙ paste-suc l at s j z h (let q : j < length s = omega (arith, n) in q)
       ∙ ap (λ (k : ℕ). paste l at s k) (sym (add-one j))
@@ -40,14 +41,17 @@ module _ {A : Type 0} (z : A) (l : List A) (at : ℕ) where
 
 pub restored : {cs : List ℕ} {ps hs : List Float} {es : List ℕ} (e v h ne nv nh : ℕ) {ps′ hs′ : List Float} {es′ : List ℕ}
     → ne ≡ getD cs 1 0 → nv ≡ getD cs 2 0 → nh ≡ getD cs 3 0
-    → es′ ≡ sets es (e * 36) (replicate (ne * 36 - e * 36) 0) → ps′ ≡ sets ps (v * 4) (replicate (nv * 4 - v * 4) plusZero) → hs′ ≡ sets hs (h * 5) (replicate (nh * 5 - h * 5) plusZero)
+    → es′ ≡ zerosFrom 0 36 es e ne → ps′ ≡ zerosFrom plusZero 4 ps v nv → hs′ ≡ zerosFrom plusZero 5 hs h nh
     → Restored cs ps hs es e v h (set (set (set cs 1 e) 2 v) 3 h) ps′ hs′ es′
-unfolding countsOf
 restored {cs} {ps} {hs} {es} e v h ne nv nh a b c p q r = record {
+  counts = refl;
+  points = q ∙ ap (zerosFrom plusZero 4 ps v) b;
+  planes = r ∙ ap (zerosFrom plusZero 5 hs h) c;
+  elements = p ∙ ap (zerosFrom 0 36 es e) a;
   of = λ t u x H i j k.
-      (let ei : ne ≡ elementCount u = a ∙ ap (λ (l : List ℕ). getD l 1 0) (H .counts) in
-      let vj : nv ≡ length (u .points) = b ∙ ap (λ (l : List ℕ). getD l 2 0) (H .counts) in
-      let hk : nh ≡ length (u .planes) = c ∙ ap (λ (l : List ℕ). getD l 3 0) (H .counts) in
+      (let ei : ne ≡ elementCount u = a ∙ slices H .elementCount in
+      let vj : nv ≡ length (u .points) = b ∙ slices H .pointCount in
+      let hk : nh ≡ length (u .planes) = c ∙ slices H .planeCount in
       record {
         counts = (λ s. set (set (set (H .counts s) 1 (i s)) 2 (j s)) 3 (k s)) ∙ counts-restored desk t u x (H .fits);
         points = q ∙ (λ s. sets (H .points s) (j s * 4) (replicate (vj s * 4 - j s * 4) plusZero)) ∙ points-restored desk t u x (H .fits);

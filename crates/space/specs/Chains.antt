@@ -4,14 +4,23 @@ use mathlib.Core.List.{List}
 use mathlib.Core.Option.{Option, none, some}
 use mathlib.Core.Path.{_≡_}
 use lib.ListN.{length, getD, take, drop, set}
+use Rattle.rules.specs.Limits.{desk}
+use Rattle.space.specs.Numbers.{rowWidth}
 
--- row j of the slice of elements
-abbrev pub rowAt : List ℕ → ℕ → List ℕ
-rowAt es j = take 36 (drop (j * 36) es)
+-- how many keys there are, and how far a first number is spread over them
+abbrev pub keys : ℕ
+keys = 1024
+
+abbrev pub spread : ℕ
+spread = 37
+
+-- the row of element j, as the memory has it
+abbrev pub storedRow : List ℕ → ℕ → List ℕ
+storedRow es j = take rowWidth (drop (j * rowWidth) es)
 
 -- a row's first two boundary numbers, mixed: equal rows have equal keys, and other rows seldom do
 unfoldable pub keyOf : List ℕ → ℕ
-keyOf row = (getD row 4 0 * 37 + getD row 5 0) % 1024
+keyOf row = (getD row 4 0 * spread + getD row 5 0) % keys
 
 -- the row that a number of the index names: one less than it, or none
 abbrev pub numberOf : ℕ → Option ℕ
@@ -20,15 +29,15 @@ numberOf (suc i) = some i
 
 -- x names the last of the first m rows with key k, or none where none of them has it
 pub record Last (es : List ℕ) (m k x : ℕ) : Type 0 where
-  pub there : 0 < x → (x ≤ m) × (keyOf (rowAt es (x - 1)) ≡ k)
-  pub over : (j : ℕ) → j < m → keyOf (rowAt es j) ≡ k → j < x
+  pub there : 0 < x → (x ≤ m) × (keyOf (storedRow es (x - 1)) ≡ k)
+  pub over : (j : ℕ) → j < m → keyOf (storedRow es j) ≡ k → j < x
 
 -- the index of the first n rows: a chain's start for each key, and a link for each row
 pub record Indexed (es : List ℕ) (n : ℕ) (ix : List ℕ) : Type 0 where
-  pub long : length ix ≡ 1536
-  pub starts : (k : ℕ) → k < 1024 → Last es n k (getD ix k 0)
-  pub links : (j : ℕ) → j < n → Last es j (keyOf (rowAt es j)) (getD ix (1024 + j) 0)
+  pub long : length ix ≡ keys + desk .elements
+  pub starts : (k : ℕ) → k < keys → Last es n k (getD ix k 0)
+  pub links : (j : ℕ) → j < n → Last es j (keyOf (storedRow es j)) (getD ix (keys + j) 0)
 
 -- the index with row n as the start of the chain of key k
-abbrev pub joined : List ℕ → ℕ → ℕ → List ℕ
-joined ix k n = set (set ix (1024 + n) (getD ix k 0)) k (n + 1)
+abbrev pub newStart : List ℕ → ℕ → ℕ → List ℕ
+newStart ix k n = set (set ix (keys + n) (getD ix k 0)) k (n + 1)

@@ -1,5 +1,5 @@
 -- Test 7 over the words of the lent memory. Definitions only.
-use Prim.Native.Nat.{ℕ, zero, suc, _+_, _*_, _-_, _<_}
+use Prim.Native.Nat.{ℕ, zero, suc, _+_, _*_, _-_, _<_, _≤_}
 use mathlib.Core.Path.{_≡_}
 use mathlib.Core.Bool.{Bool, true, false, cond}
 use mathlib.Core.Option.{none}
@@ -8,23 +8,25 @@ use lib.Dec.{eqb, ltb, leb}
 use lib.ListN.{length, getD, set, take}
 use Rattle.rules.specs.Lists.{all, upTo, rises, member, occurrences}
 use Rattle.rules.specs.Table.{Table, polytope, elementCount, boundary}
+use Rattle.rules.specs.Limits.{desk}
 use Rattle.rules.specs.Walk.{oneRing}
+use Rattle.space.specs.Numbers.{rowWidth, elementSlice}
 
 -- the first n entries of a list are numbers within the room, whether in use or not
 pub record Low (list : List ℕ) (n : ℕ) : Type 0 where
-  pub at : (k : ℕ) → k < n → getD list k 0 < 512
+  pub at : (k : ℕ) → k < n → getD list k 0 < desk .elements
 
 -- the two ends of edge x, as the memory has them
 abbrev pub firstEnd : List ℕ → ℕ → ℕ
-firstEnd es x = getD es (x * 36 + 4) 0
+firstEnd es x = getD es (x * rowWidth + 4) 0
 
 abbrev pub secondEnd : List ℕ → ℕ → ℕ
-secondEnd es x = getD es (x * 36 + 5) 0
+secondEnd es x = getD es (x * rowWidth + 5) 0
 
 -- they are two numbers within the room
 pub record EndsLow (es : List ℕ) (e : ℕ) : Type 0 where
   pub apart : firstEnd es e < secondEnd es e
-  pub second : secondEnd es e < 512
+  pub second : secondEnd es e < desk .elements
 
 -- and so are those of each of the first n edges of a list, which rises
 pub record LowEnds (es list : List ℕ) (n : ℕ) : Type 0 where
@@ -38,7 +40,7 @@ rawEnds es (x ∷ xs) = firstEnd es x ∷ secondEnd es x ∷ rawEnds es xs
 
 -- every row of the memory read as an edge: all that test 7 of a face looks at
 unfoldable pub asEdges : List ℕ → Table
-asEdges es = record { dimension = 0; points = []; elements = map (λ x. polytope 1 (firstEnd es x ∷ secondEnd es x ∷ []) none false) (upTo 512); planes = [] }
+asEdges es = record { dimension = 0; points = []; elements = map (λ x. polytope 1 (firstEnd es x ∷ secondEnd es x ∷ []) none false) (upTo (desk .elements)); planes = [] }
 
 -- no two of the edges share both ends
 abbrev pub Untwinned : Table → List ℕ → Type 0
@@ -76,8 +78,8 @@ Edges t xs = (rises xs ≡ true) × EachEdge t xs × (2 < t .dimension → Untwi
 
 -- no corner is met since the stamp was new
 pub record Unmet (s : ℕ) (words : List ℕ) : Type 0 where
-  pub long : length words ≡ 512
-  pub under : (v : ℕ) → v < 512 → getD words v 0 < s
+  pub long : length words ≡ desk .elements
+  pub under : (v : ℕ) → v < desk .elements → getD words v 0 < s
 
 -- ---- few edges: how often each corner is met
 
@@ -103,22 +105,26 @@ seconds s es met e = isSecond s met (firstEnd es e) + isSecond s (meeting s met 
 
 -- ---- more edges: the paths that they make
 
--- a word is at most 512 above the stamp: below it the corner is not met, at 512 it is met twice, and else it ends a path whose other end is so far above
-pub record Stamped (s : ℕ) (paths : List ℕ) : Type 0 where
-  pub long : length paths ≡ 512
-  pub under : (v : ℕ) → v < 512 → getD paths v 0 < s + 513
+-- what a corner's word is above the stamp once it is met twice: no path ends there
+abbrev pub inside : ℕ
+inside = desk .elements
 
--- the other end of v's path: itself where v is not met, 512 where it is met twice
+-- a word below the stamp: the corner is not met; `inside` above it: met twice; else it ends a path, and the path's other end is so far above
+pub record Stamped (s : ℕ) (paths : List ℕ) : Type 0 where
+  pub long : length paths ≡ desk .elements
+  pub under : (v : ℕ) → v < desk .elements → getD paths v 0 < s + suc inside
+
+-- the other end of v's path: itself where v is not met
 abbrev pub farEnd : ℕ → List ℕ → ℕ → ℕ
 farEnd s paths v = cond (ltb (getD paths v 0) s) v (getD paths v 0 - s)
 
 -- an edge from a to b joins their paths, whose other ends are x and y: how many of the two were met before; 3 where it closes a path, 4 where one is met for the third time
 abbrev pub joinCode : ℕ → ℕ → ℕ → ℕ → ℕ
-joinCode a b x y = cond (eqb x 512) 4 (cond (eqb y 512) 4 (cond (eqb x b) 3 (cond (eqb x a) 0 1 + cond (eqb y b) 0 1)))
+joinCode a b x y = cond (eqb x inside) 4 (cond (eqb y inside) 4 (cond (eqb x b) 3 (cond (eqb x a) 0 1 + cond (eqb y b) 0 1)))
 
 -- the words after it
 abbrev pub joinWords : ℕ → List ℕ → ℕ → ℕ → ℕ → ℕ → List ℕ
-joinWords s paths a b x y = set (set (set (set paths a (s + 512)) b (s + 512)) x (s + y)) y (s + x)
+joinWords s paths a b x y = set (set (set (set paths a (s + inside)) b (s + inside)) x (s + y)) y (s + x)
 
 -- both for edge e of the memory
 unfoldable pub joining : ℕ → List ℕ → List ℕ → ℕ → ℕ
@@ -126,3 +132,46 @@ joining s es paths e = joinCode (firstEnd es e) (secondEnd es e) (farEnd s paths
 
 unfoldable pub joined : ℕ → List ℕ → List ℕ → ℕ → List ℕ
 joined s es paths e = joinWords s paths (firstEnd es e) (secondEnd es e) (farEnd s paths (firstEnd es e)) (farEnd s paths (secondEnd es e))
+
+-- ---- what the functions ask for and what they answer
+
+-- every word of a corner fits 32 bits where stamps stay below this
+abbrev pub stampRoom : ℕ
+stampRoom = 1000000
+
+-- the ends of edge e are taken up under a stamp
+pub record EdgeReady (es : List ℕ) (e s : ℕ) : Type 0 where
+  pub elements : length es ≡ elementSlice
+  pub room : e < desk .elements
+  pub ends : EndsLow es e
+  pub stamp : s < stampRoom
+
+-- both are met: how many of them for the second time
+pub record EndsMet (s : ℕ) (es met : List ℕ) (e reply : ℕ) (met′ : List ℕ) : Type 0 where
+  pub count : reply ≡ seconds s es met e
+  pub words : met′ ≡ bothMet s es met e
+  pub most : reply ≤ 2
+
+-- they join paths; nothing is written where the edge joins none
+pub record EndsJoined (s : ℕ) (es paths : List ℕ) (e reply : ℕ) (paths′ : List ℕ) : Type 0 where
+  pub code : reply ≡ joining s es paths e
+  pub words : reply < 3 → paths′ ≡ joined s es paths e
+  pub kept : 3 ≤ reply → paths′ ≡ paths
+  pub most : reply ≤ 4
+
+-- the first n numbers of a list are the edges of a face
+pub record FaceReady (es list : List ℕ) (n : ℕ) : Type 0 where
+  pub elements : length es ≡ elementSlice
+  pub long : n ≤ length list
+  pub size : n ≤ suc (desk .boundary)
+  pub low : Low list n
+  pub ends : LowEnds es list n
+
+-- and the boundary of an element of any rank
+pub record BoundaryReady (cs es : List ℕ) (r : ℕ) (list : List ℕ) (n : ℕ) : Type 0 where
+  pub counts : length cs ≡ 4
+  pub elements : length es ≡ elementSlice
+  pub long : n ≤ length list
+  pub size : n ≤ suc (desk .boundary)
+  pub low : Low list n
+  pub ends : r ≡ 2 → LowEnds es list n

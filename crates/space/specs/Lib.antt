@@ -2,5 +2,7 @@
 pub mod Chains
 pub mod Closed
 pub mod Found
+pub mod Numbers
+pub mod Ready
 pub mod Restored
 pub mod Shared

@@ -8,8 +8,10 @@ ghost use mathlib.Core.Path.{_≡_};
 ghost use lib.Dec.{eqb};
 ghost use lib.ListN.{length, take, drop};
 ghost use Rattle.rules.specs.Lists.{alike, find, rows};
-ghost use Rattle.space.specs.Chains.{keyOf, Indexed, numberOf, joined};
+ghost use Rattle.space.specs.Chains.{keyOf, keys, numberOf, newStart};
 ghost use Rattle.space.specs.Found.{elementNumber};
+ghost use Rattle.space.specs.Numbers.{rowWidth};
+ghost use Rattle.space.specs.Ready.{SearchReady, JoinReady};
 
 // Room for a chain's start for each key, and for a link for each row behind them.
 const KEYS: usize = 1024;
@@ -28,8 +30,8 @@ pub enum FoundElement {
 
 // The row's first two boundary numbers, mixed: equal rows share it. A remainder, so that any words are a place in the index.
 pub fn key_of(words: &[u16], at: usize) -> usize
-    requires { ⌜ at + 36 ≤ length (now words) ⌝ }
-    ensures { λ r. ⌜ (r ≡ keyOf (take 36 (drop at (now (words .entry))))) × (r < 1024) ⌝ }
+    requires { ⌜ at + rowWidth ≤ length (now words) ⌝ }
+    ensures { λ r. ⌜ (r ≡ keyOf (take rowWidth (drop at (now (words .entry))))) × (r < keys) ⌝ }
 {
     let first = wide(words[at + 4]);
     let second = wide(words[at + 5]);
@@ -38,8 +40,8 @@ pub fn key_of(words: &[u16], at: usize) -> usize
 
 // The row that stands at a place of some words is the table's row.
 fn same_row(elements: &[u16], at: usize, words: &[u16], from: usize) -> bool
-    requires { ⌜ (at + 36 ≤ length (now elements)) × (from + 36 ≤ length (now words)) ⌝ }
-    ensures { λ r. ⌜ r ≡ alike eqb (take 36 (drop from (now (words .entry)))) (take 36 (drop at (now (elements .entry)))) ⌝ }
+    requires { ⌜ (at + rowWidth ≤ length (now elements)) × (from + rowWidth ≤ length (now words)) ⌝ }
+    ensures { λ r. ⌜ r ≡ alike eqb (take rowWidth (drop from (now (words .entry)))) (take rowWidth (drop at (now (elements .entry)))) ⌝ }
 {
     // rows on one chain nearly always are told apart by their first boundary number
     if words[from + 4] != elements[at + 4] {
@@ -55,8 +57,8 @@ fn same_row(elements: &[u16], at: usize, words: &[u16], from: usize) -> bool
 
 // Along the chain of the row's key down to its end: the last row met that is equal is the lowest.
 fn last_met(elements: &[u16], n: usize, words: &[u16], from: usize, index: &[u16]) -> usize
-    requires { ⌜ (length (now elements) ≡ 18432) × (n ≤ 512) × (from + 36 ≤ length (now words)) × Indexed (now elements) n (now index) ⌝ }
-    ensures { λ r. ⌜ numberOf r ≡ find (alike eqb (take 36 (drop from (now (words .entry))))) (rows n 36 (now (elements .entry))) ⌝ }
+    requires { ⌜ SearchReady (now elements) n (now words) from (now index) ⌝ }
+    ensures { λ r. ⌜ numberOf r ≡ find (alike eqb (take rowWidth (drop from (now (words .entry))))) (rows n rowWidth (now (elements .entry))) ⌝ }
 {
     let mut met = 0usize;
     let mut x = wide(index[key_of(words, from)]);
@@ -76,8 +78,8 @@ pub fn find_row(
     from: usize,
     index: &[u16],
 ) -> FoundElement
-    requires { ⌜ (length (now elements) ≡ 18432) × (n ≤ 512) × (from + 36 ≤ length (now words)) × Indexed (now elements) n (now index) ⌝ }
-    ensures { λ r. ⌜ elementNumber r ≡ find (alike eqb (take 36 (drop from (now (words .entry))))) (rows n 36 (now (elements .entry))) ⌝ }
+    requires { ⌜ SearchReady (now elements) n (now words) from (now index) ⌝ }
+    ensures { λ r. ⌜ elementNumber r ≡ find (alike eqb (take rowWidth (drop from (now (words .entry))))) (rows n rowWidth (now (elements .entry))) ⌝ }
 {
     let met = last_met(elements, n, words, from, index);
     if met == 0 {
@@ -88,8 +90,8 @@ pub fn find_row(
 
 // Row n is the new start of its key's chain.
 pub fn join(index: &mut [u16], key: usize, n: usize)
-    requires { ⌜ (length (now index) ≡ 1536) × (key < 1024) × (n < 512) ⌝ }
-    ensures { λ r. ⌜ now (index .exit) ≡ joined (now (index .entry)) key n ⌝ }
+    requires { ⌜ JoinReady (now index) key n ⌝ }
+    ensures { λ r. ⌜ now (index .exit) ≡ newStart (now (index .entry)) key n ⌝ }
 {
     index[KEYS + n] = index[key];
     index[key] = (n + 1) as u16;

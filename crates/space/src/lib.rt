@@ -1,4 +1,5 @@
 // The lent memory: everything between the four slices and the table of the rules.
+mod adding;
 pub mod chains;
 pub mod closed;
 pub mod memo;

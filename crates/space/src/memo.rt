@@ -1,7 +1,8 @@
 // What is found again, and what is new: a vertex with its element, a hyperplane, and a polytope.
+use crate::adding::add_row;
 use crate::closed::is_closed;
-use crate::rows;
 use crate::rows::Placed;
+use crate::rows::polytope_row;
 use crate::words::AXES;
 use crate::words::BOUNDARY;
 use crate::words::HYPERPLANES;
@@ -9,6 +10,7 @@ use crate::words::NO_PLANE;
 use crate::words::PLANE_WIDTH;
 use crate::words::SET;
 use crate::words::VERTICES;
+use crate::words::WIDTH;
 use crate::words::wide;
 use hypermath::FoundHyperplane;
 use hypermath::FoundVertex;
@@ -19,14 +21,15 @@ use rules::VertexId;
 ghost use Prim.Native.Nat.{_+_, _<_, _≤_};
 ghost use mathlib.Core.Path.{_≡_};
 ghost use lib.Seq.{sets};
-ghost use lib.ListN.{length, getD, take};
+ghost use lib.ListN.{length, take};
 ghost use Rattle.rules.specs.Limits.{desk};
+ghost use Rattle.rules.specs.Memory.{planeWidth};
 ghost use Rattle.rules.specs.Table.{corner};
 ghost use Rattle.rules.specs.Table as table;
 ghost use Rattle.rules.specs.Held.{elementWords};
-ghost use Rattle.space.specs.Chains.{Indexed};
-ghost use Rattle.space.specs.Closed.{Low, LowEnds};
-ghost use Rattle.space.specs.Shared.{storedPoint, four, InRoom, VertexShared, VertexAdded, rowOf, five, HyperplaneShared, HyperplaneAdded, PolytopeAdded};
+ghost use Rattle.space.specs.Numbers.{pointSlice, planeSlice};
+ghost use Rattle.space.specs.Ready.{ShareReady, VertexReady, HyperplaneReady, PolytopeReady};
+ghost use Rattle.space.specs.Shared.{storedPoint, four, SharedIndexed, VertexIndexed, rowOf, five, HyperplaneShared, HyperplaneAdded, PolytopeIndexed};
 
 // What adding a hyperplane gives.
 pub enum PlacedHyperplane {
@@ -40,8 +43,8 @@ pub enum Added {
     Made(ElementOrNone),
 }
 
-pub fn read_point(points: &[f64], v: VertexId) -> [f64; 4]
-    requires { ⌜ (length (now points) ≡ 1024) × (v .0 < 256) ⌝ }
+pub fn read_point(points: &[f64], v: VertexId) -> [f64; AXES]
+    requires { ⌜ (length (now points) ≡ pointSlice) × (v .0 < desk .vertices) ⌝ }
     ensures { λ r. ⌜ r ≡ storedPoint (now (points .entry)) (v .0) ⌝ }
 {
     let at = v.0 * AXES;
@@ -49,19 +52,19 @@ pub fn read_point(points: &[f64], v: VertexId) -> [f64; 4]
 }
 
 // Rank 0, no mark, no hyperplane, and the vertex's number as the one entry of the boundary.
-pub fn corner_row(v: VertexId) -> [u16; 36]
-    requires { ⌜ v .0 < 256 ⌝ }
+pub fn corner_row(v: VertexId) -> [u16; WIDTH]
+    requires { ⌜ v .0 < desk .vertices ⌝ }
     ensures { λ r. ⌜ r ≡ elementWords desk (corner (v .0)) ⌝ }
 {
-    let mut row = [0u16; 36];
+    let mut row = [0u16; WIDTH];
     row[2] = NO_PLANE;
     row[3] = 1;
     row[4] = v.0 as u16;
     row
 }
 
-pub fn put_point(points: &mut [f64], at: usize, p: [f64; 4])
-    requires { ⌜ at + 4 ≤ length (now points) ⌝ }
+pub fn put_point(points: &mut [f64], at: usize, p: [f64; AXES])
+    requires { ⌜ at + desk .dimensions ≤ length (now points) ⌝ }
     ensures { λ r. ⌜ now (points .exit) ≡ sets (now (points .entry)) at (four p) ⌝ }
 {
     points[at] = p[0];
@@ -76,16 +79,16 @@ fn share_vertex(
     points: &mut [f64],
     elements: &mut [u16],
     index: &mut [u16],
-    p: [f64; 4],
+    p: [f64; AXES],
     m: FoundVertex,
 ) -> Placed
-    requires { ⌜ (length (now counts) ≡ 4) × (length (now points) ≡ 1024) × (length (now elements) ≡ 18432) × (getD (now counts) 1 0 ≤ 512) × InRoom m × Indexed (now elements) (getD (now counts) 1 0) (now index) ⌝ }
-    ensures { λ r. ⌜ VertexShared (now (counts .entry)) (now (points .entry)) (now (elements .entry)) p m r (now (counts .exit)) (now (points .exit)) (now (elements .exit)) × Indexed (now (elements .exit)) (getD (now (counts .exit)) 1 0) (now (index .exit)) ⌝ }
+    requires { ⌜ ShareReady (now counts) (now points) (now elements) (now index) m ⌝ }
+    ensures { λ r. ⌜ SharedIndexed (now (counts .entry)) (now (points .entry)) (now (elements .entry)) p m r (now (counts .exit)) (now (points .exit)) (now (elements .exit)) (now (index .exit)) ⌝ }
 {
     match m {
         FoundVertex::At(v) => {
             let row = corner_row(v);
-            rows::add_row(counts, elements, index, &row)
+            add_row(counts, elements, index, &row)
         }
         FoundVertex::None => {
             let n = wide(counts[2]);
@@ -95,7 +98,7 @@ fn share_vertex(
             put_point(points, n * AXES, p);
             counts[2] = (n + 1) as u16;
             let row = corner_row(VertexId(n));
-            rows::add_row(counts, elements, index, &row)
+            add_row(counts, elements, index, &row)
         }
     }
 }
@@ -106,10 +109,10 @@ pub fn add_vertex(
     points: &mut [f64],
     elements: &mut [u16],
     index: &mut [u16],
-    p: [f64; 4],
+    p: [f64; AXES],
 ) -> Placed
-    requires { ⌜ (length (now counts) ≡ 4) × (length (now points) ≡ 1024) × (length (now elements) ≡ 18432) × (getD (now counts) 1 0 ≤ 512) × (getD (now counts) 2 0 ≤ 256) × Indexed (now elements) (getD (now counts) 1 0) (now index) ⌝ }
-    ensures { λ r. ⌜ VertexAdded (now (counts .entry)) (now (points .entry)) (now (elements .entry)) p r (now (counts .exit)) (now (points .exit)) (now (elements .exit)) × Indexed (now (elements .exit)) (getD (now (counts .exit)) 1 0) (now (index .exit)) ⌝ }
+    requires { ⌜ VertexReady (now counts) (now points) (now elements) (now index) ⌝ }
+    ensures { λ r. ⌜ VertexIndexed (now (counts .entry)) (now (points .entry)) (now (elements .entry)) p r (now (counts .exit)) (now (points .exit)) (now (elements .exit)) (now (index .exit)) ⌝ }
 {
     let d = wide(counts[0]);
     let n = wide(counts[2]);
@@ -118,8 +121,8 @@ pub fn add_vertex(
 }
 
 // How many hyperplanes are the cube's own.
-pub fn primordials(d: usize) -> usize
-    requires { ⌜ d ≤ 4 ⌝ }
+fn primordials(d: usize) -> usize
+    requires { ⌜ d ≤ desk .dimensions ⌝ }
     ensures { λ r. ⌜ r ≡ table.primordials d ⌝ }
 {
     if d < 2 {
@@ -128,7 +131,7 @@ pub fn primordials(d: usize) -> usize
     2 * d
 }
 
-pub fn hyperplane_row(h: Hyperplane) -> [f64; 5]
+pub fn hyperplane_row(h: Hyperplane) -> [f64; PLANE_WIDTH]
     ensures { λ r. ⌜ r ≡ rowOf h ⌝ }
 {
     [
@@ -140,8 +143,8 @@ pub fn hyperplane_row(h: Hyperplane) -> [f64; 5]
     ]
 }
 
-pub fn put_hyperplane(planes: &mut [f64], at: usize, p: [f64; 5])
-    requires { ⌜ at + 5 ≤ length (now planes) ⌝ }
+pub fn put_hyperplane(planes: &mut [f64], at: usize, p: [f64; PLANE_WIDTH])
+    requires { ⌜ at + planeWidth desk ≤ length (now planes) ⌝ }
     ensures { λ r. ⌜ now (planes .exit) ≡ sets (now (planes .entry)) at (five p) ⌝ }
 {
     planes[at] = p[0];
@@ -155,10 +158,10 @@ pub fn put_hyperplane(planes: &mut [f64], at: usize, p: [f64; 5])
 fn share_hyperplane(
     counts: &mut [u16],
     planes: &mut [f64],
-    row: [f64; 5],
+    row: [f64; PLANE_WIDTH],
     m: FoundHyperplane,
 ) -> PlacedHyperplane
-    requires { ⌜ (length (now counts) ≡ 4) × (length (now planes) ≡ 320) ⌝ }
+    requires { ⌜ (length (now counts) ≡ 4) × (length (now planes) ≡ planeSlice) ⌝ }
     ensures { λ r. ⌜ HyperplaneShared (now (counts .entry)) (now (planes .entry)) row m r (now (counts .exit)) (now (planes .exit)) ⌝ }
 {
     match m {
@@ -177,11 +180,11 @@ fn share_hyperplane(
 
 // The lowest hyperplane that matches, or a new one; the cube's own are never matched.
 pub fn add_hyperplane(counts: &mut [u16], planes: &mut [f64], h: Hyperplane) -> PlacedHyperplane
-    requires { ⌜ (length (now counts) ≡ 4) × (length (now planes) ≡ 320) × (getD (now counts) 0 0 ≤ 4) × (getD (now counts) 3 0 ≤ 64) ⌝ }
+    requires { ⌜ HyperplaneReady (now counts) (now planes) ⌝ }
     ensures { λ r. ⌜ HyperplaneAdded (now (counts .entry)) (now (planes .entry)) h r (now (counts .exit)) (now (planes .exit)) ⌝ }
 {
     let d = wide(counts[0]);
-    let first = primordials(d);
+    let first = HyperplaneId(primordials(d));
     let n = wide(counts[3]);
     let m = hypermath::find_hyperplane(d, planes, first, n, h);
     let row = hyperplane_row(h);
@@ -199,8 +202,8 @@ pub fn add_polytope(
     plane: u16,
     mark: bool,
 ) -> Added
-    requires { ⌜ (length (now counts) ≡ 4) × (length (now elements) ≡ 18432) × (getD (now counts) 1 0 ≤ 512) × (length (now list) ≡ 34) × (n ≤ 33) × (rank < 65536) × Low (now list) n × (rank ≡ 2 → LowEnds (now elements) (now list) n) × Indexed (now elements) (getD (now counts) 1 0) (now index) ⌝ }
-    ensures { λ r. ⌜ PolytopeAdded (now (counts .entry)) (now (elements .entry)) rank (take n (now (list .entry))) plane mark r (now (counts .exit)) (now (elements .exit)) × Indexed (now (elements .exit)) (getD (now (counts .exit)) 1 0) (now (index .exit)) ⌝ }
+    requires { ⌜ PolytopeReady (now counts) (now elements) (now index) rank (now list) n ⌝ }
+    ensures { λ r. ⌜ PolytopeIndexed (now (counts .entry)) (now (elements .entry)) rank (take n (now (list .entry))) plane mark r (now (counts .exit)) (now (elements .exit)) (now (index .exit)) ⌝ }
 {
     if n <= rank {
         return Added::Made(ElementOrNone::None);
@@ -211,8 +214,8 @@ pub fn add_polytope(
     if !is_closed(counts, elements, rank, list, n) {
         return Added::Refused(7);
     }
-    let row = rows::polytope_row(rank, list, n, plane, mark);
-    let placed = rows::add_row(counts, elements, index, &row);
+    let row = polytope_row(rank, list, n, plane, mark);
+    let placed = add_row(counts, elements, index, &row);
     match placed {
         Placed::Refused(no) => Added::Refused(no),
         Placed::At(e) => Added::Made(ElementOrNone::Some(e)),

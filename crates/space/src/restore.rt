@@ -6,8 +6,9 @@ use crate::words::wide;
 ghost use mathlib.Core.Path.{_≡_};
 ghost use Prim.Native.Nat.{_+_, _≤_};
 ghost use lib.Seq.{sets};
-ghost use lib.ListN.{length, getD, replicate};
+ghost use lib.ListN.{length, replicate};
 ghost use Rattle.rules.specs.Floats.{plusZero};
+ghost use Rattle.space.specs.Ready.{RestoreReady};
 ghost use Rattle.space.specs.Restored.{Restored};
 
 pub fn clear_numbers(words: &mut [u16], at: usize, n: usize)
@@ -38,7 +39,7 @@ pub fn restore(
     v: u16,
     h: u16,
 )
-    requires { ⌜ (length (now counts) ≡ 4) × (length (now points) ≡ 1024) × (length (now planes) ≡ 320) × (length (now elements) ≡ 18432) × (e ≤ getD (now counts) 1 0) × (v ≤ getD (now counts) 2 0) × (h ≤ getD (now counts) 3 0) × (getD (now counts) 1 0 ≤ 512) × (getD (now counts) 2 0 ≤ 256) × (getD (now counts) 3 0 ≤ 64) ⌝ }
+    requires { ⌜ RestoreReady (now counts) (now points) (now planes) (now elements) e v h ⌝ }
     ensures { λ r. ⌜ Restored (now (counts .entry)) (now (points .entry)) (now (planes .entry)) (now (elements .entry)) e v h (now (counts .exit)) (now (points .exit)) (now (planes .exit)) (now (elements .exit)) ⌝ }
 {
     let ne = wide(counts[1]);

@@ -1,7 +1,7 @@
 -- The boundary that a row holds is the element's, in a sound table that the memory holds; and what a loop over it leaves:
 -- from i on, the number at i and then those from i + 1 on.
 use Prim.Native.Nat.{ℕ, suc, _+_, _*_, _≤_, _<_}
-use mathlib.Core.Path.{_≡_, refl, sym, ap, _∙_, subst}
+use mathlib.Core.Path.{_≡_, sym, ap, _∙_, subst}
 use mathlib.Core.List.{List, [], _∷_}
 use native.Mathlib.Nat.{le-trans, le-of-eq}
 use native.Mathlib.Numerals.{add-one}
@@ -11,14 +11,14 @@ use lib.ListN.{length, getD, drop, length-drop, drop-of-length-le}
 use lib.Seq.{drop-cons, getD-take, getD-drop, length-take-le, ext-getD}
 use lib.Ieee.{Float}
 use Rattle.rules.specs.Limits.{desk}
-use Rattle.rules.specs.Table.{Element, corner, polytope, Table, rankOf, boundaryOf, elementCount, rank, boundary, element}
+use Rattle.rules.specs.Table.{corner, Table, boundaryOf, elementCount, rank, boundary, element}
 use Rattle.rules.specs.Held.{Holds, Ranked, AllOf}
 use Rattle.rules.proofs.Good.{Good}
 use Rattle.rules.proofs.Growing.{all-get}
 use Rattle.rules.proofs.Laws.{le-test}
 use Rattle.rules.proofs.Ranked.{set-under}
 use Rattle.rules.proofs.StaysCut.{facts}
-use Rattle.space.proofs.Room.{sizeOf, listOf, size-word, list-word}
+use Rattle.space.proofs.Room.{size-bound, list-bound, size-word, list-word}
 use Rattle.space.proofs.Slices.{slices}
 use Rattle.walk.specs.Boundaries.{rowBoundary, BoundaryFits}
 
@@ -51,14 +51,6 @@ module _ (es : List ℕ) (e n : ℕ) (B : BoundaryFits es e) (q : n ≡ getD es 
   number-low i x h f = le-trans (le-of-eq (ap suc f)) (B .low i (le-trans h (le-of-eq q)))
 
 -- ---- the element's own
-
-size-bound : (x : Element) (n : ℕ) → rankOf x ≡ suc n → sizeOf x ≡ length (boundaryOf x)
-size-bound (corner v) n h = absurd (let z : ⊥ = omega (arith, h) in z)
-size-bound (polytope r b h m) n q = refl
-
-list-bound : (x : Element) (n : ℕ) → rankOf x ≡ suc n → listOf x ≡ boundaryOf x
-list-bound (corner v) n h = absurd (let z : ⊥ = omega (arith, h) in z)
-list-bound (polytope r b h m) n q = refl
 
 module _ {cs : List ℕ} {ps hs : List Float} {es : List ℕ} {t : Table} (H : Holds desk cs ps hs es t) (g : Good desk t) (e r : ℕ) (u : e < elementCount t) (q : rank t e ≡ suc r) where
   pub bounds : AllOf (Ranked t (suc r)) (boundary t e)

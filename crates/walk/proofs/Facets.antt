@@ -1,7 +1,7 @@
 -- The reply about a primordial facet, test by test; the marks in the rows are the elements' own.
 use Prim.Native.Nat.{ℕ, suc, _+_, _-_, _*_, _≤_, _<_}
 use mathlib.Core.Path.{_≡_, refl, sym, ap, _∙_}
-use mathlib.Core.Bool.{Bool, true, false, _||_, cond}
+use mathlib.Core.Bool.{Bool, true, false, _||_}
 use mathlib.Core.List.{List, [], _∷_}
 use native.Mathlib.Omega.{arith}
 use lib.Dec.{eqb}
@@ -15,10 +15,10 @@ use Rattle.rules.specs.Held.{Holds, AllOf, Ranked, memoryOf}
 use Rattle.rules.specs.Questions.{no-answer, answer, primordialFacet}
 use Rattle.rules.specs.Replies.{facetAnswer, primordialFacetReply}
 use Rattle.rules.specs.declared.FacetReply.the-variants.{Refused, Has}
-use Rattle.rules.proofs.Laws.{if-true, if-false, test-eq, not-eq, le-test}
+use Rattle.rules.proofs.Laws.{if-true, if-false, test-eq, not-eq, le-test, mark-back}
 use Rattle.space.proofs.Room.{mark-word}
 use Rattle.walk.specs.Boundaries.{rowBoundary, BoundaryFits}
-use Rattle.walk.specs.Facets.{isMarked}
+use Rattle.walk.specs.Facets.{rowPrimordial}
 use Rattle.walk.proofs.Asking as ask
 use Rattle.walk.proofs.Asking.{tableOf}
 use Rattle.walk.proofs.Boundaries.{row-on, row-end, bounds, boundary-fits, boundary-is}
@@ -43,15 +43,11 @@ module _ (es : List ℕ) (e n : ℕ) (B : BoundaryFits es e) (q : n ≡ getD es 
 
 -- elements of a list have the mark in their rows exactly when they are primordial
 marks-are : {cs : List ℕ} {ps hs : List Float} {es : List ℕ} {t : Table} (q : ℕ) → Holds desk cs ps hs es t → (xs : List ℕ) → AllOf (Ranked t q) xs
-    → any (isMarked es) xs ≡ any (λ b. isPrimordial (element t b)) xs
+    → any (rowPrimordial es) xs ≡ any (λ b. isPrimordial (element t b)) xs
 marks-are q H [] h = refl
 marks-are {es = es} {t} q H (x ∷ xs) h =
-    λ i. ((ap (λ (l : List ℕ). eqb (getD l (x * 36 + 1) 0) 1) (H .elements) ∙ ap (λ (n : ℕ). eqb n 1) (mark-word desk t (H .fits) x (h .0 .0)) ∙ back (isPrimordial (element t x))) i
+    λ i. ((ap (λ (l : List ℕ). eqb (getD l (x * 36 + 1) 0) 1) (H .elements) ∙ ap (λ (n : ℕ). eqb n 1) (mark-word desk t (H .fits) x (h .0 .0)) ∙ mark-back (isPrimordial (element t x))) i
     || marks-are q H xs (h .1) i)
-  where
-    back : (b : Bool) → eqb (cond b 1 0) 1 ≡ b
-    back true = refl
-    back false = refl
 
 module _ (root : ℕ) (cs : List ℕ) (ps hs : List Float) (es : List ℕ) where
   abbrev t : Table
@@ -101,10 +97,10 @@ module _ (root : ℕ) (cs : List ℕ) (ps hs : List Float) (es : List ℕ) where
             pub facets-fit : BoundaryFits es root
             facets-fit = boundary-fits H (ask.good cs ps hs es s) root (rank t root - 1) used full
 
-            pub has : (b : Bool) → b ≡ any (isMarked es) (rowBoundary es root) → Has b ≡ primordialFacetReply desk (memoryOf cs ps hs es) root
+            pub has : (b : Bool) → b ≡ any (rowPrimordial es) (rowBoundary es root) → Has b ≡ primordialFacetReply desk (memoryOf cs ps hs es) root
             unfolding primordialFacet
             has b h =
-                ap Has (h ∙ ap (any (isMarked es)) (boundary-is H (ask.good cs ps hs es s) root (rank t root - 1) used full)
+                ap Has (h ∙ ap (any (rowPrimordial es)) (boundary-is H (ask.good cs ps hs es s) root (rank t root - 1) used full)
                 ∙ marks-are (suc (rank t root - 1)) H (boundary t root) (bounds H (ask.good cs ps hs es s) root (rank t root - 1) used full))
                 ∙ ap facetAnswer (sym (if-true (eqb (rank t root) (t .dimension)) (answer (any (λ b. isPrimordial (element t b)) (boundary t root))) (no-answer 6)
                 (test-eq (rank t root) (t .dimension) (sym rank-is ∙ w ∙ dimension-is)))) ∙ goes

@@ -6,5 +6,5 @@ use lib.Dec.{eqb}
 use lib.ListN.{getD}
 
 -- element b's row has the primordial mark
-abbrev pub isMarked : List ℕ → ℕ → Bool
-isMarked es b = eqb (getD es (b * 36 + 1) 0) 1
+abbrev pub rowPrimordial : List ℕ → ℕ → Bool
+rowPrimordial es b = eqb (getD es (b * 36 + 1) 0) 1

@@ -1,6 +1,7 @@
 -- The walk round a face over the words of the lent memory: the rules' own for a face that is one ring, with the ends of an edge read from its row. Definitions only.
-use Prim.Native.Nat.{ℕ, zero, suc, _+_, _*_, _<_}
+use Prim.Native.Nat.{ℕ, zero, suc, _+_, _*_, _<_, _≤_}
 use mathlib.Core.Bool.{Bool, not, _&&_, _||_}
+use mathlib.Core.Path.{_≡_}
 use mathlib.Core.List.{List, [], _∷_}
 use lib.Dec.{ltb, eqb}
 use lib.ListN.{length, getD}
@@ -57,11 +58,25 @@ numbersFrom (suc n) es xs v e =
     let w = endAcross es v e in
     getD es (v * 36 + 4) 0 ∷ getD es (w * 36 + 4) 0 ∷ numbersFrom n es xs w (edgeBeside es e w xs)
 
--- as many steps as there are edges: they lead round a ring, and no further
+-- round the face f: as many steps as it has edges, which lead round a ring, and no further
+abbrev pub numbersRound : List ℕ → ℕ → ℕ → ℕ → List ℕ
+numbersRound es f v e = numbersFrom (length (rowBoundary es f)) es (rowBoundary es f) v e
+
+-- from the lowest corner, first to its lower neighbour
 unfoldable pub wordsInOrder : List ℕ → List ℕ → List ℕ
 wordsInOrder es xs = numbersFrom (length xs) es xs (lowestEnd es noEdge xs) (firstWay es (lowestEnd es noEdge xs) xs)
 
 -- ---- what the walk needs
+
+-- the row of element e stands in the lent memory
+pub record RowFits (es : List ℕ) (e : ℕ) : Type 0 where
+  pub long : length es ≡ 18432
+  pub used : e < 512
+
+-- r is the number in the row of the vertex element v
+pub record VertexOf (es : List ℕ) (v r : ℕ) : Type 0 where
+  pub named : r ≡ lowEnd es v
+  pub small : r < 65536
 
 -- an edge and its ends are numbers within the room
 pub record EdgeFits (es : List ℕ) (x : ℕ) : Type 0 where
@@ -75,3 +90,10 @@ pub record FaceFits (es : List ℕ) (f : ℕ) : Type 0 where
   pub edges : AllOf (EdgeFits es) (rowBoundary es f)
   pub none : EdgeFits es 0
   pub start : lowestEnd es noEdge (rowBoundary es f) < 512
+
+-- and so are the corner and the edge that the walk begins with; the list has room for all its numbers
+pub record WalkFits (es : List ℕ) (f start first : ℕ) (room : List ℕ) : Type 0 where
+  pub face : FaceFits es f
+  pub corner : start < 512
+  pub edge : EdgeFits es first
+  pub enough : 2 * length (rowBoundary es f) ≤ length room

@@ -10,12 +10,12 @@ ghost use Rattle.rules.specs.Lists.{any};
 ghost use Rattle.rules.specs.Held.{memoryOf};
 ghost use Rattle.rules.specs.Replies.{primordialFacetReply};
 ghost use Rattle.walk.specs.Boundaries.{rowBoundary, BoundaryFits};
-ghost use Rattle.walk.specs.Facets.{isMarked};
+ghost use Rattle.walk.specs.Facets.{rowPrimordial};
 
 // Whether some element of the boundary has the mark.
 fn any_primordial(elements: &[u16], e: ElementId) -> bool
     requires { ⌜ BoundaryFits (now elements) (e .0) ⌝ }
-    ensures { λ r. ⌜ r ≡ any (isMarked (now (elements .entry))) (rowBoundary (now (elements .entry)) (e .0)) ⌝ }
+    ensures { λ r. ⌜ r ≡ any (rowPrimordial (now (elements .entry))) (rowBoundary (now (elements .entry)) (e .0)) ⌝ }
 {
     let n = rows::size_of(elements, e);
     for i in 0..n {

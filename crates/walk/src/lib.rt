@@ -3,14 +3,15 @@ pub mod facet;
 
 use rules::ElementId;
 use rules::ListReply;
+use rules::VertexId;
 use soundness::sound::memory_sound;
 use space::rows;
 use space::words::wide;
-ghost use Prim.Native.Nat.{_+_, _*_, _<_, _≤_};
+ghost use Prim.Native.Nat.{_+_, _*_, _<_};
 ghost use mathlib.Core.Path.{_≡_};
 ghost use mathlib.Core.Bool.{not, _&&_};
 ghost use lib.Dec.{eqb};
-ghost use lib.ListN.{length, getD};
+ghost use lib.ListN.{getD};
 ghost use lib.Seq.{sets};
 ghost use Rattle.rules.specs.Limits.{desk};
 ghost use Rattle.rules.specs.Held.{memoryOf};
@@ -18,116 +19,127 @@ ghost use Rattle.rules.specs.Questions.{answer};
 ghost use Rattle.rules.specs.Replies.{listed, edgesInOrderReply};
 ghost use Rattle.walk.specs.Boundaries.{rowBoundary, BoundaryFits};
 ghost use Rattle.walk.specs.Walks as words;
-ghost use Rattle.walk.specs.Walks.{hasEnd, endAcross, edgeBeside, lowestEnd, noEdge, firstWay, numbersFrom, wordsInOrder, EdgeFits, FaceFits};
+ghost use Rattle.walk.specs.Walks.{hasEnd, endAcross, edgeBeside, lowestEnd, noEdge, firstWay, numbersRound, wordsInOrder, RowFits, VertexOf, FaceFits, WalkFits};
 
 // No element has this number.
-const NO_EDGE: u16 = 65535;
+const NO_EDGE: usize = 65535;
 
-// A number of an edge's row; of a vertex element's, its vertex number.
-fn number_at(elements: &[u16], e: u16, i: usize) -> u16
-    requires { ⌜ (length (now elements) ≡ 18432) × (e < 512) × (i < 2) ⌝ }
-    ensures { λ r. ⌜ r ≡ getD (now (elements .entry)) (e * 36 + (4 + i)) 0 ⌝ }
+// One of an edge's two ends, which are vertex elements.
+fn end_at(elements: &[u16], e: ElementId, i: usize) -> ElementId
+    requires { ⌜ RowFits (now elements) (e .0) × (i < 2) ⌝ }
+    ensures { λ r. ⌜ r .0 ≡ getD (now (elements .entry)) (e .0 * 36 + (4 + i)) 0 ⌝ }
 {
-    let edge = ElementId(wide(e));
-    rows::boundary_at(elements, edge, i)
+    ElementId(wide(rows::boundary_at(elements, e, i)))
 }
 
-fn has_end(elements: &[u16], v: u16, e: u16) -> bool
-    requires { ⌜ (length (now elements) ≡ 18432) × (e < 512) ⌝ }
-    ensures { λ r. ⌜ r ≡ hasEnd (now (elements .entry)) v e ⌝ }
+// The vertex that a vertex element names.
+fn vertex_of(elements: &[u16], v: ElementId) -> VertexId
+    requires { ⌜ RowFits (now elements) (v .0) ⌝ }
+    ensures { λ r. ⌜ VertexOf (now (elements .entry)) (v .0) (r .0) ⌝ }
 {
-    if v == number_at(elements, e, 0) {
+    VertexId(wide(rows::boundary_at(elements, v, 0)))
+}
+
+fn has_end(elements: &[u16], v: ElementId, e: ElementId) -> bool
+    requires { ⌜ RowFits (now elements) (e .0) ⌝ }
+    ensures { λ r. ⌜ r ≡ hasEnd (now (elements .entry)) (v .0) (e .0) ⌝ }
+{
+    let a = end_at(elements, e, 0);
+    if v.0 == a.0 {
         return true;
     }
-    v == number_at(elements, e, 1)
+    let b = end_at(elements, e, 1);
+    v.0 == b.0
 }
 
-fn end_across(elements: &[u16], v: u16, e: u16) -> u16
-    requires { ⌜ (length (now elements) ≡ 18432) × (e < 512) ⌝ }
-    ensures { λ r. ⌜ r ≡ endAcross (now (elements .entry)) v e ⌝ }
+fn end_across(elements: &[u16], v: ElementId, e: ElementId) -> ElementId
+    requires { ⌜ RowFits (now elements) (e .0) ⌝ }
+    ensures { λ r. ⌜ r .0 ≡ endAcross (now (elements .entry)) (v .0) (e .0) ⌝ }
 {
-    let a = number_at(elements, e, 0);
-    if a == v {
-        return number_at(elements, e, 1);
+    let a = end_at(elements, e, 0);
+    if a.0 == v.0 {
+        return end_at(elements, e, 1);
     }
     a
 }
 
 // Whether x is an edge at the corner v other than e.
-fn is_beside(elements: &[u16], e: u16, v: u16, x: u16) -> bool
-    requires { ⌜ (length (now elements) ≡ 18432) × (x < 512) ⌝ }
-    ensures { λ r. ⌜ r ≡ (not (eqb x e) && hasEnd (now (elements .entry)) v x) ⌝ }
+fn is_beside(elements: &[u16], e: ElementId, v: ElementId, x: ElementId) -> bool
+    requires { ⌜ RowFits (now elements) (x .0) ⌝ }
+    ensures { λ r. ⌜ r ≡ (not (eqb (x .0) (e .0)) && hasEnd (now (elements .entry)) (v .0) (x .0)) ⌝ }
 {
-    if x == e {
+    if x.0 == e.0 {
         return false;
     }
     has_end(elements, v, x)
 }
 
 // By number and not by the corner it leads to: two edges may share both ends.
-fn edge_beside(elements: &[u16], f: ElementId, e: u16, v: u16) -> u16
+fn edge_beside(elements: &[u16], f: ElementId, e: ElementId, v: ElementId) -> ElementId
     requires { ⌜ BoundaryFits (now elements) (f .0) ⌝ }
-    ensures { λ r. ⌜ r ≡ edgeBeside (now (elements .entry)) e v (rowBoundary (now (elements .entry)) (f .0)) ⌝ }
+    ensures { λ r. ⌜ r .0 ≡ edgeBeside (now (elements .entry)) (e .0) (v .0) (rowBoundary (now (elements .entry)) (f .0)) ⌝ }
 {
     let n = rows::size_of(elements, f);
     for i in 0..n {
-        let x = rows::boundary_at(elements, f, i);
+        let x = ElementId(wide(rows::boundary_at(elements, f, i)));
         if is_beside(elements, e, v, x) {
             return x;
         }
     }
-    0
+    ElementId(0)
 }
 
-fn lower(a: u16, b: u16) -> u16
-    ensures { λ r. ⌜ r ≡ words.lower a b ⌝ }
+fn lower(a: ElementId, b: ElementId) -> ElementId
+    ensures { λ r. ⌜ r .0 ≡ words.lower (a .0) (b .0) ⌝ }
 {
-    if b < a {
+    if b.0 < a.0 {
         return b;
     }
     a
 }
 
 // An edge's first end is its lower one.
-fn lowest_end(elements: &[u16], f: ElementId) -> u16
+fn lowest_end(elements: &[u16], f: ElementId) -> ElementId
     requires { ⌜ BoundaryFits (now elements) (f .0) ⌝ }
-    ensures { λ r. ⌜ r ≡ lowestEnd (now (elements .entry)) noEdge (rowBoundary (now (elements .entry)) (f .0)) ⌝ }
+    ensures { λ r. ⌜ r .0 ≡ lowestEnd (now (elements .entry)) noEdge (rowBoundary (now (elements .entry)) (f .0)) ⌝ }
 {
     let n = rows::size_of(elements, f);
-    let mut m = NO_EDGE;
+    let mut m = ElementId(NO_EDGE);
     for i in 0..n {
-        let x = rows::boundary_at(elements, f, i);
-        m = lower(m, number_at(elements, x, 0));
+        let x = ElementId(wide(rows::boundary_at(elements, f, i)));
+        m = lower(m, end_at(elements, x, 0));
     }
     m
 }
 
-fn first_way(elements: &[u16], f: ElementId, v: u16) -> u16
+fn first_way(elements: &[u16], f: ElementId, v: ElementId) -> ElementId
     requires { ⌜ FaceFits (now elements) (f .0) ⌝ }
-    ensures { λ r. ⌜ r ≡ firstWay (now (elements .entry)) v (rowBoundary (now (elements .entry)) (f .0)) ⌝ }
+    ensures { λ r. ⌜ r .0 ≡ firstWay (now (elements .entry)) (v .0) (rowBoundary (now (elements .entry)) (f .0)) ⌝ }
 {
-    let a = edge_beside(elements, f, NO_EDGE, v);
+    let a = edge_beside(elements, f, ElementId(NO_EDGE), v);
     let b = edge_beside(elements, f, a, v);
     let p = end_across(elements, v, a);
     let q = end_across(elements, v, b);
-    if q < p {
+    if q.0 < p.0 {
         return b;
     }
     a
 }
 
 // Two vertex numbers for each edge. A face of a sound table is one ring, so as many steps as it has edges lead round to the start: no 7.
-fn walk_round(elements: &[u16], f: ElementId, start: u16, first: u16, list: &mut [u16])
-    requires { ⌜ FaceFits (now elements) (f .0) × EdgeFits (now elements) first × (start < 512) × (2 * length (rowBoundary (now elements) (f .0)) ≤ length (now list)) ⌝ }
-    ensures { λ r. ⌜ now (list .exit) ≡ sets (now (list .entry)) 0 (numbersFrom (length (rowBoundary (now (elements .entry)) (f .0))) (now (elements .entry)) (rowBoundary (now (elements .entry)) (f .0)) start first) ⌝ }
+fn walk_round(elements: &[u16], f: ElementId, start: ElementId, first: ElementId, list: &mut [u16])
+    requires { ⌜ WalkFits (now elements) (f .0) (start .0) (first .0) (now list) ⌝ }
+    ensures { λ r. ⌜ now (list .exit) ≡ sets (now (list .entry)) 0 (numbersRound (now (elements .entry)) (f .0) (start .0) (first .0)) ⌝ }
 {
     let n = rows::size_of(elements, f);
     let mut v = start;
     let mut e = first;
     for k in 0..n {
         let w = end_across(elements, v, e);
-        list[2 * k] = number_at(elements, v, 0);
-        list[2 * k + 1] = number_at(elements, w, 0);
+        let from = vertex_of(elements, v);
+        let to = vertex_of(elements, w);
+        list[2 * k] = from.0 as u16;
+        list[2 * k + 1] = to.0 as u16;
         e = edge_beside(elements, f, e, w);
         v = w;
     }

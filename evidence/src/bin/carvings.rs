@@ -88,6 +88,7 @@ fn spoken_of(r: &mut Random, lent: &Lent) -> Option<(Hyperplane, u16)> {
     let table = lent.table().ok()?;
     let Call::Cut { divider, root, .. } = arguments::cut(r, Some(table)) else { return None };
     let divider = table.hyperplanes.last().copied().filter(|_| r.one_in(4)).unwrap_or(divider);
+    let root = table.in_use(root)?;
     let is_spoken_of = divider.distance.is_finite() && table.element(root)?.rank() > 0;
     is_spoken_of.then_some((divider, root))
 }

@@ -5,7 +5,7 @@ use super::memory::{write, Lent};
 use super::table::{Element, Polytope, Table};
 use super::Refusal;
 
-pub fn with_primordial_cube_radius(lent: &mut Lent, dimension: u8, radius: f64) -> Result<(), Refusal> {
+pub fn with_primordial_cube_radius(lent: &mut Lent, dimension: u32, radius: f64) -> Result<(), Refusal> {
     if !(1..=4).contains(&dimension) {
         return Err(1);
     }
@@ -15,7 +15,7 @@ pub fn with_primordial_cube_radius(lent: &mut Lent, dimension: u8, radius: f64) 
     if !lent.memory().has_the_lengths() {
         return Err(3);
     }
-    *lent = Lent::new(write(&cube(usize::from(dimension), radius)));
+    *lent = Lent::new(write(&cube(dimension as usize, radius)));
     Ok(())
 }
 

@@ -21,11 +21,9 @@ pub struct Kept {
     pub outside: bool,
 }
 
-pub fn cut(lent: &mut Lent, divider: Hyperplane, kept: Kept, root: u16) -> Result<Answer, Refusal> {
+pub fn cut(lent: &mut Lent, divider: Hyperplane, kept: Kept, root: u32) -> Result<Answer, Refusal> {
     let table = lent.table()?;
-    if !table.is_in_use(root) {
-        return Err(4);
-    }
+    let root = table.in_use(root).ok_or(4)?;
     if !is_unit(&divider.normal, table.dimension) || !(divider.distance.is_infinite() || is_distance(divider.distance))
     {
         return Err(5);
@@ -40,15 +38,16 @@ pub fn cut(lent: &mut Lent, divider: Hyperplane, kept: Kept, root: u16) -> Resul
 }
 
 /// The edges, by their ends, of the face for which such a cut is refused with 7, where it is refused for a face.
-pub fn refused_face(table: &Table, divider: Hyperplane, kept: Kept, root: u16) -> Option<Vec<[u16; 2]>> {
+pub fn refused_face(table: &Table, divider: Hyperplane, kept: Kept, root: u32) -> Option<Vec<[u16; 2]>> {
     let mut cut = Cut::new(table, divider, kept);
-    cut.root(root).err()?;
+    cut.root(table.in_use(root)?).err()?;
     cut.refused_face
 }
 
 /// Whether such a cut was taken before order 4.
-pub fn was_taken(table: &Table, divider: Hyperplane, kept: Kept, root: u16) -> bool {
-    Cut { is_face: Table::meets_each_corner_twice, ..Cut::new(table, divider, kept) }.root(root).is_ok()
+pub fn was_taken(table: &Table, divider: Hyperplane, kept: Kept, root: u32) -> bool {
+    let mut cut = Cut { is_face: Table::meets_each_corner_twice, ..Cut::new(table, divider, kept) };
+    table.in_use(root).is_some_and(|root| cut.root(root).is_ok())
 }
 
 fn given_on(inside: bool, element: u16) -> Answer {

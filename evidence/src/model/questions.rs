@@ -7,37 +7,38 @@ use super::Refusal;
 /// The size of a list that fits, once it is at the front of its room.
 type Size = usize;
 
-pub fn subelements_of(lent: &Lent, root: u16, room: &mut [u16]) -> Result<Size, Refusal> {
-    let table = table_with(lent, &[root])?;
+pub fn subelements_of(lent: &Lent, root: u32, room: &mut [u16]) -> Result<Size, Refusal> {
+    let (table, root) = table_with(lent, root)?;
     fill(room, &below(table, root))
 }
 
-pub fn subelements_with_rank(lent: &Lent, root: u16, rank: u8, room: &mut [u16]) -> Result<Size, Refusal> {
-    let table = table_with(lent, &[root])?;
-    fill(room, &of_rank(table, &below(table, root), u16::from(rank)))
+pub fn subelements_with_rank(lent: &Lent, root: u32, rank: u32, room: &mut [u16]) -> Result<Size, Refusal> {
+    let (table, root) = table_with(lent, root)?;
+    fill(room, &of_rank(table, &below(table, root), rank))
 }
 
-pub fn vertex_set(lent: &Lent, root: u16, room: &mut [u16]) -> Result<Size, Refusal> {
-    let table = table_with(lent, &[root])?;
+pub fn vertex_set(lent: &Lent, root: u32, room: &mut [u16]) -> Result<Size, Refusal> {
+    let (table, root) = table_with(lent, root)?;
     let mut vertices: Vec<u16> = below(table, root).into_iter().filter_map(|e| table.vertex_number(e)).collect();
     vertices.sort_unstable();
     fill(room, &vertices)
 }
 
 pub fn greatest_common_subelements(lent: &Lent, roots: &[u16], room: &mut [u16]) -> Result<Size, Refusal> {
-    let table = table_with(lent, roots)?;
+    let table = lent.table()?;
+    roots.iter().try_for_each(|&root| table.in_use(root.into()).map(|_| ()).ok_or(4))?;
     let rank = roots.first().map(|&root| table.rank(root)).ok_or(6)?;
     if roots.iter().any(|&root| table.rank(root) != rank) {
         return Err(6);
     }
     let common = common_to_all(table, roots);
-    let by_rank = (1..=rank).rev().map(|rank| of_rank(table, &common, rank));
+    let by_rank = (1..=rank).rev().map(|rank| of_rank(table, &common, rank.into()));
     let greatest = by_rank.into_iter().find(|list| !list.is_empty());
     fill(room, &greatest.unwrap_or_default())
 }
 
-pub fn edges_in_order(lent: &Lent, root: u16, room: &mut [u16]) -> Result<Size, Refusal> {
-    let table = table_with(lent, &[root])?;
+pub fn edges_in_order(lent: &Lent, root: u32, room: &mut [u16]) -> Result<Size, Refusal> {
+    let (table, root) = table_with(lent, root)?;
     if table.rank(root) != 2 {
         return Err(6);
     }
@@ -45,8 +46,8 @@ pub fn edges_in_order(lent: &Lent, root: u16, room: &mut [u16]) -> Result<Size, 
     fill(room, &walk(edges.collect())?)
 }
 
-pub fn has_primordial_facet(lent: &Lent, root: u16) -> Result<bool, Refusal> {
-    let table = table_with(lent, &[root])?;
+pub fn has_primordial_facet(lent: &Lent, root: u32) -> Result<bool, Refusal> {
+    let (table, root) = table_with(lent, root)?;
     if usize::from(table.rank(root)) != table.dimension {
         return Err(6);
     }
@@ -54,13 +55,9 @@ pub fn has_primordial_facet(lent: &Lent, root: u16) -> Result<bool, Refusal> {
 }
 
 /// Refusals 3 and 4.
-fn table_with<'a>(lent: &'a Lent, roots: &[u16]) -> Result<&'a Table, Refusal> {
+fn table_with(lent: &Lent, root: u32) -> Result<(&Table, u16), Refusal> {
     let table = lent.table()?;
-    if roots.iter().all(|&root| table.is_in_use(root)) {
-        Ok(table)
-    } else {
-        Err(4)
-    }
+    Ok((table, table.in_use(root).ok_or(4)?))
 }
 
 fn fill(room: &mut [u16], list: &[u16]) -> Result<Size, Refusal> {
@@ -80,8 +77,8 @@ fn below(table: &Table, root: u16) -> Vec<u16> {
     (0..=root).filter(|&e| marked[usize::from(e)]).collect()
 }
 
-fn of_rank(table: &Table, list: &[u16], rank: u16) -> Vec<u16> {
-    list.iter().copied().filter(|&e| table.rank(e) == rank).collect()
+fn of_rank(table: &Table, list: &[u16], rank: u32) -> Vec<u16> {
+    list.iter().copied().filter(|&e| u32::from(table.rank(e)) == rank).collect()
 }
 
 fn common_to_all(table: &Table, roots: &[u16]) -> Vec<u16> {

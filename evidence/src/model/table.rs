@@ -52,8 +52,9 @@ impl Table {
         self.elements.get(usize::from(number))
     }
 
-    pub fn is_in_use(&self, number: u16) -> bool {
-        usize::from(number) < self.elements.len()
+    /// A number as a host gives it, where it is in use.
+    pub fn in_use(&self, given: u32) -> Option<u16> {
+        ((given as usize) < self.elements.len()).then_some(given as u16)
     }
 
     pub fn rank(&self, number: u16) -> u16 {

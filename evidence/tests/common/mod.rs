@@ -9,7 +9,7 @@ pub const BOTH: Kept = Kept { inside: true, outside: true };
 pub const INSIDE: Kept = Kept { inside: true, outside: false };
 pub const OUTSIDE: Kept = Kept { inside: false, outside: true };
 
-pub fn cube(dimension: u8) -> Lent {
+pub fn cube(dimension: u32) -> Lent {
     let mut lent = Lent::new(Memory::clear());
     with_primordial_cube_radius(&mut lent, dimension, 1.0).unwrap();
     lent

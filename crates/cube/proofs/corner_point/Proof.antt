@@ -1,8 +1,10 @@
--- The invariant: the axes so far are worked out, and the others are zeros.
+-- The invariant: the axes so far are worked out, whatever element the digits are of, and the others are zeros.
 use mathlib.Core.Path.{_≡_, refl}
-use Prim.Native.Nat.{_≤_, _-_}
+use mathlib.Core.List.{List}
+use Prim.Native.Nat.{ℕ, _≤_, _-_}
 use native.Mathlib.Omega.{arith}
 use lib.Ieee
+use lib.Ieee.{Float}
 use lib.ListN.{length}
 use Rattle.rules.specs.Lists.{pad}
 use Rattle.rules.specs.Cube.{digits, cubePoint}
@@ -12,8 +14,15 @@ use borrow.Author.Needs.{needs}
 use Rattle.cube.proofs.corner_point.Statement.{statement}
 use Rattle.cube.proofs.corner_point.Tie as tie
 
+record Worked (f : ℕ → Float) (d : ℕ) (ks : List ℕ) (p : List Float) (axis : ℕ) : Type 0 where
+  so-far : axis ≤ d
+  axes : d ≤ 4
+  digits-long : length ks ≡ 4
+  long : length p ≡ 4
+  done : (e : ℕ) → ks ≡ pad 0 4 (digits d e) → p ≡ worked f (digits d e) axis
+
 abbrev Inv-loop : tie.InvT-loop
-Inv-loop d radius e ks p₀ axis₀ p axis = (axis ≤ d) × (d ≤ 4) × (length ks ≡ 4) × (length p ≡ 4) × (ks ≡ pad 0 4 (digits d e)) × (p ≡ worked (coordinateAt radius) (digits d e) axis)
+Inv-loop d radius e ks p₀ axis₀ p axis = Worked (coordinateAt radius) d ks p axis
 
 abbrev μ-loop : tie.MeasureT-loop
 μ-loop d radius e ks p₀ axis₀ p axis = d - axis
@@ -23,7 +32,7 @@ digits-of-requires c κs = search needs
 
 loop-holds : tie.Need-loop-holds Inv-loop μ-loop
 unfolding lib.Ieee.ofBits
-loop-holds c = (omega arith, search needs, search needs, search needs, c .digits-of .ensures, refl)
+loop-holds c = record { so-far = omega arith; axes = search needs; digits-long = search needs; long = search needs; done = λ e q. refl }
 
 mul-coordinate-at : tie.Need-mul-coordinate-at Inv-loop μ-loop
 mul-coordinate-at c = search needs
@@ -48,15 +57,21 @@ loop-less c = search needs
 
 loop-again : tie.Need-loop-again Inv-loop μ-loop
 loop-again c =
-    let at = c .before .before .loop in
-    (search needs, search needs, search needs, search needs, at .inv .4, worked-next _ _ _ _ _ _ _ (at .inv .1) (omega arith) (at .inv .4) (at .inv .5) (c .coordinate-at .ensures))
+    let at = c .before .before .loop .inv in
+    record {
+      so-far = search needs;
+      axes = search needs;
+      digits-long = search needs;
+      long = search needs;
+      done = λ e q. worked-next _ _ e _ _ _ _ (at .axes) (omega arith) q (at .done e q) (c .coordinate-at .ensures);
+    }
 
 returns : tie.Need-returns Inv-loop μ-loop
 unfolding cubePoint
 returns c =
     let args = c .before .before .before .args in
     let at = c .before .loop in
-    worked-end (coordinateAt (args .radius)) (args .d) (args .e) (at .axis) _ (omega arith) (at .inv .5)
+    worked-end (coordinateAt (args .radius)) (args .d) (args .e) (at .axis) _ (omega arith) (at .inv .done (args .e) (c .before .before .digits-of .ensures))
 
 pub corner-point-spec : {M : Type 1} → statement M
 corner-point-spec =

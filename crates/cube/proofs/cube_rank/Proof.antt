@@ -13,8 +13,8 @@ returns c =
     let args = c .before .before .args in
     let faces-of = c .before .faces-of in
     let r = rank-half (args .d) (args .e) (faces-of .result) (faces-of .ensures) in
-    let l = rank-low (args .d) (args .e) (c .before .before .pre .0) in
-    (r, omega (arith, r, l))
+    let l = rank-low (args .d) (args .e) (c .before .before .pre .axes) in
+    record { rank = r; low = omega (arith, r, l) }
 
 pub cube-rank-spec : {M : Type 1} → statement M
 cube-rank-spec = tie.close (tie.spec faces-of-requires returns)

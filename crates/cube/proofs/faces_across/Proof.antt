@@ -13,10 +13,11 @@ mul-low : tie.Need-mul-low
 mul-low c = search needs
 
 sub-low : tie.Need-sub-low
-sub-low c = c .before .before .pre .2 (c .before .if1 .left)
+sub-low c = c .before .before .pre .spanned (c .before .if1 .left)
 
 sub-high : tie.Need-sub-high
-sub-high c = let h = c .before .before .pre .2 (c .before .if1 .left) in omega (arith, h)
+sub-high c =
+    let h = c .before .before .pre .spanned (c .before .if1 .left) in omega (arith, h)
 
 mul-list : tie.Need-mul-list
 mul-list c = search needs
@@ -37,7 +38,7 @@ add-t11 : tie.Need-add-t11
 add-t11 c = search needs
 
 returns-2 : tie.Need-returns-2
-returns-2 c = across-two _ _ _ _ (c .before .before .pre .0) (test-eq _ 2 (c .before .if1 .left))
+returns-2 c = across-two _ _ _ _ (c .before .before .pre .place) (test-eq _ 2 (c .before .if1 .left))
 
 pub faces-across-spec : {M : Type 1} → statement M
 faces-across-spec =

@@ -1,15 +1,23 @@
 -- The invariant: the faces across the axes from one on are gathered, the highest first.
 use mathlib.Core.Path.{_≡_}
-use Prim.Native.Nat.{_≤_}
+use mathlib.Core.List.{List}
+use Prim.Native.Nat.{ℕ, _≤_}
 use native.Mathlib.Omega.{arith}
 use lib.ListN.{length}
+use Rattle.cube.specs.declared.Faces.{Faces}
 use Rattle.cube.proofs.CubeRows.{Descending, descend-start, descend-ready, descend-next, descend-end}
 use borrow.Author.Needs.{needs}
 use Rattle.cube.proofs.faces_of.Statement.{statement}
 use Rattle.cube.proofs.faces_of.Tie as tie
 
+record Down (d e : ℕ) (ks : List ℕ) (f : Faces) (step axis : ℕ) : Type 0 where
+  left : axis ≤ d
+  axes : d ≤ 4
+  long : length ks ≡ 4
+  going : Descending d e ks f step axis
+
 abbrev Inv-loop : tie.InvT-loop
-Inv-loop d e ks f₀ step₀ axis₀ f step axis = (axis ≤ d) × (d ≤ 4) × (length ks ≡ 4) × Descending d e ks f step axis
+Inv-loop d e ks f₀ step₀ axis₀ f step axis = Down d e ks f step axis
 
 abbrev μ-loop : tie.MeasureT-loop
 μ-loop d e ks f₀ step₀ axis₀ f step axis = axis
@@ -22,7 +30,12 @@ cube-size-requires c κs = search needs
 
 loop-holds : tie.Need-loop-holds Inv-loop μ-loop
 loop-holds c =
-    (search needs, search needs, search needs, descend-start _ _ _ _ (c .before .before .pre .1) (c .before .digits-of .ensures) (c .cube-size .ensures .0))
+    record {
+      left = search needs;
+      axes = search needs;
+      long = search needs;
+      going = descend-start _ _ _ _ (c .before .before .pre .used) (c .before .digits-of .ensures) (c .cube-size .ensures .power);
+    }
 
 sub-axis : tie.Need-sub-axis Inv-loop μ-loop
 sub-axis c = search needs
@@ -34,18 +47,25 @@ array-read-faces-across : tie.Need-array-read-faces-across Inv-loop μ-loop
 array-read-faces-across c = search needs
 
 faces-across-requires : tie.Need-faces-across-requires Inv-loop μ-loop
-faces-across-requires c κs = descend-ready _ _ _ _ _ _ (c .before .loop .inv .1) (c .before .loop .inv .0) (omega arith) (c .before .loop .inv .3)
+faces-across-requires c κs =
+    let at = c .before .loop .inv in
+    descend-ready _ _ _ _ _ _ (at .axes) (at .left) (omega arith) (at .going)
 
 loop-less : tie.Need-loop-less Inv-loop μ-loop
 loop-less c = search needs
 
 loop-again : tie.Need-loop-again Inv-loop μ-loop
 loop-again c =
-    let at = c .before .before .loop in
-    (search needs, search needs, search needs, descend-next _ _ _ _ _ _ (at .inv .1) (at .inv .0) (omega arith) (at .inv .3) _ (c .faces-across .ensures))
+    let at = c .before .before .loop .inv in
+    record {
+      left = search needs;
+      axes = search needs;
+      long = search needs;
+      going = descend-next _ _ _ _ _ _ (at .axes) (at .left) (omega arith) (at .going) _ (c .faces-across .ensures);
+    }
 
 returns : tie.Need-returns Inv-loop μ-loop
-returns c = descend-end _ _ _ _ _ _ (omega arith) (c .before .loop .inv .3)
+returns c = descend-end _ _ _ _ _ _ (omega arith) (c .before .loop .inv .going)
 
 pub faces-of-spec : {M : Type 1} → statement M
 faces-of-spec =

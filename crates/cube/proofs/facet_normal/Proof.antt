@@ -1,8 +1,10 @@
--- The invariant: the axes so far are worked out, and the others are zeros.
+-- The invariant: the axes so far are worked out, whatever element the digits are of, and the others are zeros.
 use mathlib.Core.Path.{_≡_, refl}
-use Prim.Native.Nat.{_≤_, _-_}
+use mathlib.Core.List.{List}
+use Prim.Native.Nat.{ℕ, _≤_, _-_}
 use native.Mathlib.Omega.{arith}
 use lib.Ieee
+use lib.Ieee.{Float}
 use lib.ListN.{length}
 use Rattle.rules.specs.Lists.{pad}
 use Rattle.rules.specs.Cube.{digits, facetNormal}
@@ -12,18 +14,25 @@ use borrow.Author.Needs.{needs}
 use Rattle.cube.proofs.facet_normal.Statement.{statement}
 use Rattle.cube.proofs.facet_normal.Tie as tie
 
+record Worked (f : ℕ → Float) (d : ℕ) (ks : List ℕ) (p : List Float) (axis : ℕ) : Type 0 where
+  so-far : axis ≤ d
+  axes : d ≤ 4
+  digits-long : length ks ≡ 4
+  long : length p ≡ 4
+  done : (e : ℕ) → ks ≡ pad 0 4 (digits d e) → p ≡ worked f (digits d e) axis
+
 abbrev Inv-loop : tie.InvT-loop
-Inv-loop d e ks normal₀ axis₀ normal axis = (axis ≤ d) × (d ≤ 4) × (length ks ≡ 4) × (length normal ≡ 4) × (ks ≡ pad 0 4 (digits d e)) × (normal ≡ worked componentAt (digits d e) axis)
+Inv-loop d e ks p₀ axis₀ p axis = Worked componentAt d ks p axis
 
 abbrev μ-loop : tie.MeasureT-loop
-μ-loop d e ks normal₀ axis₀ normal axis = d - axis
+μ-loop d e ks p₀ axis₀ p axis = d - axis
 
 digits-of-requires : tie.Need-digits-of-requires Inv-loop μ-loop
 digits-of-requires c κs = search needs
 
 loop-holds : tie.Need-loop-holds Inv-loop μ-loop
 unfolding lib.Ieee.ofBits
-loop-holds c = (omega arith, search needs, search needs, search needs, c .digits-of .ensures, refl)
+loop-holds c = record { so-far = omega arith; axes = search needs; digits-long = search needs; long = search needs; done = λ e q. refl }
 
 mul-component-at : tie.Need-mul-component-at Inv-loop μ-loop
 mul-component-at c = search needs
@@ -48,15 +57,21 @@ loop-less c = search needs
 
 loop-again : tie.Need-loop-again Inv-loop μ-loop
 loop-again c =
-    let at = c .before .before .loop in
-    (search needs, search needs, search needs, search needs, at .inv .4, worked-next _ _ _ _ _ _ _ (at .inv .1) (omega arith) (at .inv .4) (at .inv .5) (c .component-at .ensures))
+    let at = c .before .before .loop .inv in
+    record {
+      so-far = search needs;
+      axes = search needs;
+      digits-long = search needs;
+      long = search needs;
+      done = λ e q. worked-next _ _ e _ _ _ _ (at .axes) (omega arith) q (at .done e q) (c .component-at .ensures);
+    }
 
 returns : tie.Need-returns Inv-loop μ-loop
 unfolding facetNormal
 returns c =
     let args = c .before .before .before .args in
     let at = c .before .loop in
-    worked-end componentAt (args .d) (args .e) (at .axis) _ (omega arith) (at .inv .5)
+    worked-end componentAt (args .d) (args .e) (at .axis) _ (omega arith) (at .inv .done (args .e) (c .before .before .digits-of .ensures))
 
 pub facet-normal-spec : {M : Type 1} → statement M
 facet-normal-spec =

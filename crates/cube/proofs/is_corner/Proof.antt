@@ -9,7 +9,7 @@ cube-rank-requires : tie.Need-cube-rank-requires
 cube-rank-requires c κs = search needs
 
 returns : tie.Need-returns
-returns c = ap (λ n. eqb n 0) (c .cube-rank .ensures .0)
+returns c = ap (λ n. eqb n 0) (c .cube-rank .ensures .rank)
 
 pub is-corner-spec : {M : Type 1} → statement M
 is-corner-spec = tie.close (tie.spec cube-rank-requires returns)

@@ -11,7 +11,7 @@ returns : tie.Need-returns
 returns c =
     let args = c .before .before .args in
     let cube-rank = c .before .cube-rank in
-    facet-no (args .d) (args .e) (cube-rank .result) (cube-rank .ensures .0) (c .if1 .taken)
+    facet-no (args .d) (args .e) (cube-rank .result) (cube-rank .ensures .rank) (c .if1 .taken)
 
 add-result : tie.Need-add-result
 add-result c = search needs
@@ -20,7 +20,7 @@ returns-2 : tie.Need-returns-2
 returns-2 c =
     let args = c .before .before .args in
     let cube-rank = c .before .cube-rank in
-    facet-is (args .d) (args .e) (cube-rank .result) (cube-rank .ensures .0) (c .if1 .left)
+    facet-is (args .d) (args .e) (cube-rank .result) (cube-rank .ensures .rank) (c .if1 .left)
 
 pub is-facet-spec : {M : Type 1} → statement M
 is-facet-spec = tie.close (tie.spec cube-rank-requires returns add-result returns-2)

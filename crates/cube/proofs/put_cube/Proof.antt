@@ -6,6 +6,22 @@ use borrow.Author.Needs.{needs}
 use Rattle.cube.proofs.put_cube.Statement.{statement}
 use Rattle.cube.proofs.put_cube.Tie as tie
 
+-- where the function began, and where each slice was put
+abbrev start : tie.After-put-points → tie.Start
+start c = c .before .before .before .before .before .before
+
+abbrev points : tie.After-put-planes → tie.After-put-points
+points c = c .before .before .before .before
+
+abbrev planes : tie.After-put-rows → tie.After-put-planes
+planes c = c .before .before .before .before
+
+abbrev rows : tie.After-cube-size → tie.After-put-rows
+rows c = c .before .before .before
+
+abbrev sized : tie.After-slice-known8 → tie.After-cube-size
+sized c = c .before .before .before .before
+
 put-points-requires : tie.Need-put-points-requires
 put-points-requires c κs = search needs
 
@@ -38,12 +54,14 @@ same-length-4 c = search needs
 
 returns : tie.Need-returns
 returns c =
-    let args = c .before .before .before .before .before .before .before .before .before .before .before .before .before .before .before .before .before .before .before .before .before .args in
-    let put-points = c .before .before .before .before .before .before .before .before .before .before .before .before .before .before .before .put-points in
-    let put-planes = c .before .before .before .before .before .before .before .before .before .before .before .put-planes in
-    let put-rows = c .before .before .before .before .before .before .before .put-rows in
-    let cube-size = c .before .before .before .before .cube-size in
-    cube-put _ _ _ _ _ _ (c .before .before .put-counts .ensures ∙ (λ i. args .d ∷ cube-size .ensures .0 i ∷ put-points .ensures .0 i ∷ put-planes .ensures .0 i ∷ [])) (put-points .ensures .1) (put-planes .ensures .1) (put-rows .ensures)
+    let size = sized c in
+    let third = rows size in
+    let second = planes third in
+    let first = points second in
+    let ps = first .put-points .ensures in
+    let hs = second .put-planes .ensures in
+    let counts = c .before .before .put-counts .ensures ∙ (λ i. start first .args .d ∷ size .cube-size .ensures .power i ∷ ps .count i ∷ hs .count i ∷ []) in
+    cube-put _ _ _ _ _ _ counts (ps .points) (hs .planes) (third .put-rows .ensures)
 
 pub put-cube-spec : {M : Type 1} → statement M
 put-cube-spec =

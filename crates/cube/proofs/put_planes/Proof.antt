@@ -12,22 +12,29 @@ use borrow.Author.Needs.{needs}
 use Rattle.cube.proofs.put_planes.Statement.{statement}
 use Rattle.cube.proofs.put_planes.Tie as tie
 
+-- where the function began, and where the room was cleared
+abbrev start : tie.After-clear-floats → tie.Start
+start c = c .before .before .before
+
+abbrev clear : tie.After-put-facets → tie.After-clear-floats
+clear c = c .before .before .before .before
+
 clear-floats-requires : tie.Need-clear-floats-requires
 clear-floats-requires c κs = search needs
 
 put-facets-requires : tie.Need-put-facets-requires
 put-facets-requires c κs =
-    let args = c .before .before .before .before .before .before .args in
-    let pre = c .before .before .before .before .before .before .pre in
-    (search needs, search needs, c .before .before .before .clear-floats .ensures ∙ cleared plusZero (planeRow desk) (args .planes .now) _ 320 refl (pre .1))
+    let k = c .before .before .before in
+    let s = start k in
+    record { room = record { axes = s .pre .axes; long = search needs }; clear = k .clear-floats .ensures ∙ cleared plusZero (planeRow desk) (s .args .planes .now) _ 320 refl (s .pre .long) }
 
 cast-result : tie.Need-cast-result
 cast-result c =
-    let args = c .before .before .before .before .before .before .before .before .before .args in
-    let pre = c .before .before .before .before .before .before .before .before .before .pre in
-    let k = chosen-few isFacet (args .d) (3 ^ args .d) in
-    let l = power-low (args .d) (pre .0) in
-    let q = c .before .before .put-facets .ensures .0 in
+    let put = c .before .before in
+    let s = start (clear put) in
+    let k = chosen-few isFacet (s .args .d) (3 ^ s .args .d) in
+    let l = power-low (s .args .d) (s .pre .axes) in
+    let q = put .put-facets .ensures .count in
     omega (arith, k, l, q)
 
 same-length : tie.Need-same-length
@@ -38,4 +45,10 @@ returns c = search needs
 
 pub put-planes-spec : {M : Type 1} → statement M
 put-planes-spec =
-    tie.close (tie.spec clear-floats-requires put-facets-requires cast-result same-length returns)
+    tie.close
+    (tie.spec
+    clear-floats-requires
+    put-facets-requires
+    cast-result
+    same-length
+    returns)

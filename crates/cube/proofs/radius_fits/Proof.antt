@@ -6,8 +6,6 @@ use lib.Ieee.{le}
 use borrow.Author.Tests.{not-true, not-false}
 use Rattle.rules.specs.Floats.{one, farthest}
 use Rattle.rules.specs.Cube.{radiusFits}
-use Rattle.rules.specs.Floats.{farthest}
-use mathlib.Core.Bool.{Bool, _&&_}
 use Rattle.cube.proofs.radius_fits.Statement.{statement}
 use Rattle.cube.proofs.radius_fits.Tie as tie
 

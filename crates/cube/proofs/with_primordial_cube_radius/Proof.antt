@@ -8,6 +8,16 @@ use borrow.Author.Needs.{needs}
 use Rattle.cube.proofs.with_primordial_cube_radius.Statement.{statement}
 use Rattle.cube.proofs.with_primordial_cube_radius.Tie as tie
 
+-- where the radius fitted, where the room did, and where the cube was put
+abbrev fitting : tie.After-right-size → tie.Else3
+fitting c = c .before .before .before .before .before
+
+abbrev right : tie.After-put-cube → tie.Else4
+right c = c .before .before .before .before .before
+
+abbrev put : tie.After-planes → tie.After-put-cube
+put c = c .before .before .before .before .before
+
 returns : tie.Need-returns
 returns c = too-few _ _ _ _ _ _ (c .if1 .taken)
 
@@ -37,15 +47,15 @@ same-length-4 c = search needs
 
 returns-4 : tie.Need-returns-4
 returns-4 c =
-    let radius-fits = c .before .before .before .before .before .before .before .radius-fits in
-    let if3 = c .before .before .before .before .before .before .if3 in
-    no-room _ _ _ _ _ _ (omega arith) (omega arith) (sym (radius-fits .ensures) ∙ not-false _ (if3 .left)) (sym (c .before .right-size .ensures) ∙ not-true _ (c .if4 .taken))
+    let size = c .before in
+    let r = fitting size in
+    no-room _ _ _ _ _ _ (omega arith) (omega arith) (sym (r .before .radius-fits .ensures) ∙ not-false _ (r .if3 .left)) (sym (size .right-size .ensures) ∙ not-true _ (c .if4 .taken))
 
 put-cube-requires : tie.Need-put-cube-requires
 put-cube-requires c κs =
-    let right-size = c .before .before .before .before .before .right-size in
-    let s = size-known _ _ _ _ (sym (right-size .ensures) ∙ not-false _ (c .before .before .before .before .if4 .left)) in
-    (omega arith, s .0, s .1, s .2, s .3)
+    let e = c .before .before .before .before in
+    let s = size-known _ _ _ _ (sym (e .before .right-size .ensures) ∙ not-false _ (e .if4 .left)) in
+    record { axes = omega arith; counts = s .0; points = s .1; planes = s .2; elements = s .3 }
 
 same-length-5 : tie.Need-same-length-5
 same-length-5 c = search needs
@@ -61,12 +71,11 @@ same-length-8 c = search needs
 
 returns-5 : tie.Need-returns-5
 returns-5 c =
-    let radius-fits = c .before .before .before .before .before .before .before .before .before .before .before .before .before .before .before .before .before .before .before .before .radius-fits in
-    let if3 = c .before .before .before .before .before .before .before .before .before .before .before .before .before .before .before .before .before .before .before .if3 in
-    let right-size = c .before .before .before .before .before .before .before .before .before .before .before .before .before .before .right-size in
-    let if4 = c .before .before .before .before .before .before .before .before .before .before .before .before .before .if4 in
-    let put-cube = c .before .before .before .before .before .before .before .before .put-cube in
-    cube-replied _ _ _ _ _ _ (omega arith) (omega arith) _ (put-cube .ensures .memory) (sym (radius-fits .ensures) ∙ not-false _ (if3 .left)) (sym (right-size .ensures) ∙ not-false _ (if4 .left))
+    let done = put (c .before .before .before) in
+    let e = right done in
+    let r = fitting (e .before) in
+    cube-replied _ _ _ _ _ _ (omega arith) (omega arith) _ (done .put-cube .ensures .memory)
+    (sym (r .before .radius-fits .ensures) ∙ not-false _ (r .if3 .left)) (sym (e .before .right-size .ensures) ∙ not-false _ (e .if4 .left))
 
 pub with-primordial-cube-radius-spec : {M : Type 1} → statement M
 with-primordial-cube-radius-spec =

@@ -1,14 +1,83 @@
--- 3, 4, 5, rule 1 and the rules from 2 on: each way the code goes is a case of the reply. `four`: a normal by value has four components.
-use mathlib.Core.Bool.{true}
-use mathlib.Core.Path.{sym, _∙_}
+-- 3, 4, 5, rule 1 and the rules from 2 on: each way the code goes is a case of the reply.
+use Prim.Native.Nat.{ℕ, _<_}
+use mathlib.Core.Bool.{Bool, true}
+use mathlib.Core.Path.{_≡_, sym, ap, _∙_}
+use native.Mathlib.Nat.{le-trans, le-of-eq}
 use native.Mathlib.Omega.{arith}
-use lib.ListN.{length-map}
+use lib.ListN.{length, length-map, getD}
+use Rattle.rules.specs.Limits.{desk}
+use Rattle.rules.specs.Memory.{soundMemory}
+use Rattle.rules.specs.Held.{memoryOf}
+use Rattle.hypermath.specs.Answers.{unitNormal}
 use Rattle.space.proofs.Indexing.{index-blank}
-use Rattle.cut.proofs.Replies.{unsound, counts-four, unused, not-unit, cut-ready, unfit, all-inside, all-outside, replied-as}
+use Rattle.cut.proofs.Replies.{TestsPassed, unsound, counts-four, unused, not-unit, cut-ready, unfit, all-inside, all-outside, replied}
 use borrow.Author.Tests.{not-true, not-false}
 use borrow.Author.Needs.{needs}
 use Rattle.cut.proofs.cut.Statement.{statement}
 use Rattle.cut.proofs.cut.Tie as tie
+
+-- where the function began, and where the memory was tested
+abbrev lent : tie.After-memory-indexed-arg → tie.Start
+lent c = c .before .before .before .before .before
+
+abbrev start : tie.After-index2 → tie.Start
+start c = lent (c .before .before .before .before .before .before)
+
+-- where the root's number was compared, and the normal tested
+abbrev sound : tie.After-struct-known → tie.Else1
+sound c = c .before .before .before
+
+abbrev used : tie.After-is-unit → tie.Else2
+used c = c .before .before .before .before
+
+-- where the distance is finite, and where the cut was made
+abbrev finite : tie.After-is-kept2 → tie.After-enum-told4
+finite c = c .before .before
+
+abbrev half-known : tie.After-index4 → tie.After-slice-known8
+half-known c = c .before .before .before .before .before
+
+abbrev made : tie.After-index4 → tie.After-cut-finite
+made c = half-known c .before .before .before .before
+
+-- a normal by value has four components
+four : (c : tie.Start) → length (c .args .divider .normal) ≡ 4
+four c = sym (length-map (c .args .divider .normal) _) ∙ c .good .1 .1 .1 .1 .0 .1 .1 .0 .1 .0 .1
+
+-- what the tests have told
+module _ (c : tie.Start) where
+  abbrev isSound : Bool
+  isSound = soundMemory desk (memoryOf (c .args .counts .now) (c .args .points .now) (c .args .planes .now) (c .args .elements .now))
+
+  abbrev inUse : ℕ
+  inUse = getD (c .args .counts .now) 1 0
+
+  abbrev isUnit : Bool
+  isUnit = unitNormal (getD (c .args .counts .now) 0 0) (c .args .divider .normal)
+
+  abbrev Passed : Type 0
+  Passed = TestsPassed (c .args .divider) (c .args .root .0) (c .args .counts .now) (c .args .points .now) (c .args .planes .now) (c .args .elements .now)
+
+sound-told : (c : tie.After-index2) → c .before .memory-indexed .result ≡ isSound (start c)
+sound-told c = c .before .memory-indexed .ensures .told
+
+count-told : (c : tie.After-struct-known) → c .before .wide .result ≡ inUse (start (sound c .before))
+count-told c = c .before .wide .ensures .0
+
+unit-told : (c : tie.After-is-unit) → isUnit (start (sound (used c .before) .before)) ≡ c .is-unit .result
+unit-told c = ap (λ k. unitNormal k (start (sound (used c .before) .before) .args .divider .normal)) (sym (c .before .wide2 .ensures .0)) ∙ sym (c .is-unit .ensures)
+
+is-sound : (c : tie.Else1) → isSound (start (c .before)) ≡ true
+is-sound c = sym (sound-told (c .before)) ∙ not-false _ (c .if1 .left)
+
+is-used : (c : tie.Else2) → start (sound (c .before) .before) .args .root .0 < inUse (start (sound (c .before) .before))
+is-used c = le-trans (c .if2 .left) (le-of-eq (count-told (c .before)))
+
+passed : (c : tie.Else3) → Passed (start (sound (used (c .before) .before) .before))
+passed c =
+    let u = used (c .before) in
+    let s = sound (u .before) in
+    record { long = four (start (s .before)); sound = is-sound s; used = is-used u; isUnit = unit-told (c .before) ∙ not-false _ (c .if3 .left) }
 
 slice-aggregate-memory-indexed : tie.Need-slice-aggregate-memory-indexed
 slice-aggregate-memory-indexed c = search needs
@@ -29,14 +98,10 @@ same-length-4 : tie.Need-same-length-4
 same-length-4 c = search needs
 
 returns : tie.Need-returns
-returns c =
-    let four = sym (length-map (c .before .before .before .before .before .before .before .before .before .before .before .before .args .divider .normal) _) ∙ c .before .before .before .before .before .before .before .before .before .before .before .before .good .1 .1 .1 .1 .0 .1 .1 .0 .1 .0 .1 in
-    unsound (c .before .before .before .before .before .before .before .before .before .before .before .before .args .divider) _ _ _ _ _ _ _ four (sym (c .before .before .memory-indexed .ensures .0) ∙ not-true _ (c .if1 .taken))
+returns c = unsound (start (c .before) .args .divider) _ _ _ _ _ _ _ (sym (sound-told (c .before)) ∙ not-true _ (c .if1 .taken))
 
 slice-read-wide : tie.Need-slice-read-wide
-slice-read-wide c =
-    let four = sym (length-map (c .before .before .before .before .before .before .before .before .before .before .before .before .before .args .divider .normal) _) ∙ c .before .before .before .before .before .before .before .before .before .before .before .before .before .good .1 .1 .1 .1 .0 .1 .1 .0 .1 .0 .1 in
-    omega (arith, counts-four (c .before .before .before .before .before .before .before .before .before .before .before .before .before .args .divider) true true 0 _ _ _ _ four (sym (c .before .before .before .memory-indexed .ensures .0) ∙ not-false _ (c .before .if1 .left)))
+slice-read-wide c = omega (arith, counts-four _ _ _ _ (is-sound (c .before)))
 
 wide-requires : tie.Need-wide-requires
 wide-requires c κs = search needs
@@ -55,13 +120,11 @@ same-length-8 c = search needs
 
 returns-2 : tie.Need-returns-2
 returns-2 c =
-    let four = sym (length-map (c .before .before .before .before .before .before .before .before .before .before .before .before .before .before .before .before .args .divider .normal) _) ∙ c .before .before .before .before .before .before .before .before .before .before .before .before .before .before .before .before .good .1 .1 .1 .1 .0 .1 .1 .0 .1 .0 .1 in
-    unused (c .before .before .before .before .before .before .before .before .before .before .before .before .before .before .before .before .args .divider) _ _ _ _ _ _ _ four (sym (c .before .before .before .before .before .before .memory-indexed .ensures .0) ∙ not-false _ (c .before .before .before .before .if1 .left)) _ (c .before .before .wide .ensures .0) (c .if2 .taken)
+    let s = sound (c .before) in
+    unused (start (s .before) .args .divider) _ _ _ _ _ _ _ (is-sound s) (le-trans (le-of-eq (sym (count-told (c .before)))) (c .if2 .taken))
 
 slice-read-wide-2 : tie.Need-slice-read-wide-2
-slice-read-wide-2 c =
-    let four = sym (length-map (c .before .before .before .before .before .before .before .before .before .before .before .before .before .before .before .before .before .before .args .divider .normal) _) ∙ c .before .before .before .before .before .before .before .before .before .before .before .before .before .before .before .before .before .before .good .1 .1 .1 .1 .0 .1 .1 .0 .1 .0 .1 in
-    omega (arith, counts-four (c .before .before .before .before .before .before .before .before .before .before .before .before .before .before .before .before .before .before .args .divider) true true 0 _ _ _ _ four (sym (c .before .before .before .before .before .before .before .before .memory-indexed .ensures .0) ∙ not-false _ (c .before .before .before .before .before .before .if1 .left)))
+slice-read-wide-2 c = omega (arith, counts-four _ _ _ _ (is-sound (sound (c .before .before .before))))
 
 wide-requires-2 : tie.Need-wide-requires-2
 wide-requires-2 c κs = search needs
@@ -83,8 +146,10 @@ same-length-12 c = search needs
 
 returns-3 : tie.Need-returns-3
 returns-3 c =
-    let four = sym (length-map (c .before .before .before .before .before .before .before .before .before .before .before .before .before .before .before .before .before .before .before .before .before .args .divider .normal) _) ∙ c .before .before .before .before .before .before .before .before .before .before .before .before .before .before .before .before .before .before .before .before .before .good .1 .1 .1 .1 .0 .1 .1 .0 .1 .0 .1 in
-    not-unit (c .before .before .before .before .before .before .before .before .before .before .before .before .before .before .before .before .before .before .before .before .before .args .divider) _ _ _ _ _ _ _ four (sym (c .before .before .before .before .before .before .before .before .before .before .before .memory-indexed .ensures .0) ∙ not-false _ (c .before .before .before .before .before .before .before .before .before .if1 .left)) _ (c .before .before .before .before .before .before .before .wide .ensures .0) (c .before .before .before .before .before .if2 .left) _ (c .before .before .wide2 .ensures .0) (sym (c .before .is-unit .ensures) ∙ not-true _ (c .if3 .taken))
+    let u = used (c .before) in
+    let s = sound (u .before) in
+    let b = start (s .before) in
+    not-unit (b .args .divider) _ _ _ _ _ _ _ (is-sound s) (four b) (is-used u) (unit-told (c .before) ∙ not-true _ (c .if3 .taken))
 
 distance-kind-requires : tie.Need-distance-kind-requires
 distance-kind-requires c κs = search needs
@@ -112,8 +177,10 @@ slice-aggregate-cut-finite c = search needs
 
 cut-finite-requires : tie.Need-cut-finite-requires
 cut-finite-requires c κs =
-    let four = sym (length-map (c .before .before .before .before .before .before .before .before .before .before .before .before .before .before .before .before .before .before .before .before .before .before .before .before .before .before .before .before .before .before .before .args .divider .normal) _) ∙ c .before .before .before .before .before .before .before .before .before .before .before .before .before .before .before .before .before .before .before .before .before .before .before .before .before .before .before .before .before .before .before .good .1 .1 .1 .1 .0 .1 .1 .0 .1 .0 .1 in
-    (cut-ready (c .before .before .before .before .before .before .before .before .before .before .before .before .before .before .before .before .before .before .before .before .before .before .before .before .before .before .before .before .before .before .before .args .divider) true true _ _ _ _ _ four (sym (c .before .before .before .before .before .before .before .before .before .before .before .before .before .before .before .before .before .before .before .before .before .memory-indexed .ensures .0) ∙ not-false _ (c .before .before .before .before .before .before .before .before .before .before .before .before .before .before .before .before .before .before .before .if1 .left)) _ (c .before .before .before .before .before .before .before .before .before .before .before .before .before .before .before .before .before .wide .ensures .0) (c .before .before .before .before .before .before .before .before .before .before .before .before .before .before .before .if2 .left) _ (c .before .before .before .before .before .before .before .before .before .before .before .before .wide2 .ensures .0) (sym (c .before .before .before .before .before .before .before .before .before .before .before .is-unit .ensures) ∙ not-false _ (c .before .before .before .before .before .before .before .before .before .before .if3 .left)) (sym (c .before .before .before .before .before .before .before .before .before .distance-kind .ensures) ∙ c .before .before .before .before .before .before .before .enum-told4 .given .1), c .before .before .before .before .before .before .before .before .before .before .before .before .before .before .before .before .before .before .before .before .before .memory-indexed .ensures .1 (not-false _ (c .before .before .before .before .before .before .before .before .before .before .before .before .before .before .before .before .before .before .before .if1 .left)))
+    let f = finite (c .before .before .before .before .before) in
+    let k = f .before .before in
+    let s = sound (used (k .before .before) .before) in
+    cut-ready (passed (k .before)) (sym (k .distance-kind .ensures) ∙ f .enum-told4 .given .1) (s .before .before .memory-indexed .ensures .indexed (not-false _ (s .if1 .left)))
 
 same-length-13 : tie.Need-same-length-13
 same-length-13 c = search needs
@@ -129,8 +196,8 @@ same-length-16 c = search needs
 
 returns-4 : tie.Need-returns-4
 returns-4 c =
-    let four = sym (length-map (c .before .before .before .before .before .before .before .before .before .before .before .before .before .before .before .before .before .before .before .before .before .before .before .before .args .divider .normal) _) ∙ c .before .before .before .before .before .before .before .before .before .before .before .before .before .before .before .before .before .before .before .before .before .before .before .before .good .1 .1 .1 .1 .0 .1 .1 .0 .1 .0 .1 in
-    unfit (c .before .before .before .before .before .before .before .before .before .before .before .before .before .before .before .before .before .before .before .before .before .before .before .before .args .divider) _ _ _ _ _ _ _ four (sym (c .before .before .before .before .before .before .before .before .before .before .before .before .before .before .memory-indexed .ensures .0) ∙ not-false _ (c .before .before .before .before .before .before .before .before .before .before .before .before .if1 .left)) _ (c .before .before .before .before .before .before .before .before .before .before .wide .ensures .0) (c .before .before .before .before .before .before .before .before .if2 .left) _ (c .before .before .before .before .before .wide2 .ensures .0) (sym (c .before .before .before .before .is-unit .ensures) ∙ not-false _ (c .before .before .before .if3 .left)) (sym (c .before .before .distance-kind .ensures) ∙ c .enum-told .given .1)
+    let k = c .before .before in
+    unfit (passed (k .before)) _ _ (sym (k .distance-kind .ensures) ∙ c .enum-told .given .1)
 
 same-length-17 : tie.Need-same-length-17
 same-length-17 c = search needs
@@ -146,8 +213,8 @@ same-length-20 c = search needs
 
 returns-5 : tie.Need-returns-5
 returns-5 c =
-    let four = sym (length-map (c .before .before .before .before .before .before .before .before .before .before .before .before .before .before .before .before .before .before .before .before .before .before .before .before .args .divider .normal) _) ∙ c .before .before .before .before .before .before .before .before .before .before .before .before .before .before .before .before .before .before .before .before .before .before .before .before .good .1 .1 .1 .1 .0 .1 .1 .0 .1 .0 .1 in
-    all-inside (c .before .before .before .before .before .before .before .before .before .before .before .before .before .before .before .before .before .before .before .before .before .before .before .before .args .divider) _ _ _ _ _ _ _ four (sym (c .before .before .before .before .before .before .before .before .before .before .before .before .before .before .memory-indexed .ensures .0) ∙ not-false _ (c .before .before .before .before .before .before .before .before .before .before .before .before .if1 .left)) _ (c .before .before .before .before .before .before .before .before .before .before .wide .ensures .0) (c .before .before .before .before .before .before .before .before .if2 .left) _ (c .before .before .before .before .before .wide2 .ensures .0) (sym (c .before .before .before .before .is-unit .ensures) ∙ not-false _ (c .before .before .before .if3 .left)) (sym (c .before .before .distance-kind .ensures) ∙ c .enum-told2 .given .1)
+    let k = c .before .before in
+    all-inside (passed (k .before)) _ _ (sym (k .distance-kind .ensures) ∙ c .enum-told2 .given .1)
 
 same-length-21 : tie.Need-same-length-21
 same-length-21 c = search needs
@@ -163,8 +230,8 @@ same-length-24 c = search needs
 
 returns-6 : tie.Need-returns-6
 returns-6 c =
-    let four = sym (length-map (c .before .before .before .before .before .before .before .before .before .before .before .before .before .before .before .before .before .before .before .before .before .before .before .before .args .divider .normal) _) ∙ c .before .before .before .before .before .before .before .before .before .before .before .before .before .before .before .before .before .before .before .before .before .before .before .before .good .1 .1 .1 .1 .0 .1 .1 .0 .1 .0 .1 in
-    all-outside (c .before .before .before .before .before .before .before .before .before .before .before .before .before .before .before .before .before .before .before .before .before .before .before .before .args .divider) _ _ _ _ _ _ _ four (sym (c .before .before .before .before .before .before .before .before .before .before .before .before .before .before .memory-indexed .ensures .0) ∙ not-false _ (c .before .before .before .before .before .before .before .before .before .before .before .before .if1 .left)) _ (c .before .before .before .before .before .before .before .before .before .before .wide .ensures .0) (c .before .before .before .before .before .before .before .before .if2 .left) _ (c .before .before .before .before .before .wide2 .ensures .0) (sym (c .before .before .before .before .is-unit .ensures) ∙ not-false _ (c .before .before .before .if3 .left)) (sym (c .before .before .distance-kind .ensures) ∙ c .enum-told3 .given .1)
+    let k = c .before .before in
+    all-outside (passed (k .before)) _ _ (sym (k .distance-kind .ensures) ∙ c .enum-told3 .given .1)
 
 same-length-25 : tie.Need-same-length-25
 same-length-25 c = search needs
@@ -180,8 +247,11 @@ same-length-28 c = search needs
 
 returns-7 : tie.Need-returns-7
 returns-7 c =
-    let four = sym (length-map (c .before .before .before .before .before .before .before .before .before .before .before .before .before .before .before .before .before .before .before .before .before .before .before .before .before .before .before .before .before .before .before .before .before .before .before .before .before .before .before .before .before .args .divider .normal) _) ∙ c .before .before .before .before .before .before .before .before .before .before .before .before .before .before .before .before .before .before .before .before .before .before .before .before .before .before .before .before .before .before .before .before .before .before .before .before .before .before .before .before .before .good .1 .1 .1 .1 .0 .1 .1 .0 .1 .0 .1 in
-    replied-as (c .before .before .before .before .before .before .before .before .before .before .before .before .before .before .before .before .before .before .before .before .before .before .before .before .before .before .before .before .before .before .before .before .before .before .before .before .before .before .before .before .before .args .divider) _ _ _ _ _ _ _ four (sym (c .before .before .before .before .before .before .before .before .before .before .before .before .before .before .before .before .before .before .before .before .before .before .before .before .before .before .before .before .before .before .before .memory-indexed .ensures .0) ∙ not-false _ (c .before .before .before .before .before .before .before .before .before .before .before .before .before .before .before .before .before .before .before .before .before .before .before .before .before .before .before .before .before .if1 .left)) _ (c .before .before .before .before .before .before .before .before .before .before .before .before .before .before .before .before .before .before .before .before .before .before .before .before .before .before .before .wide .ensures .0) (c .before .before .before .before .before .before .before .before .before .before .before .before .before .before .before .before .before .before .before .before .before .before .before .before .before .if2 .left) _ (c .before .before .before .before .before .before .before .before .before .before .before .before .before .before .before .before .before .before .before .before .before .before .wide2 .ensures .0) (sym (c .before .before .before .before .before .before .before .before .before .before .before .before .before .before .before .before .before .before .before .before .before .is-unit .ensures) ∙ not-false _ (c .before .before .before .before .before .before .before .before .before .before .before .before .before .before .before .before .before .before .before .before .if3 .left)) (sym (c .before .before .before .before .before .before .before .before .before .before .before .before .before .before .before .before .before .before .before .distance-kind .ensures) ∙ c .before .before .before .before .before .before .before .before .before .before .before .before .before .before .before .before .before .enum-told4 .given .1) (c .before .before .before .before .before .before .before .before .before .before .before .before .before .before .before .before .is-kept .ensures) (c .before .before .before .before .before .before .before .before .before .before .before .before .before .before .before .is-kept2 .ensures) (c .before .before .before .before .before .before .before .before .before .cut-finite .ensures)
+    let m = made c in
+    let i = m .before .before .before .before .before .before in
+    let f = finite i in
+    let k = f .before .before in
+    replied (passed (k .before)) (sym (k .distance-kind .ensures) ∙ f .enum-told4 .given .1) (i .before .is-kept .ensures) (i .is-kept2 .ensures) (m .cut-finite .ensures)
 
 pub cut-spec : {M : Type 1} → statement M
 cut-spec =

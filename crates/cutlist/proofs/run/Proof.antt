@@ -8,7 +8,8 @@ use Rattle.cutlist.proofs.run.Tie as tie
 
 abbrev Inv-loop : tie.InvT-loop
 Inv-loop input₀ output₀ counts₀ points₀ planes₀ elements₀ at₀ turns₀ input output counts points planes elements at turns =
-    InBlock at (length input) × (at .line ≡ 0) × (length input ≡ length input₀) × (length output ≡ length output₀) × (length counts ≡ length counts₀) × (length points ≡ length points₀) × (length planes ≡ length planes₀) × (length elements ≡ length elements₀)
+    InBlock at (length input) × (at .line ≡ 0) × (length input ≡ length input₀) × (length output ≡ length output₀)
+    × (length counts ≡ length counts₀) × (length points ≡ length points₀) × (length planes ≡ length planes₀) × (length elements ≡ length elements₀)
 
 abbrev μ-loop : tie.MeasureT-loop
 μ-loop input₀ output₀ counts₀ points₀ planes₀ elements₀ at₀ turns₀ input output counts points planes elements at turns = turns

@@ -5,6 +5,16 @@ use borrow.Author.Needs.{needs}
 use Rattle.desk.proofs.desk_cut.Statement.{statement}
 use Rattle.desk.proofs.desk_cut.Tie as tie
 
+-- from where the slices are back to where the cut was made, and from there to where its sides were told
+abbrev halfway : tie.After-slice-known8 → tie.After-points
+halfway c = c .before .before .before .before .before
+
+abbrev made : tie.After-slice-known8 → tie.After-cut
+made c = halfway c .before .before .before
+
+abbrev told : tie.After-cut → tie.After-fate2
+told c = c .before .before .before .before .before
+
 fate-requires : tie.Need-fate-requires
 fate-requires c κs = search needs
 
@@ -24,7 +34,7 @@ enum-known-reply-2 : tie.Need-enum-known-reply-2
 enum-known-reply-2 c = search needs
 
 output-word-requires : tie.Need-output-word-requires
-output-word-requires c κs = names-low _ _ _ _ _ _ (c .before .before .before .before .before .before .before .before .before .before .before .cut .ensures) _ (c .before .reply2 .given .1)
+output-word-requires c κs = names-low _ _ _ _ _ _ (made (c .before .before .before) .cut .ensures) _ (c .before .reply2 .given .1)
 
 same-length : tie.Need-same-length
 same-length c = search needs
@@ -39,7 +49,10 @@ same-length-4 : tie.Need-same-length-4
 same-length-4 c = search needs
 
 returns : tie.Need-returns
-returns c = word-refused _ _ _ _ _ _ (c .before .before .before .before .before .before .before .before .before .before .before .cut .ensures) (c .before .before .before .before .before .before .before .before .before .before .before .before .before .before .before .before .before .fate .ensures) (c .before .before .before .before .before .before .before .before .before .before .before .before .before .before .before .before .fate2 .ensures) _ (c .before .reply .given .1)
+returns c =
+    let cut = made (c .before .before .before) in
+    let sides = told cut in
+    word-refused _ _ _ _ _ _ (cut .cut .ensures) (sides .before .fate .ensures) (sides .fate2 .ensures) _ (c .before .reply .given .1)
 
 same-length-5 : tie.Need-same-length-5
 same-length-5 c = search needs
@@ -54,7 +67,11 @@ same-length-8 : tie.Need-same-length-8
 same-length-8 c = search needs
 
 returns-2 : tie.Need-returns-2
-returns-2 c = word-answered _ _ _ _ _ _ (c .before .before .before .before .before .before .before .before .before .before .before .before .cut .ensures) (c .before .before .before .before .before .before .before .before .before .before .before .before .before .before .before .before .before .before .fate .ensures) (c .before .before .before .before .before .before .before .before .before .before .before .before .before .before .before .before .before .fate2 .ensures) _ _ (c .before .before .reply2 .given .1) (c .output-word .ensures)
+returns-2 c =
+    let given = c .before .before in
+    let cut = made (given .before .before) in
+    let sides = told cut in
+    word-answered _ _ _ _ _ _ (cut .cut .ensures) (sides .before .fate .ensures) (sides .fate2 .ensures) _ _ (given .reply2 .given .1) (c .output-word .ensures)
 
 pub desk-cut-spec : {M : Type 1} → statement M
 desk-cut-spec =

@@ -1,7 +1,7 @@
--- The number, or the size above its eight bits, which fits since no list has more than 512 numbers.
+-- The number, or the size above its eight bits, which fits since no list has more numbers than there is room for elements.
 use mathlib.Core.Path.{sym, ap}
 use native.Mathlib.Omega.{arith}
-use Rattle.desk.specs.Words.{listNumber}
+use Rattle.desk.specs.Words.{sizeWord}
 use Rattle.desk.proofs.ListWords.{listed-low}
 use borrow.Author.Needs.{needs}
 use Rattle.desk.proofs.list_word.Statement.{statement}
@@ -27,10 +27,10 @@ mul-result c =
     omega (arith, l)
 
 returns : tie.Need-returns
-returns c = sym (ap listNumber (c .before .r .given .1))
+returns c = sym (ap sizeWord (c .before .r .given .1))
 
 returns-2 : tie.Need-returns-2
-returns-2 c = sym (ap listNumber (c .before .r2 .given .1))
+returns-2 c = sym (ap sizeWord (c .before .r2 .given .1))
 
 pub list-word-spec : {M : Type 1} → statement M
 list-word-spec =

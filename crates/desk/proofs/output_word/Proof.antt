@@ -19,13 +19,13 @@ enum-known-a : tie.Need-enum-known-a
 enum-known-a c = search needs
 
 element-word-requires : tie.Need-element-word-requires
-element-word-requires c κs = places-low _ _ _ _ (c .before .a .given .1) (c .before .before .before .pre) .0
+element-word-requires c κs = places-low _ _ _ _ (c .before .a .given .1) (c .before .before .before .pre) .inside
 
 element-word-requires-2 : tie.Need-element-word-requires-2
-element-word-requires-2 c κs = places-low _ _ _ _ (c .before .before .a .given .1) (c .before .before .before .before .pre) .1
+element-word-requires-2 c κs = places-low _ _ _ _ (c .before .before .a .given .1) (c .before .before .before .before .pre) .outside
 
 element-word-requires-3 : tie.Need-element-word-requires-3
-element-word-requires-3 c κs = places-low _ _ _ _ (c .before .before .before .a .given .1) (c .before .before .before .before .before .pre) .2
+element-word-requires-3 c κs = places-low _ _ _ _ (c .before .before .before .a .given .1) (c .before .before .before .before .before .pre) .intersection
 
 mul-result : tie.Need-mul-result
 mul-result c = search needs

@@ -5,11 +5,30 @@ use borrow.Author.Needs.{needs}
 use Rattle.ends.proofs.cut_crossed.Statement.{statement}
 use Rattle.ends.proofs.cut_crossed.Tie as tie
 
+-- where the function began, where the vertex was added and where it was placed, and where rule 6 was asked and answered
+abbrev began : tie.After-slice-known4 → tie.Start
+began c = c .before .before .before .before
+
+abbrev start : tie.After-add-vertex-arg4 → tie.Start
+start c = began (c .before .before .before .before)
+
+abbrev given-back : tie.After-slice-known8 → tie.After-slice-known5
+given-back c = c .before .before .before .before .before .before
+
+abbrev added : tie.After-slice-known8 → tie.After-add-vertex
+added c = given-back c .before .before
+
+abbrev placed : tie.After-struct-known → tie.After-placed2
+placed c = c .before .before
+
+abbrev asked : tie.After-rule6-arg6 → tie.After-struct-known
+asked c = c .before .before .before .before .before .before
+
+abbrev answered : tie.After-slice-known11 → tie.After-rule6
+answered c = c .before .before .before .before .before .before
+
 add-vertex-requires : tie.Need-add-vertex-requires
-add-vertex-requires c κs =
-    let start = c .before .before .before .before .before .before .before .before in
-    let asked = vertex-asked (start .pre .0) in
-    (asked .0, asked .1, asked .2, asked .3, asked .4, start .pre .1)
+add-vertex-requires c κs = vertex-asked (start c .pre)
 
 enum-known-placed : tie.Need-enum-known-placed
 enum-known-placed c = search needs
@@ -22,20 +41,19 @@ element-write-flush c = search needs
 
 cast-flush : tie.Need-cast-flush
 cast-flush c =
-    let placed = c .before .before in
-    let added = placed .before .before .before .before .before .before .before .before .before .before in
-    let start = added .before .before .before .before .before .before .before .before .before in
-    omega (arith, crossed-low (added .add-vertex .ensures .0) _ (placed .placed2 .given .1) (start .pre .0))
+    let p = placed c in
+    let a = added (p .before .before) in
+    omega (arith, crossed-low (a .add-vertex .ensures .0) _ (p .placed2 .given .1) (start (a .before) .pre .ready))
 
 element-write-flush-2 : tie.Need-element-write-flush-2
 element-write-flush-2 c = search needs
 
 rule6-requires : tie.Need-rule6-requires
 rule6-requires c κs =
-    let placed = c .before .before .before .before .before .before .before .before in
-    let added = placed .before .before .before .before .before .before .before .before .before .before in
-    let start = added .before .before .before .before .before .before .before .before .before in
-    (crossed-ready (added .add-vertex .ensures .0) _ (placed .placed2 .given .1) (crossed _ _ _ _ _ (start .pre .0 .fit .sized .flush)) (start .pre .0), added .add-vertex .ensures .1)
+    let p = placed (asked c) in
+    let a = added (p .before .before) in
+    let R = start (a .before) .pre .ready in
+    (crossed-ready (a .add-vertex .ensures .0) _ (p .placed2 .given .1) (crossed _ _ _ _ _ (R .fit .sized .flush)) R, a .add-vertex .ensures .1)
 
 same-length : tie.Need-same-length
 same-length c = search needs
@@ -51,8 +69,8 @@ same-length-4 c = search needs
 
 returns : tie.Need-returns
 returns c =
-    let added = c .before .before .before .before .before .before .before .before .before .before .before in
-    (crossed-refused (added .add-vertex .ensures .0) _ (c .before .placed .given .1), added .add-vertex .ensures .1)
+    let a = added (c .before .before .before) in
+    record { cut = crossed-refused (a .add-vertex .ensures .0) _ (c .before .placed .given .1); indexed = a .add-vertex .ensures .1 }
 
 same-length-5 : tie.Need-same-length-5
 same-length-5 c = search needs
@@ -68,13 +86,14 @@ same-length-8 c = search needs
 
 returns-2 : tie.Need-returns-2
 returns-2 c =
-    let answered = c .before .before .before .before .before .before in
-    let placed = answered .before .before .before .before .before .before .before .before .before in
-    let added = placed .before .before .before .before .before .before .before .before .before .before in
-    let start = added .before .before .before .before .before .before .before .before .before in (
-      crossed-done (added .add-vertex .ensures .0) _ (placed .placed2 .given .1) (crossed _ _ _ _ _ (start .pre .0 .fit .sized .flush)) (answered .rule6 .ensures .0),
-      answered .rule6 .ensures .1,
-    )
+    let r = answered c in
+    let p = placed (asked (r .before)) in
+    let a = added (p .before .before) in
+    let R = start (a .before) .pre .ready in
+    record {
+      cut = crossed-done (a .add-vertex .ensures .0) _ (p .placed2 .given .1) (crossed _ _ _ _ _ (R .fit .sized .flush)) (r .rule6 .ensures .0);
+      indexed = r .rule6 .ensures .1;
+    }
 
 pub cut-crossed-spec : {M : Type 1} → statement M
 cut-crossed-spec =

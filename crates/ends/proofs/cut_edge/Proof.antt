@@ -2,19 +2,65 @@
 use native.Mathlib.Omega.{arith}
 use Rattle.space.proofs.Slices.{slices}
 use Rattle.gathered.proofs.Gathering.{nothing-gathered}
-use Rattle.ends.proofs.Edges.{ends-ready, ends-low, missed-ready, missed-cut, crossing-ready, crossing-cut}
+use Rattle.ends.proofs.Edges.{ends-ready, ends-asked, missed-ready, missed-cut, crossing-ready, crossing-cut}
 use borrow.Author.Needs.{needs}
 use Rattle.ends.proofs.cut_edge.Statement.{statement}
 use Rattle.ends.proofs.cut_edge.Tie as tie
 
+-- where the function began, where the dimension was known, and where the ends were read, tested and gathered
+abbrev start : tie.After-wide → tie.Start
+start c = c .before .before .before .before .before .before
+
+abbrev counted : tie.After-read-ends → tie.After-wide
+counted c = c .before .before .before
+
+abbrev ends-read : tie.After-edge-test → tie.After-read-ends
+ends-read c = c .before .before .before .before .before .before
+
+abbrev tested : tie.After-x → tie.After-edge-test
+tested c = c .before .before .before .before
+
+-- of the ends that were gathered: where they were tested, and what was asked of the function
+abbrev ends-tested : tie.After-gather-ends → tie.After-edge-test
+ends-tested c = tested (c .before)
+
+abbrev asked-for : tie.After-gather-ends → tie.Start
+asked-for c = start (counted (ends-read (ends-tested c)))
+
+-- no crossing: where it was known, and where rule 6 had answered
+abbrev lent : tie.After-x2 → tie.After-rule6-arg
+lent c = c .before .before .before .before .before .before
+
+abbrev missed : tie.After-x2 → tie.After-enum-told
+missed c = lent c .before
+
+abbrev answered : tie.After-slice-known8 → tie.After-rule6
+answered c = c .before .before .before .before .before .before
+
+-- a crossing: where it was known, where its point was, and where it had been cut at
+abbrev lent-crossed : tie.After-x3 → tie.After-cut-crossed-arg2
+lent-crossed c = c .before .before .before .before .before .before
+
+abbrev pointed : tie.After-x3 → tie.After-crossing-point
+pointed c = lent-crossed c .before .before
+
+abbrev met : tie.After-crossing-point → tie.After-crossing
+met c = c .before .before
+
+abbrev given-back : tie.After-slice-known12 → tie.After-slice-known9
+given-back c = c .before .before .before .before .before .before
+
+abbrev crossed : tie.After-slice-known12 → tie.After-cut-crossed
+crossed c = given-back c .before .before
+
 slice-read-wide : tie.Need-slice-read-wide
-slice-read-wide c = omega (arith, slices (c .before .before .before .before .before .pre .0 .fit .holds) .counts)
+slice-read-wide c = omega (arith, slices (c .before .before .before .before .before .pre .ready .fit .holds) .counts)
 
 wide-requires : tie.Need-wide-requires
 wide-requires c κs = search needs
 
 read-ends-requires : tie.Need-read-ends-requires
-read-ends-requires c κs = ends-ready (c .before .before .before .before .before .before .before .before .pre .0)
+read-ends-requires c κs = ends-ready (start (c .before .before) .pre .ready)
 
 signed-distance-requires : tie.Need-signed-distance-requires
 signed-distance-requires c κs = search needs
@@ -22,26 +68,26 @@ signed-distance-requires c κs = search needs
 signed-distance-requires-2 : tie.Need-signed-distance-requires-2
 signed-distance-requires-2 c κs = search needs
 
+edge-test-requires : tie.Need-edge-test-requires
+edge-test-requires c κs = search needs
+
 gather-ends-requires : tie.Need-gather-ends-requires
 gather-ends-requires c κs =
-    let read = c .before .before .before .before .before .before .before .before .before in
-    let start = read .before .before .before .before .before .before .before .before .before in
-    let room = ends-low (ends-ready (start .pre .0)) (read .read-ends .ensures) in
-    (room .0, room .1, nothing-gathered)
-
-crossing-between-requires : tie.Need-crossing-between-requires
-crossing-between-requires c κs = search needs
+    let r = ends-read (tested c) in
+    ends-asked (ends-ready (start (counted r) .pre .ready)) (r .read-ends .ensures) nothing-gathered
 
 enum-told : tie.Need-enum-told
 enum-told c = search needs
 
 rule6-requires : tie.Need-rule6-requires
-rule6-requires c κs = (
-  missed-ready _ _ _ _ _ (c .before .before .before .before .before .before .before .before .before .before .before .before .before .before .before .before .before .before .before .before .before .before .before .wide .ensures .0) (c .before .before .before .before .before .before .before .before .before .before .before .before .before .before .before .before .before .before .before .before .read-ends .ensures)
-      (c .before .before .before .before .before .before .before .before .before .before .before .before .before .before .before .before .before .signed-distance .ensures) (c .before .before .before .before .before .before .before .before .before .before .before .before .before .before .before .signed-distance2 .ensures)
-      (c .before .before .before .before .before .before .before .before .before .before .gather-ends .ensures) (c .before .before .before .before .before .before .before .before .before .before .before .before .before .before .before .before .before .before .before .before .before .before .before .before .before .before .before .before .before .pre .0),
-  c .before .before .before .before .before .before .before .before .before .before .before .before .before .before .before .before .before .before .before .before .before .before .before .before .before .before .before .before .before .pre .1,
-)
+rule6-requires c κs =
+    let g = missed c .before .before in
+    let z = ends-tested g in
+    let r = ends-read z in (
+      missed-ready _ _ _ _ _ (counted r .wide .ensures .0) (r .read-ends .ensures) (z .before .before .signed-distance .ensures) (z .before .signed-distance2 .ensures)
+          (g .gather-ends .ensures) (asked-for g .pre .ready),
+      asked-for g .pre .indexed,
+    )
 
 enum-known-crossing : tie.Need-enum-known-crossing
 enum-known-crossing c = search needs
@@ -50,13 +96,16 @@ crossing-point-requires : tie.Need-crossing-point-requires
 crossing-point-requires c κs = search needs
 
 cut-crossed-requires : tie.Need-cut-crossed-requires
-cut-crossed-requires c κs = (
-  crossing-ready _ _ _ _ _ (c .before .before .before .before .before .before .before .before .before .before .before .before .before .before .before .before .before .before .before .before .before .before .before .before .before .before .wide .ensures .0) (c .before .before .before .before .before .before .before .before .before .before .before .before .before .before .before .before .before .before .before .before .before .before .before .read-ends .ensures)
-      (c .before .before .before .before .before .before .before .before .before .before .before .before .before .before .before .before .before .before .before .before .signed-distance .ensures) (c .before .before .before .before .before .before .before .before .before .before .before .before .before .before .before .before .before .before .signed-distance2 .ensures)
-      (c .before .before .before .before .before .before .before .before .before .before .before .before .before .gather-ends .ensures) _ _ (c .before .before .before .before .before .before .before .before .crossing-point .ensures)
-      (c .before .before .before .before .before .before .before .before .before .before .before .before .before .before .before .before .before .before .before .before .before .before .before .before .before .before .before .before .before .before .before .before .pre .0),
-  c .before .before .before .before .before .before .before .before .before .before .before .before .before .before .before .before .before .before .before .before .before .before .before .before .before .before .before .before .before .before .before .before .pre .1,
-)
+cut-crossed-requires c κs =
+    let x = pointed c in
+    let g = met x .before .before in
+    let z = ends-tested g in
+    let r = ends-read z in
+    record {
+      ready = crossing-ready _ _ _ _ _ (counted r .wide .ensures .0) (r .read-ends .ensures) (z .before .before .signed-distance .ensures) (z .before .signed-distance2 .ensures)
+          (g .gather-ends .ensures) _ _ (x .crossing-point .ensures) (asked-for g .pre .ready);
+      indexed = asked-for g .pre .indexed;
+    }
 
 same-length : tie.Need-same-length
 same-length c = search needs
@@ -71,13 +120,17 @@ same-length-4 : tie.Need-same-length-4
 same-length-4 c = search needs
 
 returns : tie.Need-returns
-returns c = (
-  missed-cut _ _ _ _ _ (c .before .before .before .before .before .before .before .before .before .before .before .before .before .before .before .before .before .before .before .before .before .before .before .before .before .before .before .before .before .before .wide .ensures .0) (c .before .before .before .before .before .before .before .before .before .before .before .before .before .before .before .before .before .before .before .before .before .before .before .before .before .before .before .read-ends .ensures)
-      (c .before .before .before .before .before .before .before .before .before .before .before .before .before .before .before .before .before .before .before .before .before .before .before .before .signed-distance .ensures) (c .before .before .before .before .before .before .before .before .before .before .before .before .before .before .before .before .before .before .before .before .before .before .signed-distance2 .ensures)
-      (c .before .before .before .before .before .before .before .before .before .before .before .before .before .before .before .before .before .gather-ends .ensures)
-      _ (c .before .before .before .before .before .before .before .before .before .before .before .before .before .before .before .before .crossing-between .ensures) (c .before .before .before .before .before .before .before .before .before .before .before .before .before .before .enum-told .given .1) (c .before .before .before .before .before .before .rule6 .ensures .0),
-  c .before .before .before .before .before .before .rule6 .ensures .1,
-)
+returns c =
+    let a = answered c in
+    let m = missed (a .before) in
+    let g = m .before .before in
+    let z = ends-tested g in
+    let r = ends-read z in
+    record {
+      cut = missed-cut _ _ _ _ _ (counted r .wide .ensures .0) (r .read-ends .ensures) (z .before .before .signed-distance .ensures) (z .before .signed-distance2 .ensures)
+          (g .gather-ends .ensures) _ (z .edge-test .ensures) (m .enum-told .given .1) (a .rule6 .ensures .0);
+      indexed = a .rule6 .ensures .1;
+    }
 
 same-length-5 : tie.Need-same-length-5
 same-length-5 c = search needs
@@ -92,13 +145,18 @@ same-length-8 : tie.Need-same-length-8
 same-length-8 c = search needs
 
 returns-2 : tie.Need-returns-2
-returns-2 c = (
-  crossing-cut _ _ _ _ _ (c .before .before .before .before .before .before .before .before .before .before .before .before .before .before .before .before .before .before .before .before .before .before .before .before .before .before .before .before .before .before .before .before .before .before .before .wide .ensures .0) (c .before .before .before .before .before .before .before .before .before .before .before .before .before .before .before .before .before .before .before .before .before .before .before .before .before .before .before .before .before .before .before .before .read-ends .ensures)
-      (c .before .before .before .before .before .before .before .before .before .before .before .before .before .before .before .before .before .before .before .before .before .before .before .before .before .before .before .before .before .signed-distance .ensures) (c .before .before .before .before .before .before .before .before .before .before .before .before .before .before .before .before .before .before .before .before .before .before .before .before .before .before .before .signed-distance2 .ensures)
-      (c .before .before .before .before .before .before .before .before .before .before .before .before .before .before .before .before .before .before .before .before .before .before .gather-ends .ensures) _ _ (c .before .before .before .before .before .before .before .before .before .before .before .before .before .before .before .before .before .crossing-point .ensures)
-      _ (c .before .before .before .before .before .before .before .before .before .before .before .before .before .before .before .before .before .before .before .before .before .crossing-between .ensures) (c .before .before .before .before .before .before .before .before .before .before .before .before .before .before .before .before .before .before .before .crossing .given .1) (c .before .before .before .before .before .before .before .before .cut-crossed .ensures .0),
-  c .before .before .before .before .before .before .before .before .cut-crossed .ensures .1,
-)
+returns-2 c =
+    let l = crossed c in
+    let x = pointed (l .before) in
+    let m = met x in
+    let g = m .before .before in
+    let z = ends-tested g in
+    let r = ends-read z in
+    record {
+      cut = crossing-cut _ _ _ _ _ (counted r .wide .ensures .0) (r .read-ends .ensures) (z .before .before .signed-distance .ensures) (z .before .signed-distance2 .ensures)
+          (g .gather-ends .ensures) _ _ (x .crossing-point .ensures) _ (z .edge-test .ensures) (m .crossing .given .1) (l .cut-crossed .ensures .cut);
+      indexed = l .cut-crossed .ensures .indexed;
+    }
 
 pub cut-edge-spec : {M : Type 1} → statement M
 cut-edge-spec =
@@ -109,8 +167,8 @@ cut-edge-spec =
     read-ends-requires
     signed-distance-requires
     signed-distance-requires-2
+    edge-test-requires
     gather-ends-requires
-    crossing-between-requires
     enum-told
     rule6-requires
     enum-known-crossing

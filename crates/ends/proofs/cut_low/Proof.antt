@@ -1,13 +1,29 @@
 -- Rank 0 is a vertex, and what is left is rank 1.
 use native.Mathlib.Omega.{arith}
-use Rattle.ends.proofs.Edges.{edge-done}
-use Rattle.ends.proofs.Vertices.{ready-at, corner-done}
+use Rattle.ends.proofs.Edges.{edge-left}
+use Rattle.ends.proofs.Vertices.{low-at, corner-left}
 use borrow.Author.Needs.{needs}
 use Rattle.ends.proofs.cut_low.Statement.{statement}
 use Rattle.ends.proofs.cut_low.Tie as tie
 
+-- where the function began, where a vertex and where an edge was to be cut, and where the edge was
+abbrev start : tie.After-slice-known4 → tie.Start
+start c = c .before .before .before .before
+
+abbrev corner-asked : tie.After-cut-corner-arg3 → tie.Then1
+corner-asked c = c .before .before .before
+
+abbrev edge-asked : tie.After-cut-edge-arg4 → tie.Else1
+edge-asked c = c .before .before .before .before
+
+abbrev given-back : tie.After-slice-known8 → tie.After-slice-known5
+given-back c = c .before .before .before .before .before .before
+
+abbrev edge-cut : tie.After-slice-known8 → tie.After-cut-edge
+edge-cut c = given-back c .before .before
+
 cut-corner-requires : tie.Need-cut-corner-requires
-cut-corner-requires c κs = ready-at 0 (c .before .before .before .if1 .taken) (c .before .before .before .before .before .before .before .before .pre .0)
+cut-corner-requires c κs = low-at 0 (corner-asked c .if1 .taken) (start (corner-asked c .before) .pre) .ready
 
 same-length : tie.Need-same-length
 same-length c = search needs
@@ -19,10 +35,13 @@ same-length-3 : tie.Need-same-length-3
 same-length-3 c = search needs
 
 returns : tie.Need-returns
-returns c = (corner-done (c .before .before .before .before .if1 .taken) (c .cut-corner .ensures), c .before .before .before .before .before .before .before .before .before .pre .2)
+returns c = corner-left (corner-asked (c .before) .if1 .taken) (c .cut-corner .ensures) (start (corner-asked (c .before) .before) .pre .indexed)
 
 cut-edge-requires : tie.Need-cut-edge-requires
-cut-edge-requires c κs = (ready-at 1 (omega (arith, c .before .before .before .before .if1 .left, c .before .before .before .before .before .before .before .before .before .pre .1)) (c .before .before .before .before .before .before .before .before .before .pre .0), c .before .before .before .before .before .before .before .before .before .pre .2)
+cut-edge-requires c κs =
+    let e = edge-asked c in
+    let p = start (e .before) .pre in
+    low-at 1 (omega (arith, e .if1 .left, p .low)) p
 
 same-length-4 : tie.Need-same-length-4
 same-length-4 c = search needs
@@ -37,7 +56,9 @@ same-length-7 : tie.Need-same-length-7
 same-length-7 c = search needs
 
 returns-2 : tie.Need-returns-2
-returns-2 c = (edge-done (omega (arith, c .before .before .before .before .before .before .before .before .before .before .before .before .before .if1 .left, c .before .before .before .before .before .before .before .before .before .before .before .before .before .before .before .before .before .before .pre .1)) (c .before .before .before .before .before .before .before .before .cut-edge .ensures .0), c .before .before .before .before .before .before .before .before .cut-edge .ensures .1)
+returns-2 c =
+    let e = edge-asked (edge-cut c .before) in
+    edge-left (omega (arith, e .if1 .left, start (e .before) .pre .low)) (edge-cut c .cut-edge .ensures)
 
 pub cut-low-spec : {M : Type 1} → statement M
 cut-low-spec =

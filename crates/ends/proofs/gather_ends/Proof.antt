@@ -5,27 +5,39 @@ use borrow.Author.Needs.{needs}
 use Rattle.ends.proofs.gather_ends.Statement.{statement}
 use Rattle.ends.proofs.gather_ends.Tie as tie
 
+-- where each end was answered
+abbrev first : tie.After-gather-in-arg4 → tie.After-corner-answer
+first c = c .before .before .before .before
+
+abbrev second : tie.After-gather-in-arg8 → tie.After-corner-answer2
+second c = c .before .before .before .before
+
 corner-answer-requires : tie.Need-corner-answer-requires
 corner-answer-requires c κs = search needs
 
 gather-in-requires : tie.Need-gather-in-requires
-gather-in-requires c κs = (sized-more 0 31 (lit≤ tt) (c .before .before .before .before .before .pre .2 .sized), c .before .before .before .before .before .pre .0, answer-room _ (c .before .before .before .before .before .args .sa) (c .before .before .before .before .before .pre .0) (c .before .before .before .before .corner-answer .ensures))
+gather-in-requires c κs =
+    let a = first c in
+    let s = a .before in
+    (sized-more 0 31 (lit≤ tt) (s .pre .nothing .sized), s .pre .first, answer-room _ (s .args .sa) (s .pre .first) (a .corner-answer .ensures))
 
 corner-answer-requires-2 : tie.Need-corner-answer-requires-2
 corner-answer-requires-2 c κs = search needs
 
 gather-in-requires-2 : tie.Need-gather-in-requires-2
-gather-in-requires-2 c κs = (
-  sized-more 1 31 (lit≤ tt) (c .before .before .before .before .before .gather-in .ensures .sized 0 (c .before .before .before .before .before .before .before .before .before .before .before .pre .2 .sized)),
-  c .before .before .before .before .before .before .before .before .before .before .before .pre .1,
-  answer-room _ (c .before .before .before .before .before .before .before .before .before .before .before .args .sb) (c .before .before .before .before .before .before .before .before .before .before .before .pre .1) (c .before .before .before .before .corner-answer2 .ensures),
-)
+gather-in-requires-2 c κs =
+    let b = second c in
+    let g = b .before in
+    let s = first (g .before) .before in
+    (sized-more 1 31 (lit≤ tt) (g .gather-in .ensures .sized 0 (s .pre .nothing .sized)), s .pre .second, answer-room _ (s .args .sb) (s .pre .second) (b .corner-answer2 .ensures))
 
 returns : tie.Need-returns
 returns c =
-    ends-gathered _ _ (c .before .before .before .before .before .before .before .before .before .before .before .before .args .sa) (c .before .before .before .before .before .before .before .before .before .before .before .before .args .sb) (c .before .before .before .before .before .before .before .before .before .before .before .before .pre .2)
-    (c .before .before .before .before .before .before .before .before .before .before .before .corner-answer .ensures) (c .before .before .before .before .before .before .gather-in .ensures)
-    (c .before .before .before .before .before .corner-answer2 .ensures) (c .gather-in2 .ensures)
+    let b = second (c .before) in
+    let g = b .before in
+    let a = first (g .before) in
+    let s = a .before in
+    ends-gathered _ _ (s .args .sa) (s .args .sb) (s .pre .nothing) (a .corner-answer .ensures) (g .gather-in .ensures) (b .corner-answer2 .ensures) (c .gather-in2 .ensures)
 
 pub gather-ends-spec : {M : Type 1} → statement M
 gather-ends-spec =

@@ -15,15 +15,15 @@ use Rattle.hypermath.proofs.find_hyperplane.Statement.{statement}
 use Rattle.hypermath.proofs.find_hyperplane.Tie as tie
 
 abbrev Inv-loop : tie.InvT-loop
-Inv-loop d planes first n h k₀ k = findFrom first (λ g. planeMatches g (dividerOf d h)) (drop first (planesIn d n planes)) ≡ soughtFrom (λ row. dividerOf d (hyperplaneOf row)) (λ g. planeMatches g (dividerOf d h)) (1 + axes) n planes k
+Inv-loop d planes n h k₀ k = findFrom k₀ (λ g. planeMatches g (dividerOf d h)) (drop k₀ (planesIn d n planes)) ≡ soughtFrom (λ row. dividerOf d (hyperplaneOf row)) (λ g. planeMatches g (dividerOf d h)) (1 + axes) n planes k
 
 abbrev μ-loop : tie.MeasureT-loop
-μ-loop d planes first n h k₀ k = n - k
+μ-loop d planes n h k₀ k = n - k
 
 loop-holds : tie.Need-loop-holds Inv-loop μ-loop
 loop-holds c =
     let t = c .before .args in
-    sought-start (λ row. dividerOf (t .d) (hyperplaneOf row)) (λ g. planeMatches g (dividerOf (t .d) (t .h))) (1 + axes) (t .n) (t .planes .now) (t .first)
+    sought-start (λ row. dividerOf (t .d) (hyperplaneOf row)) (λ g. planeMatches g (dividerOf (t .d) (t .h))) (1 + axes) (t .n) (t .planes .now) (t .first .0)
 
 hyperplane-at-requires : tie.Need-hyperplane-at-requires Inv-loop μ-loop
 hyperplane-at-requires c κs = search needs

@@ -1,22 +1,29 @@
 -- The components are copied one by one over zeros, and the distance stands behind them.
 use mathlib.Core.Path.{_≡_, refl}
-use Prim.Native.Nat.{_≤_, _-_, _+_, _*_}
+use Prim.Native.Nat.{ℕ, _≤_, _-_, _+_}
 use native.Mathlib.Omega.{arith}
+use mathlib.Core.List.{List}
 use lib.Ieee
+use lib.Ieee.{Float}
 use lib.ListN.{length, take, drop}
 use Rattle.hypermath.specs.Axes.{axes}
 use Rattle.hypermath.proofs.Filling.{copied}
 use Rattle.hypermath.proofs.Searches.{copy-row, row-is}
-use Rattle.hypermath.specs.Axes.{axes}
 use borrow.Author.Needs.{needs}
 use Rattle.hypermath.proofs.hyperplane_at.Statement.{statement}
 use Rattle.hypermath.proofs.hyperplane_at.Tie as tie
 
+-- the row that begins at a place, of which the components below the one at hand are copied
+record Copying (planes : List Float) (at : ℕ) (normal : List Float) (axis : ℕ) : Type 0 where
+  pub here : axis ≤ axes
+  pub long : length normal ≡ axes
+  pub so-far : normal ≡ copied (take (1 + axes) (drop at planes)) axes axis
+
 abbrev Inv-loop : tie.InvT-loop
-Inv-loop planes k at normal₀ axis₀ normal axis = (axis ≤ axes) × (at ≡ k * (1 + axes)) × (length normal ≡ axes) × (normal ≡ copied (take (1 + axes) (drop (k * (1 + axes)) planes)) axes axis)
+Inv-loop planes at normal₀ axis₀ normal axis = Copying planes at normal axis
 
 abbrev μ-loop : tie.MeasureT-loop
-μ-loop planes k at normal₀ axis₀ normal axis = axes - axis
+μ-loop planes at normal₀ axis₀ normal axis = axes - axis
 
 add-at : tie.Need-add-at Inv-loop μ-loop
 add-at c = search needs
@@ -26,7 +33,7 @@ mul-at c = search needs
 
 loop-holds : tie.Need-loop-holds Inv-loop μ-loop
 unfolding lib.Ieee.ofBits
-loop-holds c = (search needs, search needs, search needs, refl)
+loop-holds c = record { here = search needs; long = search needs; so-far = refl }
 
 add-normal : tie.Need-add-normal Inv-loop μ-loop
 add-normal c = search needs
@@ -52,8 +59,13 @@ loop-less c = search needs
 loop-again : tie.Need-loop-again Inv-loop μ-loop
 loop-again c =
     let at = c .before .before .loop in
-    let t = c .before .before .before .args in
-    (search needs, search needs, search needs, copy-row (1 + axes) (t .k) _ (t .planes .now) axes (at .axis) (omega arith) (c .before .before .before .pre) (at .inv .1) (at .inv .3) (c .before .loop-test .taken))
+    let f = c .before .before .before .before in
+    let t = f .args in
+    record {
+      here = search needs;
+      long = search needs;
+      so-far = copy-row (1 + axes) (t .k .0) _ (t .planes .now) axes (at .axis) (omega arith) (f .pre) refl (at .inv .so-far) (c .before .loop-test .taken);
+    }
 
 add-t6 : tie.Need-add-t6 Inv-loop μ-loop
 add-t6 c = search needs
@@ -67,8 +79,9 @@ shared-slice-read-t18 c = search needs
 returns : tie.Need-returns Inv-loop μ-loop
 returns c =
     let at = c .before .before .loop in
-    let t = c .before .before .before .args in
-    let r = row-is (1 + axes) (t .k) _ (t .planes .now) axes (at .axis) (omega arith) (c .before .before .before .pre) (at .inv .1) (at .inv .3) (omega arith) in
+    let f = c .before .before .before .before in
+    let t = f .args in
+    let r = row-is (1 + axes) (t .k .0) _ (t .planes .now) axes (at .axis) (omega arith) (f .pre) refl (at .inv .so-far) (omega arith) in
     λ i. record { normal = r .0 i; distance = r .1 i }
 
 pub hyperplane-at-spec : {M : Type 1} → statement M

@@ -24,7 +24,8 @@ unfolding lib.Ieee.ofBits lib.Ieee.sub lib.Ieee.add
 returns-2 c =
     let fits = sym (c .before .before .before .components-fit .ensures) ∙ not-false _ (c .before .before .if1 .left) in
     let low = ap (le (sub binary64 one tolerance)) (sym (c .before .dot .ensures)) in
-    unit-is (c .before .before .before .before .args .d) (c .before .before .before .before .args .normal) true false _ _ fits (low ∙ not-true _ (c .if2 .taken)) refl refl
+    let a = c .before .before .before .before .args in
+    unit-is (a .d) (a .normal) true false _ _ fits (low ∙ not-true _ (c .if2 .taken)) refl refl
 
 returns-3 : tie.Need-returns-3
 unfolding lib.Ieee.ofBits lib.Ieee.sub lib.Ieee.add
@@ -32,7 +33,8 @@ returns-3 c =
     let fits = sym (c .before .before .before .before .components-fit .ensures) ∙ not-false _ (c .before .before .before .if1 .left) in
     let low = ap (le (sub binary64 one tolerance)) (sym (c .before .before .dot .ensures)) in
     let high = ap (λ (s : Float). le s (add binary64 one tolerance)) (sym (c .before .before .dot .ensures)) in
-    unit-is (c .before .before .before .before .before .args .d) (c .before .before .before .before .before .args .normal) true true false _ fits (low ∙ not-false _ (c .before .if2 .left)) (high ∙ not-true _ (c .if3 .taken)) refl
+    let a = c .before .before .before .before .before .args in
+    unit-is (a .d) (a .normal) true true false _ fits (low ∙ not-false _ (c .before .if2 .left)) (high ∙ not-true _ (c .if3 .taken)) refl
 
 zero-past-requires : tie.Need-zero-past-requires
 zero-past-requires c κs = search needs
@@ -43,7 +45,8 @@ returns-4 c =
     let fits = sym (c .before .before .before .before .before .components-fit .ensures) ∙ not-false _ (c .before .before .before .before .if1 .left) in
     let low = ap (le (sub binary64 one tolerance)) (sym (c .before .before .before .dot .ensures)) in
     let high = ap (λ (s : Float). le s (add binary64 one tolerance)) (sym (c .before .before .before .dot .ensures)) in
-    c .zero-past .ensures ∙ unit-is (c .before .before .before .before .before .before .args .d) (c .before .before .before .before .before .before .args .normal) true true true _ fits (low ∙ not-false _ (c .before .before .if2 .left)) (high ∙ not-false _ (c .before .if3 .left)) refl
+    let a = c .before .before .before .before .before .before .args in
+    c .zero-past .ensures ∙ unit-is (a .d) (a .normal) true true true _ fits (low ∙ not-false _ (c .before .before .if2 .left)) (high ∙ not-false _ (c .before .if3 .left)) refl
 
 pub is-unit-spec : {M : Type 1} → statement M
 is-unit-spec =

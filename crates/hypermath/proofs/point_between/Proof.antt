@@ -1,6 +1,6 @@
 -- The invariant: the axes so far are worked out, and the others are zeros.
 use mathlib.Core.Path.{_≡_, refl, ap, ap₂, _∙_}
-use Prim.Native.Nat.{_≤_, _-_}
+use Prim.Native.Nat.{ℕ, _≤_, _-_}
 use native.Mathlib.Omega.{arith}
 use lib.Ieee
 use mathlib.Core.List.{List}
@@ -14,8 +14,17 @@ use borrow.Author.Needs.{needs}
 use Rattle.hypermath.proofs.point_between.Statement.{statement}
 use Rattle.hypermath.proofs.point_between.Tie as tie
 
+-- the axes of the dimension, of which those below the one at hand are worked out
+record Filling (t : Float) (a b : List Float) (n : ℕ) (out : List Float) (axis : ℕ) : Type 0 where
+  pub here : axis ≤ n
+  pub few : n ≤ axes
+  pub a-long : length a ≡ axes
+  pub b-long : length b ≡ axes
+  pub out-long : length out ≡ axes
+  pub filled : out ≡ begun t a b axes axis
+
 abbrev Inv-loop : tie.InvT-loop
-Inv-loop d t a b n out₀ axis₀ out axis = (axis ≤ n) × (n ≤ axes) × (length a ≡ axes) × (length b ≡ axes) × (length out ≡ axes) × (out ≡ begun t a b axes axis)
+Inv-loop d t a b n out₀ axis₀ out axis = Filling t a b n out axis
 
 abbrev μ-loop : tie.MeasureT-loop
 μ-loop d t a b n out₀ axis₀ out axis = n - axis
@@ -25,7 +34,7 @@ axes-of-requires c κs = search needs
 
 loop-holds : tie.Need-loop-holds Inv-loop μ-loop
 unfolding lib.Ieee.ofBits crossingPoint
-loop-holds c = (search needs, c .axes-of .ensures .few, search needs, search needs, search needs, refl)
+loop-holds c = record { here = search needs; few = c .axes-of .ensures .few; a-long = search needs; b-long = search needs; out-long = search needs; filled = refl }
 
 mul-x : tie.Need-mul-x Inv-loop μ-loop
 mul-x c = search needs
@@ -57,16 +66,16 @@ loop-less c = search needs
 loop-again : tie.Need-loop-again Inv-loop μ-loop
 loop-again c =
     let at = c .before .before .loop in
-    let more = begun-go _ _ _ axes (at .axis) _ (at .inv .5) (omega arith) (omega (arith, at .inv .2)) (omega (arith, at .inv .3)) (c .clamp .ensures .is) in
-    (search needs, search needs, search needs, search needs, search needs, more)
+    let more = begun-go _ _ _ axes (at .axis) _ (at .inv .filled) (omega arith) (omega (arith, at .inv .a-long)) (omega (arith, at .inv .b-long)) (c .clamp .ensures .is) in
+    record { here = search needs; few = search needs; a-long = search needs; b-long = search needs; out-long = search needs; filled = more }
 
 returns : tie.Need-returns Inv-loop μ-loop
 returns c =
     let at = c .before .loop in
     let whole : c .before .loop .axis ≡ c .before .before .axes-of .result = omega arith in
     let front = c .before .before .axes-of .ensures .front in
-    at .inv .5 ∙ ap (begun _ _ _ axes) whole
-    ∙ ap₂ (λ (x y : List Float). pad plusZero axes (crossingPoint (c .before .before .before .args .t) x y)) (front _ (at .inv .2)) (front _ (at .inv .3))
+    at .inv .filled ∙ ap (begun _ _ _ axes) whole
+    ∙ ap₂ (λ (x y : List Float). pad plusZero axes (crossingPoint (c .before .before .before .args .t) x y)) (front _ (at .inv .a-long)) (front _ (at .inv .b-long))
 
 pub point-between-spec : {M : Type 1} → statement M
 point-between-spec =

@@ -1,9 +1,11 @@
 -- Two invariants: the search is asked from the vertex at hand on, and its comparison from the axis at hand on.
 use mathlib.Core.Path.{_≡_, refl, sym, _∙_}
-use Prim.Native.Nat.{_≤_, _<_, _-_, _*_}
+use Prim.Native.Nat.{ℕ, _≤_, _<_, _-_, _*_}
 use native.Mathlib.Omega.{arith}
 use borrow.Author.Tests.{not-true, not-false}
 use lib.ListN.{length, take}
+use lib.Ieee.{Float}
+use mathlib.Core.List.{List}
 use Rattle.rules.specs.Lists.{find}
 use Rattle.rules.specs.Floats.{pointMatches}
 use Rattle.rules.proofs.Indexed.{soughtFrom, sought-start, sought-on, sought-here, sought-none}
@@ -14,17 +16,40 @@ use borrow.Author.Needs.{needs}
 use Rattle.hypermath.proofs.search_vertices.Statement.{statement}
 use Rattle.hypermath.proofs.search_vertices.Tie as tie
 
+-- the search so far: nothing below the vertex at hand matches
+abbrev Sought : ℕ → ℕ → List Float → List Float → ℕ → Type 0
+Sought d n points p v = find (λ r. pointMatches r (take d p)) (pointsIn d n points) ≡ soughtFrom (take d) (λ r. pointMatches r (take d p)) axes n points v
+
+-- the comparison so far: the vertex at hand matches on the axes below the one at hand
+record Comparing (d n : ℕ) (points p : List Float) (used v₀ v axis : ℕ) : Type 0 where
+  pub same : v ≡ v₀
+  pub few : axis ≤ used
+  pub room : n * axes ≤ length points
+  pub long : length p ≡ axes
+  pub in-use : v < n
+  pub uses : AxesOf d used
+  pub left : leftFrom d n points p used v uses room long in-use 0 ≡ leftFrom d n points p used v uses room long in-use axis
+  pub sought : Sought d n points p v
+
+record Seeking (d n : ℕ) (points p : List Float) (v : ℕ) : Type 0 where
+  pub few : v ≤ n
+  pub sought : Sought d n points p v
+
 abbrev Inv-loop : tie.InvT-loop
-Inv-loop d points n p used v₀ axis₀ v axis = (v ≡ v₀) × (axis ≤ used) × (room : n * axes ≤ length points) × (long : length p ≡ axes) × (in-use : v < n) × (A : AxesOf d used) × (leftFrom d n points p used v A room long in-use 0 ≡ leftFrom d n points p used v A room long in-use axis) × (find (λ r. pointMatches r (take d p)) (pointsIn d n points) ≡ soughtFrom (take d) (λ r. pointMatches r (take d p)) axes n points v)
+Inv-loop d points n p used v₀ axis₀ v axis = Comparing d n points p used v₀ v axis
 
 abbrev μ-loop : tie.MeasureT-loop
 μ-loop d points n p used v₀ axis₀ v axis = used - axis
 
 abbrev Inv-vertices : tie.InvT-vertices
-Inv-vertices d points n p used v₀ v = (v ≤ n) × (find (λ r. pointMatches r (take d p)) (pointsIn d n points) ≡ soughtFrom (take d) (λ r. pointMatches r (take d p)) axes n points v)
+Inv-vertices d points n p used v₀ v = Seeking d n points p v
 
 abbrev μ-vertices : tie.MeasureT-vertices
 μ-vertices d points n p used v₀ v = n - v
+
+-- where the function began
+abbrev start : tie.At-loop Inv-loop μ-loop Inv-vertices μ-vertices → tie.Start Inv-loop μ-loop Inv-vertices μ-vertices
+start c = c .before .before .before .before .before
 
 axes-of-requires : tie.Need-axes-of-requires Inv-loop μ-loop Inv-vertices μ-vertices
 axes-of-requires c κs = search needs
@@ -32,10 +57,19 @@ axes-of-requires c κs = search needs
 vertices-holds : tie.Need-vertices-holds Inv-loop μ-loop Inv-vertices μ-vertices
 vertices-holds c =
     let t = c .before .before .args in
-    (search needs, sought-start (take (t .d)) (λ r. pointMatches r (take (t .d) (t .t4))) axes (t .n) (t .points .now) 0)
+    record { few = search needs; sought = sought-start (take (t .d)) (λ r. pointMatches r (take (t .d) (t .t4))) axes (t .n) (t .points .now) 0 }
 
 loop-holds : tie.Need-loop-holds Inv-loop μ-loop Inv-vertices μ-vertices
-loop-holds c = (refl, search needs, c .before .before .before .before .pre, search needs, omega arith, c .before .before .axes-of .ensures, refl, c .before .vertices .inv .1)
+loop-holds c = record {
+  same = refl;
+  few = search needs;
+  room = c .before .before .before .before .pre;
+  long = search needs;
+  in-use = omega arith;
+  uses = c .before .before .axes-of .ensures;
+  left = refl;
+  sought = c .before .vertices .inv .sought;
+}
 
 mul-coordinates-match : tie.Need-mul-coordinates-match Inv-loop μ-loop Inv-vertices μ-vertices
 mul-coordinates-match c = search needs
@@ -70,9 +104,14 @@ vertices-less c = search needs
 vertices-again : tie.Need-vertices-again Inv-loop μ-loop Inv-vertices μ-vertices
 vertices-again c =
     let at = c .before .before .before .before .loop in
-    let t = c .before .before .before .before .before .before .before .before .before .args in
-    let unlike = left-no (t .d) (t .n) (t .points .now) (t .t4) _ (at .v) (at .inv .5) (at .inv .2) (at .inv .3) (at .inv .4) (at .axis) (at .inv .6) (c .before .before .before .loop-test .taken) (sym (c .before .coordinates-match .ensures) ∙ not-true _ (c .if2 .taken)) in
-    (search needs, sought-on (take (t .d)) (λ r. pointMatches r (take (t .d) (t .t4))) axes (t .n) (t .points .now) (at .v) (at .inv .4) (at .inv .7) unlike)
+    let t = start (c .before .before .before .before) .args in
+    let unlike =
+    left-no (t .d) (t .n) (t .points .now) (t .t4) _ (at .v) (at .inv .uses) (at .inv .room) (at .inv .long) (at .inv .in-use) (at .axis) (at .inv .left)
+    (c .before .before .before .loop-test .taken) (sym (c .before .coordinates-match .ensures) ∙ not-true _ (c .if2 .taken)) in
+    record {
+      few = search needs;
+      sought = sought-on (take (t .d)) (λ r. pointMatches r (take (t .d) (t .t4))) axes (t .n) (t .points .now) (at .v) (at .inv .in-use) (at .inv .sought) unlike;
+    }
 
 add-axis : tie.Need-add-axis Inv-loop μ-loop Inv-vertices μ-vertices
 add-axis c = search needs
@@ -83,21 +122,32 @@ loop-less c = search needs
 loop-again : tie.Need-loop-again Inv-loop μ-loop Inv-vertices μ-vertices
 loop-again c =
     let at = c .before .before .before .before .loop in
-    let t = c .before .before .before .before .before .before .before .before .before .args in
-    let more = left-go (t .d) (t .n) (t .points .now) (t .t4) _ (at .v) (at .inv .5) (at .inv .2) (at .inv .3) (at .inv .4) (at .axis) (at .inv .6) (c .before .before .before .loop-test .taken) (sym (c .before .coordinates-match .ensures) ∙ not-false _ (c .if2 .left)) in
-    (search needs, search needs, at .inv .2, at .inv .3, at .inv .4, at .inv .5, more, at .inv .7)
+    let t = start (c .before .before .before .before) .args in
+    let more =
+    left-go (t .d) (t .n) (t .points .now) (t .t4) _ (at .v) (at .inv .uses) (at .inv .room) (at .inv .long) (at .inv .in-use) (at .axis) (at .inv .left)
+    (c .before .before .before .loop-test .taken) (sym (c .before .coordinates-match .ensures) ∙ not-false _ (c .if2 .left)) in
+    record {
+      same = search needs;
+      few = search needs;
+      room = at .inv .room;
+      long = at .inv .long;
+      in-use = at .inv .in-use;
+      uses = at .inv .uses;
+      left = more;
+      sought = at .inv .sought;
+    }
 
 returns : tie.Need-returns Inv-loop μ-loop Inv-vertices μ-vertices
 returns c =
     let t = c .before .before .before .before .args in
-    sought-none (take (t .d)) (λ r. pointMatches r (take (t .d) (t .t4))) axes (t .n) (t .points .now) (c .before .vertices .v) (omega arith) (c .before .vertices .inv .1)
+    sought-none (take (t .d)) (λ r. pointMatches r (take (t .d) (t .t4))) axes (t .n) (t .points .now) (c .before .vertices .v) (omega arith) (c .before .vertices .inv .sought)
 
 returns-2 : tie.Need-returns-2 Inv-loop μ-loop Inv-vertices μ-vertices
 returns-2 c =
     let at = c .before .loop in
-    let t = c .before .before .before .before .before .before .args in
-    let like = left-end (t .d) (t .n) (t .points .now) (t .t4) _ (at .v) (at .inv .5) (at .inv .2) (at .inv .3) (at .inv .4) (at .axis) (at .inv .6) (omega arith) in
-    sought-here (take (t .d)) (λ r. pointMatches r (take (t .d) (t .t4))) axes (t .n) (t .points .now) (at .v) (at .inv .4) (at .inv .7) like
+    let t = start (c .before) .args in
+    let like = left-end (t .d) (t .n) (t .points .now) (t .t4) _ (at .v) (at .inv .uses) (at .inv .room) (at .inv .long) (at .inv .in-use) (at .axis) (at .inv .left) (omega arith) in
+    sought-here (take (t .d)) (λ r. pointMatches r (take (t .d) (t .t4))) axes (t .n) (t .points .now) (at .v) (at .inv .in-use) (at .inv .sought) like
 
 pub search-vertices-spec : {M : Type 1} → statement M
 search-vertices-spec =

@@ -1,6 +1,7 @@
 -- The lowest so far and what is left give what the whole gives.
-use Prim.Native.Nat.{_-_, _+_, _*_, _≤_}
-use mathlib.Core.Path.{_≡_, refl}
+use Prim.Native.Nat.{ℕ, _-_, _+_, _*_, _≤_}
+use mathlib.Core.Path.{_≡_, refl, _∙_}
+use mathlib.Core.List.{List}
 use borrow.Author.Needs.{needs}
 use lib.ListN.{getD, drop}
 use Rattle.walk.specs.Boundaries.{rowBoundary}
@@ -10,28 +11,44 @@ use Rattle.walk.proofs.EdgeLoops as edge
 use Rattle.walk.proofs.lowest_end.Statement.{statement}
 use Rattle.walk.proofs.lowest_end.Tie as tie
 
+-- the places from i on are left, and m is the lowest before them
+record Lowest (es : List ℕ) (f n m i : ℕ) : Type 0 where
+  low : i ≤ n
+  size : n ≡ getD es (f * 36 + 3) 0
+  same : lowestEnd es noEdge (rowBoundary es f) ≡ lowestEnd es m (drop i (rowBoundary es f))
+
 abbrev Inv-loop : tie.InvT-loop
-Inv-loop elements f n m₀ i₀ m i =
-    (i ≤ n) × (n ≡ getD elements (f .0 * 36 + 3) 0) × (lowestEnd elements noEdge (rowBoundary elements (f .0)) ≡ lowestEnd elements m (drop i (rowBoundary elements (f .0))))
+Inv-loop elements f n m₀ i₀ m i = Lowest elements (f .0) n (m .0) i
 
 abbrev μ-loop : tie.MeasureT-loop
 μ-loop elements f n m₀ i₀ m i = n - i
+
+-- where the function began, and the place whose number was read
+abbrev start : tie.At-loop Inv-loop μ-loop → tie.Start Inv-loop μ-loop
+start c = c .before .before .before
+
+abbrev here : tie.After-end-at Inv-loop μ-loop → tie.At-loop Inv-loop μ-loop
+here c = c .before .before .before .before
 
 size-of-requires : tie.Need-size-of-requires Inv-loop μ-loop
 size-of-requires c κs = search needs
 
 loop-holds : tie.Need-loop-holds Inv-loop μ-loop
-loop-holds c = (search needs, c .size-of .ensures, refl)
+loop-holds c = record { low = search needs; size = c .size-of .ensures; same = refl }
 
 boundary-at-requires : tie.Need-boundary-at-requires Inv-loop μ-loop
 boundary-at-requires c κs = search needs
 
-number-at-requires : tie.Need-number-at-requires Inv-loop μ-loop
-number-at-requires c κs =
-    let a = c .before .before .before .before .before .args in
-    let p = c .before .before .before .before .before .pre in
-    let at = c .before .before .loop in
-    (p .long, number-low (a .elements .now) (a .f .0) _ p (at .inv .1) (at .i) _ (search needs) (c .boundary-at .ensures), search needs)
+wide-requires : tie.Need-wide-requires Inv-loop μ-loop
+wide-requires c κs = search needs
+
+end-at-requires : tie.Need-end-at-requires Inv-loop μ-loop
+end-at-requires c κs =
+    let a = start (c .before .before .before) .args in
+    let p = start (c .before .before .before) .pre in
+    let at = c .before .before .before .loop in
+    let x = number-low (a .elements .now) (a .f .0) _ p (at .inv .size) (at .i) _ (search needs) (c .wide .ensures .0 ∙ c .before .boundary-at .ensures) in
+    (record { long = p .long; used = x }, search needs)
 
 lower-requires : tie.Need-lower-requires Inv-loop μ-loop
 lower-requires c κs = search needs
@@ -44,19 +61,20 @@ loop-less c = search needs
 
 loop-again : tie.Need-loop-again Inv-loop μ-loop
 loop-again c =
-    let a = c .before .before .before .before .before .before .before .args in
-    let at = c .before .before .before .before .loop in (
-      search needs,
-      at .inv .1,
-      edge.lowest-go (a .elements .now) (a .f .0) _ (c .before .before .before .before .before .before .before .pre) (at .inv .1) (at .m) _ (at .i) _ _ _
-          (c .before .before .boundary-at .ensures) (search needs) (c .before .number-at .ensures) (c .lower .ensures) (at .inv .2),
-    )
+    let a = start (here (c .before)) .args in
+    let at = here (c .before) .loop in
+    record {
+      low = search needs;
+      size = at .inv .size;
+      same = edge.lowest-go (a .elements .now) (a .f .0) _ (start (here (c .before)) .pre) (at .inv .size) (at .m .0) _ (at .i) _ _ _
+          (c .before .before .wide .ensures .0 ∙ c .before .before .before .boundary-at .ensures) (search needs) (c .before .end-at .ensures) (c .lower .ensures) (at .inv .same);
+    }
 
 returns : tie.Need-returns Inv-loop μ-loop
 returns c =
     let a = c .before .before .before .before .args in
     let at = c .before .loop in
-    edge.lowest-end (a .elements .now) (a .f .0) _ (c .before .before .before .before .pre) (at .inv .1) (at .m) _ (at .i) (search needs) (at .inv .2)
+    edge.lowest-end (a .elements .now) (a .f .0) _ (c .before .before .before .before .pre) (at .inv .size) (at .m .0) _ (at .i) (search needs) (at .inv .same)
 
 pub lowest-end-spec : {M : Type 1} → statement M
 lowest-end-spec =
@@ -67,7 +85,8 @@ lowest-end-spec =
     size-of-requires
     loop-holds
     boundary-at-requires
-    number-at-requires
+    wide-requires
+    end-at-requires
     lower-requires
     add-i
     loop-less

@@ -1,27 +1,43 @@
 -- What is left to write, put behind what is written, makes up the whole walk.
-use Prim.Native.Nat.{_-_, _+_, _*_, _≤_, _<_}
+use Prim.Native.Nat.{ℕ, _-_, _+_, _*_, _≤_, _<_}
 use mathlib.Core.Path.{_≡_, refl}
+use mathlib.Core.List.{List}
 use native.Mathlib.Nat.{le-trans, le-of-eq}
 use native.Mathlib.Omega.{arith}
 use borrow.Author.Needs.{needs}
 use lib.ListN.{length, getD, length-set}
 use lib.Seq.{sets}
 use Rattle.walk.specs.Boundaries.{rowBoundary}
-use Rattle.walk.specs.Walks.{numbersFrom, EdgeFits}
+use Rattle.walk.specs.Walks.{numbersFrom, numbersRound, EdgeFits}
 use Rattle.walk.proofs.Boundaries.{row-size}
 use Rattle.walk.proofs.EdgeLoops.{beside-fits, across-fits}
 use Rattle.walk.proofs.Pairs.{pairs-start, pairs-go, pairs-end}
 use Rattle.walk.proofs.walk_round.Statement.{statement}
 use Rattle.walk.proofs.walk_round.Tie as tie
 
+-- after k steps the walk is at the corner v and goes on by the edge e
+record Steps (es : List ℕ) (f start first : ℕ) (room : List ℕ) (n : ℕ) (list : List ℕ) (v e k : ℕ) : Type 0 where
+  low : k ≤ n
+  size : n ≡ getD es (f * 36 + 3) 0
+  few : n ≤ 32
+  enough : 2 * n ≤ length room
+  long : length list ≡ length room
+  corner : v < 512
+  edge : EdgeFits es e
+  same : sets room 0 (numbersRound es f start first) ≡ sets list (2 * k) (numbersFrom (n - k) es (rowBoundary es f) v e)
+
 abbrev Inv-loop : tie.InvT-loop
-Inv-loop elements f start first list₀ n v₀ e₀ k₀ list v e k =
-    (k ≤ n) × (n ≡ getD elements (f .0 * 36 + 3) 0) × (n ≤ 32) × (2 * n ≤ length list₀) × (length list ≡ length list₀) × (v < 512) × EdgeFits elements e
-    × (sets list₀ 0 (numbersFrom (length (rowBoundary elements (f .0))) elements (rowBoundary elements (f .0)) start first)
-    ≡ sets list (2 * k) (numbersFrom (n - k) elements (rowBoundary elements (f .0)) v e))
+Inv-loop elements f list₀ n start first k₀ list v e k = Steps elements (f .0) (start .0) (first .0) list₀ n list (v .0) (e .0) k
 
 abbrev μ-loop : tie.MeasureT-loop
-μ-loop elements f start first list₀ n v₀ e₀ k₀ list v e k = n - k
+μ-loop elements f list₀ n start first k₀ list v e k = n - k
+
+-- where the function began, and where the step did
+abbrev begin : tie.At-loop Inv-loop μ-loop → tie.Start Inv-loop μ-loop
+begin c = c .before .before .before .before
+
+abbrev step : tie.After-vertex-of2 Inv-loop μ-loop → tie.At-loop Inv-loop μ-loop
+step c = c .before .before .before .before
 
 size-of-requires : tie.Need-size-of-requires Inv-loop μ-loop
 size-of-requires c κs = search needs
@@ -31,22 +47,30 @@ loop-holds c =
     let a = c .before .before .before .args in
     let p = c .before .before .before .pre in
     let q = c .size-of .ensures in
-    let long = row-size (a .elements .now) (a .f .0) _ (p .0 .bounds) q in (
-      search needs,
-      q,
-      le-trans (le-of-eq q) (p .0 .bounds .sized),
-      (let l = p .3 in omega (arith, l, long)),
-      refl,
-      p .2,
-      p .1,
-      pairs-start (a .elements .now) (rowBoundary (a .elements .now) (a .f .0)) _ _ (a .start) (a .first) long,
-    )
+    let long = row-size (a .elements .now) (a .f .0) _ (p .face .bounds) q in
+    record {
+      low = search needs;
+      size = q;
+      few = le-trans (le-of-eq q) (p .face .bounds .sized);
+      enough = let l = p .enough in omega (arith, l, long);
+      long = refl;
+      corner = p .corner;
+      edge = p .edge;
+      same = pairs-start (a .elements .now) (rowBoundary (a .elements .now) (a .f .0)) _ _ (a .start .0) (a .first .0) long;
+    }
 
 end-across-requires : tie.Need-end-across-requires Inv-loop μ-loop
-end-across-requires c κs = (c .before .before .before .before .before .pre .0 .bounds .long, c .before .loop .inv .6 .used)
+end-across-requires c κs = record { long = begin (c .before) .pre .face .bounds .long; used = c .before .loop .inv .edge .used }
 
-number-at-requires : tie.Need-number-at-requires Inv-loop μ-loop
-number-at-requires c κs = search needs
+vertex-of-requires : tie.Need-vertex-of-requires Inv-loop μ-loop
+vertex-of-requires c κs = record { long = begin (c .before .before) .pre .face .bounds .long; used = c .before .before .loop .inv .corner }
+
+vertex-of-requires-2 : tie.Need-vertex-of-requires-2 Inv-loop μ-loop
+vertex-of-requires-2 c κs =
+    record { long = begin (c .before .before .before) .pre .face .bounds .long; used = across-fits _ _ _ _ (c .before .before .before .loop .inv .edge) (c .before .end-across .ensures) }
+
+cast-list : tie.Need-cast-list Inv-loop μ-loop
+cast-list c = search needs
 
 mul-list : tie.Need-mul-list Inv-loop μ-loop
 mul-list c = search needs
@@ -57,8 +81,8 @@ mul-list-2 c = search needs
 slice-write-list : tie.Need-slice-write-list Inv-loop μ-loop
 slice-write-list c = search needs
 
-number-at-requires-2 : tie.Need-number-at-requires-2 Inv-loop μ-loop
-number-at-requires-2 c κs = (search needs, across-fits _ _ _ _ (c .before .before .before .loop .inv .6) (c .before .end-across .ensures), search needs)
+cast-list-2 : tie.Need-cast-list-2 Inv-loop μ-loop
+cast-list-2 c = search needs
 
 mul-list-3 : tie.Need-mul-list-3 Inv-loop μ-loop
 mul-list-3 c = search needs
@@ -71,9 +95,9 @@ mul-list-4 c = search needs
 
 slice-write-list-2 : tie.Need-slice-write-list-2 Inv-loop μ-loop
 slice-write-list-2 c =
-    let at = c .before .before .before .before .loop in
-    let l = at .inv .3 in
-    let e = at .inv .4 in
+    let at = step (c .before .before) .loop in
+    let l = at .inv .enough in
+    let e = at .inv .long in
     simp length-set (omega (arith, l, e))
 
 edge-beside-requires : tie.Need-edge-beside-requires Inv-loop μ-loop
@@ -87,30 +111,32 @@ loop-less c = search needs
 
 loop-again : tie.Need-loop-again Inv-loop μ-loop
 loop-again c =
-    let there = c .before .before .before .before .before in
-    let a = there .before .before .before .before .args in
-    let p = there .before .before .before .before .pre in
+    let two = c .before .before .before in
+    let there = step two in
+    let a = begin there .args in
+    let p = begin there .pre in
     let at = there .loop in
-    let across = c .before .before .before .end-across .ensures in (
-      search needs,
-      at .inv .1,
-      at .inv .2,
-      at .inv .3,
-      simp length-set (at .inv .4),
-      across-fits _ _ _ _ (at .inv .6) across,
-      beside-fits _ _ _ _ _ (p .0) (c .edge-beside .ensures),
-      pairs-go (a .elements .now) (rowBoundary (a .elements .now) (a .f .0)) _ _ (at .list) (at .v) (at .e) (at .k) _ _ _ _ (search needs) across (c .edge-beside .ensures)
-          (c .before .before .number-at .ensures) (c .before .number-at2 .ensures) (at .inv .7),
-    )
+    let across = two .before .before .end-across .ensures in
+    record {
+      low = search needs;
+      size = at .inv .size;
+      few = at .inv .few;
+      enough = at .inv .enough;
+      long = simp length-set (at .inv .long);
+      corner = across-fits _ _ _ _ (at .inv .edge) across;
+      edge = beside-fits _ _ _ _ _ (p .face) (c .edge-beside .ensures);
+      same = pairs-go (a .elements .now) (rowBoundary (a .elements .now) (a .f .0)) _ _ (at .list) (at .v .0) (at .e .0) (at .k) _ _ _ _ (search needs) across (c .edge-beside .ensures)
+          (two .before .vertex-of .ensures .named) (two .vertex-of2 .ensures .named) (at .inv .same);
+    }
 
 same-length : tie.Need-same-length Inv-loop μ-loop
 same-length c = search needs
 
 returns : tie.Need-returns Inv-loop μ-loop
 returns c =
-    let a = c .before .before .before .before .before .args in
+    let a = begin (c .before) .args in
     let at = c .before .loop in
-    pairs-end (a .elements .now) (rowBoundary (a .elements .now) (a .f .0)) _ _ (at .list) (at .v) (at .e) (at .k) (search needs) (at .inv .7)
+    pairs-end (a .elements .now) (rowBoundary (a .elements .now) (a .f .0)) _ _ (at .list) (at .v .0) (at .e .0) (at .k) (search needs) (at .inv .same)
 
 pub walk-round-spec : {M : Type 1} → statement M
 walk-round-spec =
@@ -121,11 +147,13 @@ walk-round-spec =
     size-of-requires
     loop-holds
     end-across-requires
-    number-at-requires
+    vertex-of-requires
+    vertex-of-requires-2
+    cast-list
     mul-list
     mul-list-2
     slice-write-list
-    number-at-requires-2
+    cast-list-2
     mul-list-3
     add-list
     mul-list-4

@@ -4,6 +4,13 @@ use borrow.Author.Needs.{needs}
 use Rattle.cut.proofs.known.keep.Statement.{statement}
 use Rattle.cut.proofs.known.keep.Tie as tie
 
+-- where the function began, and where there is an answer
+abbrev start : tie.After-known-told2 → tie.Start
+start c = c .before .before .before
+
+abbrev answered : tie.After-known-told3 → tie.After-known-told2
+answered c = c .before .before .before
+
 enum-known-reply : tie.Need-enum-known-reply
 enum-known-reply c = search needs
 
@@ -20,25 +27,46 @@ enum-known-answer : tie.Need-enum-known-answer
 enum-known-answer c = search needs
 
 word-of-requires : tie.Need-word-of-requires
-word-of-requires c κs = reply-room _ _ _ _ _ (c .before .before .before .before .reply2 .given .1) (c .before .answer .given .1) (c .before .before .before .before .before .before .pre .2) .0
+word-of-requires c κs =
+    let s = answered c in
+    reply-room _ _ _ _ _ (s .before .reply2 .given .1) (c .before .answer .given .1) (start s .pre .room) .0
 
 word-of-requires-2 : tie.Need-word-of-requires-2
-word-of-requires-2 c κs = reply-room _ _ _ _ _ (c .before .before .before .before .before .reply2 .given .1) (c .before .before .answer .given .1) (c .before .before .before .before .before .before .before .pre .2) .1
+word-of-requires-2 c κs =
+    let a = c .before in
+    let s = answered a in
+    reply-room _ _ _ _ _ (s .before .reply2 .given .1) (a .before .answer .given .1) (start s .pre .room) .1
 
 word-of-requires-3 : tie.Need-word-of-requires-3
-word-of-requires-3 c κs = reply-room _ _ _ _ _ (c .before .before .before .before .before .before .reply2 .given .1) (c .before .before .before .answer .given .1) (c .before .before .before .before .before .before .before .before .pre .2) .2
+word-of-requires-3 c κs =
+    let a = c .before .before in
+    let s = answered a in
+    reply-room _ _ _ _ _ (s .before .reply2 .given .1) (a .before .answer .given .1) (start s .pre .room) .2
 
 put-words-requires-2 : tie.Need-put-words-requires-2
 put-words-requires-2 c κs = search needs
 
 returns : tie.Need-returns
-returns c = (asked-refused _ _ (c .before .reply .given .1), reply-refused _ _ _ _ (c .before .reply .given .1))
+returns c =
+    let q = c .before .reply .given .1 in
+    record { asked = asked-refused _ _ q; words = reply-refused _ _ _ _ q }
 
 returns-2 : tie.Need-returns-2
-returns-2 c = (asked-done _ _ (c .before .before .before .before .before .reply2 .given .1), reply-flush _ _ _ _ _ (c .before .before .before .before .before .reply2 .given .1) (c .before .before .enum-told .given .1) (c .put-words .ensures))
+returns-2 c =
+    let told = c .before .before in
+    let q = told .before .before .before .reply2 .given .1 in
+    record { asked = asked-done _ _ q; words = reply-flush _ _ _ _ _ q (told .enum-told .given .1) (c .put-words .ensures) }
 
 returns-3 : tie.Need-returns-3
-returns-3 c = (asked-done _ _ (c .before .before .before .before .before .before .before .before .before .reply2 .given .1), reply-sides _ _ _ _ _ _ _ _ _ _ _ (c .before .before .before .before .before .before .before .before .before .reply2 .given .1) (c .before .before .before .before .before .before .answer .given .1) (c .before .before .before .before .word-of .ensures) (c .before .before .before .word-of2 .ensures) (c .before .before .word-of3 .ensures) (c .put-words2 .ensures))
+returns-3 c =
+    let w = c .before .before in
+    let a = w .before .before .before in
+    let q = answered a .before .reply2 .given .1 in
+    record {
+      asked = asked-done _ _ q;
+      words =
+          reply-sides _ _ _ _ _ _ _ _ _ _ _ q (a .before .answer .given .1) (w .before .before .word-of .ensures) (w .before .word-of2 .ensures) (w .word-of3 .ensures) (c .put-words2 .ensures);
+    }
 
 pub keep-spec : {M : Type 1} → statement M
 keep-spec =

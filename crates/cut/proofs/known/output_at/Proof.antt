@@ -4,6 +4,10 @@ use borrow.Author.Needs.{needs}
 use Rattle.cut.proofs.known.output_at.Statement.{statement}
 use Rattle.cut.proofs.known.output_at.Tie as tie
 
+-- where the function began
+abbrev start : tie.After-c → tie.Start
+start c = c .before .before .before .before
+
 mul-at : tie.Need-mul-at
 mul-at c = search needs
 
@@ -32,7 +36,9 @@ element-copy-out-c : tie.Need-element-copy-out-c
 element-copy-out-c c = search needs
 
 returns : tie.Need-returns
-returns c = output-flush (c .before .before .before .before .before .args .known .now) (c .before .before .before .before .before .args .e .0) (c .if1 .taken)
+returns c =
+    let a = start (c .before) .args in
+    output-flush (a .known .now) (a .e .0) (c .if1 .taken)
 
 some-of-requires : tie.Need-some-of-requires
 some-of-requires c κs = search needs
@@ -44,7 +50,9 @@ some-of-requires-3 : tie.Need-some-of-requires-3
 some-of-requires-3 c κs = search needs
 
 returns-2 : tie.Need-returns-2
-returns-2 c = output-sides (c .before .before .before .before .before .before .before .before .args .known .now) (c .before .before .before .before .before .before .before .before .args .e .0) _ _ _ (search needs) (c .before .before .some-of .ensures) (c .before .some-of2 .ensures) (c .some-of3 .ensures)
+returns-2 c =
+    let a = start (c .before .before .before .before) .args in
+    output-sides (a .known .now) (a .e .0) _ _ _ (search needs) (c .before .before .some-of .ensures) (c .before .some-of2 .ensures) (c .some-of3 .ensures)
 
 pub output-at-spec : {M : Type 1} → statement M
 output-at-spec =

@@ -1,6 +1,7 @@
 -- An element within the room fits a word, two above its number.
 use mathlib.Core.Path.{refl}
-use Rattle.cut.proofs.Words.{word-room, word-none, word-some}
+use Rattle.gathered.proofs.Gathering.{some-room}
+use Rattle.cut.proofs.Words.{word-none, word-some}
 use borrow.Author.Needs.{needs}
 use Rattle.cut.proofs.known.word_of.Statement.{statement}
 use Rattle.cut.proofs.known.word_of.Tie as tie
@@ -12,10 +13,10 @@ enum-known-x : tie.Need-enum-known-x
 enum-known-x c = search needs
 
 add-result : tie.Need-add-result
-add-result c = let h = word-room _ _ (c .before .before .x .given .1) (c .before .before .before .before .pre) in search needs
+add-result c = let h = some-room _ (c .before .before .x .given .1) (c .before .before .before .before .pre) in search needs
 
 cast-result : tie.Need-cast-result
-cast-result c = let h = word-room _ _ (c .before .before .x .given .1) (c .before .before .before .before .pre) in search needs
+cast-result c = let h = some-room _ (c .before .before .x .given .1) (c .before .before .before .before .pre) in search needs
 
 returns : tie.Need-returns
 returns c = word-none _ (c .enum-told .given .1)

@@ -1,13 +1,34 @@
 -- The hyperplane is refused, or has a number, and the root is cut; nothing is known before, and its answer is after.
-use Rattle.space.proofs.Indexing.{index-count}
-use Rattle.cut.proofs.StaysKnown.{asked-words, ask-low}
-use Rattle.cut.proofs.WholeCuts.{plane-asked, rank-asked, count-same, root-ready, plane-refused, root-cut, root-refused, root-answered}
+use Rattle.cut.proofs.WholeCuts.{plane-asked, rank-asked, root-low, root-ready, plane-refused, root-cut, root-refused, root-answered}
 use borrow.Author.Needs.{needs}
 use Rattle.cut.proofs.whole.cut_named.Statement.{statement}
 use Rattle.cut.proofs.whole.cut_named.Tie as tie
 
+-- where the function began, where the hyperplane was added and has a number, and where the root's rank was read
+abbrev lent : tie.After-slice-known5 → tie.Start
+lent c = c .before .before .before .before .before
+
+abbrev start : tie.After-add-hyperplane → tie.Start
+start c = lent (c .before .before .before)
+
+abbrev added : tie.After-slice-known7 → tie.After-add-hyperplane
+added c = c .before .before .before .before
+
+abbrev numbered : tie.After-rank-of → tie.After-named2
+numbered c = c .before .before .before
+
+abbrev ranked : tie.After-known → tie.After-rank-of
+ranked c = c .before .before .before .before .before
+
+-- where the root was asked: the lengths of the slices are known again after it
+abbrev half-known : tie.After-slice-known11 → tie.After-slice-known9
+half-known c = c .before .before .before .before
+
+abbrev asked : tie.After-slice-known11 → tie.After-cut-element
+asked c = half-known c .before .before .before .before
+
 add-hyperplane-requires : tie.Need-add-hyperplane-requires
-add-hyperplane-requires c κs = plane-asked (c .before .before .before .before .before .before .before .pre .0)
+add-hyperplane-requires c κs = plane-asked (lent (c .before .before) .pre)
 
 enum-known-named : tie.Need-enum-known-named
 enum-known-named c = search needs
@@ -16,15 +37,17 @@ enum-known-named-2 : tie.Need-enum-known-named-2
 enum-known-named-2 c = search needs
 
 rank-of-requires : tie.Need-rank-of-requires
-rank-of-requires c κs = rank-asked (c .before .before .before .before .before .before .before .before .add-hyperplane .ensures) _ (c .before .before .named2 .given .1) (c .before .before .before .before .before .before .before .before .before .before .before .before .before .before .before .before .pre .0)
+rank-of-requires c κs =
+    let n = c .before .before in
+    rank-asked (start (added (n .before .before)) .pre)
 
 cut-element-requires : tie.Need-cut-element-requires
 cut-element-requires c κs =
-    let a = c .before .before .before .before .before .before .before .before .before .before .before .before .before .before .before .before .before .before .before .before .before .before .args in
-    let P = c .before .before .before .before .before .before .before .before .before .before .before .before .before .before .add-hyperplane .ensures in
-    let q = c .before .before .before .before .before .before .before .before .named2 .given .1 in
-    let read = c .before .before .before .before .before .rank-of .ensures in
-    (root-ready P _ q _ read (a .keep-inside) (a .keep-outside) (c .before .before .before .before .before .before .before .before .before .before .before .before .before .before .before .before .before .before .before .before .before .before .pre .0), index-count _ _ _ _ (count-same P _ q _ read (a .keep-inside) (a .keep-outside) (c .before .before .before .before .before .before .before .before .before .before .before .before .before .before .before .before .before .before .before .before .before .before .pre .0)) (c .before .before .before .before .before .before .before .before .before .before .before .before .before .before .before .before .before .before .before .before .before .before .pre .1))
+    let r = ranked c in
+    let n = numbered r in
+    let p = added (n .before .before) in
+    let a = start p .args in
+    root-ready (p .add-hyperplane .ensures) _ (n .named2 .given .1) _ (r .rank-of .ensures) (a .keep-inside) (a .keep-outside) (start p .pre)
 
 enum-known-asked : tie.Need-enum-known-asked
 enum-known-asked c = search needs
@@ -34,12 +57,8 @@ enum-told c = search needs
 
 output-at-requires : tie.Need-output-at-requires
 output-at-requires c κs =
-    let a = c .before .before .before .before .before .before .before .before .before .before .before .before .before .before .before .before .before .before .before .before .before .before .before .before .before .before .before .before .before .before .before .before .before .before .args in
-    let P = c .before .before .before .before .before .before .before .before .before .before .before .before .before .before .before .before .before .before .before .before .before .before .before .before .before .before .add-hyperplane .ensures in
-    let q = c .before .before .before .before .before .before .before .before .before .before .before .before .before .before .before .before .before .before .before .before .named2 .given .1 in
-    let read = c .before .before .before .before .before .before .before .before .before .before .before .before .before .before .before .before .before .rank-of .ensures in
-    let R = root-ready P _ q _ read (a .keep-inside) (a .keep-outside) (c .before .before .before .before .before .before .before .before .before .before .before .before .before .before .before .before .before .before .before .before .before .before .before .before .before .before .before .before .before .before .before .before .before .before .pre .0) in
-    (asked-words R (c .before .before .before .before .before .before .before .before .before .before .before .cut-element .ensures .0), ask-low R)
+    let n = numbered (ranked (asked (c .before .before .before) .before)) in
+    root-low (start (added (n .before .before)) .pre)
 
 same-length : tie.Need-same-length
 same-length c = search needs
@@ -48,7 +67,9 @@ same-length-2 : tie.Need-same-length-2
 same-length-2 c = search needs
 
 returns : tie.Need-returns
-returns c = plane-refused (c .before .before .before .before .before .before .before .add-hyperplane .ensures) _ _ _ (c .before .named .given .1)
+returns c =
+    let p = added (c .before .before .before) in
+    plane-refused (p .add-hyperplane .ensures) _ _ _ (c .before .named .given .1)
 
 same-length-3 : tie.Need-same-length-3
 same-length-3 c = search needs
@@ -66,7 +87,12 @@ same-length-7 : tie.Need-same-length-7
 same-length-7 c = search needs
 
 returns-2 : tie.Need-returns-2
-returns-2 c = root-cut (c .before .before .before .before .before .before .before .before .before .before .before .before .before .before .before .before .before .before .before .before .before .before .before .before .before .before .add-hyperplane .ensures) _ (c .before .before .before .before .before .before .before .before .before .before .before .before .before .before .before .before .before .before .before .before .named2 .given .1) _ (c .before .before .before .before .before .before .before .before .before .before .before .before .before .before .before .before .before .rank-of .ensures) _ _ (c .before .before .before .before .before .before .before .before .before .before .before .cut-element .ensures .0) _ (root-refused _ _ (c .before .asked .given .1))
+returns-2 c =
+    let s = asked (c .before .before .before) in
+    let r = ranked (s .before) in
+    let n = numbered r in
+    let p = added (n .before .before) in
+    root-cut (p .add-hyperplane .ensures) _ (n .named2 .given .1) _ (r .rank-of .ensures) _ _ (s .cut-element .ensures) _ (root-refused _ _ (c .before .asked .given .1))
 
 same-length-8 : tie.Need-same-length-8
 same-length-8 c = search needs
@@ -84,7 +110,14 @@ same-length-12 : tie.Need-same-length-12
 same-length-12 c = search needs
 
 returns-3 : tie.Need-returns-3
-returns-3 c = root-cut (c .before .before .before .before .before .before .before .before .before .before .before .before .before .before .before .before .before .before .before .before .before .before .before .before .before .before .before .add-hyperplane .ensures) _ (c .before .before .before .before .before .before .before .before .before .before .before .before .before .before .before .before .before .before .before .before .before .named2 .given .1) _ (c .before .before .before .before .before .before .before .before .before .before .before .before .before .before .before .before .before .before .rank-of .ensures) _ _ (c .before .before .before .before .before .before .before .before .before .before .before .before .cut-element .ensures .0) _ (root-answered _ _ (c .before .before .enum-told .given .1) (c .output-at .ensures))
+returns-3 c =
+    let told = c .before .before in
+    let s = asked (told .before .before) in
+    let r = ranked (s .before) in
+    let n = numbered r in
+    let p = added (n .before .before) in
+    root-cut (p .add-hyperplane .ensures) _ (n .named2 .given .1) _ (r .rank-of .ensures) _ _ (s .cut-element .ensures) _
+    (root-answered _ _ (told .enum-told .given .1) (c .output-at .ensures))
 
 pub cut-named-spec : {M : Type 1} → statement M
 cut-named-spec =

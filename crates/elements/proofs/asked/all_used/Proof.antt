@@ -1,6 +1,7 @@
 -- Those that are left are in use exactly when all are, until one is not.
 use Prim.Native.Nat.{ℕ, suc, _-_, _≤_}
 use mathlib.Core.Path.{_≡_, refl}
+use mathlib.Core.List.{List}
 use native.Mathlib.Omega.{arith}
 use lib.Dec.{ltb}
 use lib.ListN.{length, getD, drop}
@@ -11,14 +12,20 @@ use borrow.Author.Needs.{needs}
 use Rattle.elements.proofs.asked.all_used.Statement.{statement}
 use Rattle.elements.proofs.asked.all_used.Tie as tie
 
+-- the roots from i on are left
+record Testing (roots : List ℕ) (n last i : ℕ) : Type 0 where
+  low : i ≤ last
+  size : last ≡ length roots
+  same : all (λ (e : ℕ). ltb e n) roots ≡ all (λ (e : ℕ). ltb e n) (drop i roots)
+
 abbrev Inv-loop : tie.InvT-loop
-Inv-loop roots n i₀ i-end i = (i ≤ i-end) × (i-end ≡ length roots) × (all (λ (e : ℕ). ltb e n) roots ≡ all (λ (e : ℕ). ltb e n) (drop i roots))
+Inv-loop roots n i₀ i-end i = Testing roots n i-end i
 
 abbrev μ-loop : tie.MeasureT-loop
 μ-loop roots n i₀ i-end i = i-end - i
 
 loop-holds : tie.Need-loop-holds Inv-loop μ-loop
-loop-holds c = (search needs, search needs, refl)
+loop-holds c = record { low = search needs; size = search needs; same = refl }
 
 mul-if1 : tie.Need-mul-if1 Inv-loop μ-loop
 mul-if1 c = search needs
@@ -30,7 +37,7 @@ returns : tie.Need-returns Inv-loop μ-loop
 returns c =
     let a = c .before .before .before .before .args in
     let at = c .before .before .before .loop in
-    all-no (λ (e : ℕ). ltb e (a .n)) 0 (a .roots .now) (at .i) (at .inv .2) (search needs) (test-above (suc (getD (a .roots .now) (at .i) 0)) (a .n) (omega arith))
+    all-no (λ (e : ℕ). ltb e (a .n)) 0 (a .roots .now) (at .i) (at .inv .same) (search needs) (test-above (suc (getD (a .roots .now) (at .i) 0)) (a .n) (omega arith))
 
 add-i : tie.Need-add-i Inv-loop μ-loop
 add-i c = search needs
@@ -42,12 +49,17 @@ loop-again : tie.Need-loop-again Inv-loop μ-loop
 loop-again c =
     let a = c .before .before .before .before .args in
     let at = c .before .before .before .loop in
-    (search needs, search needs, all-go (λ (e : ℕ). ltb e (a .n)) 0 (a .roots .now) (at .i) (at .inv .2) (search needs) (test-le (suc (getD (a .roots .now) (at .i) 0)) (a .n) (omega arith)))
+    record {
+      low = search needs;
+      size = search needs;
+      same = all-go (λ (e : ℕ). ltb e (a .n)) 0 (a .roots .now) (at .i) (at .inv .same) (search needs) (test-le (suc (getD (a .roots .now) (at .i) 0)) (a .n) (omega arith));
+    }
 
 returns-2 : tie.Need-returns-2 Inv-loop μ-loop
 returns-2 c =
     let a = c .before .before .args in
-    all-end (λ (e : ℕ). ltb e (a .n)) 0 (a .roots .now) (c .before .loop .i) (c .before .loop .inv .2) (search needs)
+    let at = c .before .loop in
+    all-end (λ (e : ℕ). ltb e (a .n)) 0 (a .roots .now) (at .i) (at .inv .same) (search needs)
 
 pub all-used-spec : {M : Type 1} → statement M
 all-used-spec =

@@ -7,6 +7,13 @@ use borrow.Author.Needs.{needs}
 use Rattle.elements.proofs.asked.roots_refusal.Statement.{statement}
 use Rattle.elements.proofs.asked.roots_refusal.Tie as tie
 
+-- where the function began, and where the memory was sound
+abbrev start : tie.After-memory-sound → tie.Start
+start c = c .before .before .before .before .before .before
+
+abbrev passed : tie.After-all-used → tie.Else1
+passed c = c .before .before
+
 memory-sound-requires : tie.Need-memory-sound-requires
 memory-sound-requires c κs = search needs
 
@@ -15,7 +22,8 @@ returns c = three _ _ _ _ _ (sym (c .before .memory-sound .ensures) ∙ not-true
 
 shared-slice-read-all-used : tie.Need-shared-slice-read-all-used
 shared-slice-read-all-used c =
-    let l = counts-long _ _ _ _ (sym (c .before .before .memory-sound .ensures) ∙ not-false _ (c .before .if1 .left)) in
+    let e = c .before in
+    let l = counts-long _ _ _ _ (sym (e .before .memory-sound .ensures) ∙ not-false _ (e .if1 .left)) in
     omega (arith, l)
 
 all-used-requires : tie.Need-all-used-requires
@@ -23,15 +31,17 @@ all-used-requires c κs = search needs
 
 returns-2 : tie.Need-returns-2
 returns-2 c =
-    let s = sym (c .before .before .before .before .memory-sound .ensures) ∙ not-false _ (c .before .before .before .if1 .left) in
-    let a = c .before .before .before .before .before .before .before .before .before .before .args in
-    four _ _ _ _ _ s (counted _ _ _ _ s (a .roots .now) (sym (c .before .all-used .ensures) ∙ not-true _ (c .if2 .taken)))
+    let u = c .before in
+    let e = passed u in
+    let s = sym (e .before .memory-sound .ensures) ∙ not-false _ (e .if1 .left) in
+    four _ _ _ _ _ s (counted _ _ _ _ s (start (e .before) .args .roots .now) (sym (u .all-used .ensures) ∙ not-true _ (c .if2 .taken)))
 
 returns-3 : tie.Need-returns-3
 returns-3 c =
-    let s = sym (c .before .before .before .before .memory-sound .ensures) ∙ not-false _ (c .before .before .before .if1 .left) in
-    let a = c .before .before .before .before .before .before .before .before .before .before .args in
-    none-refused _ _ _ _ _ s (counted _ _ _ _ s (a .roots .now) (sym (c .before .all-used .ensures) ∙ not-false _ (c .if2 .left)))
+    let u = c .before in
+    let e = passed u in
+    let s = sym (e .before .memory-sound .ensures) ∙ not-false _ (e .if1 .left) in
+    none-refused _ _ _ _ _ s (counted _ _ _ _ s (start (e .before) .args .roots .now) (sym (u .all-used .ensures) ∙ not-false _ (c .if2 .left)))
 
 pub roots-refusal-spec : {M : Type 1} → statement M
 roots-refusal-spec =

@@ -6,6 +6,13 @@ use borrow.Author.Needs.{needs}
 use Rattle.elements.proofs.below.onward.Statement.{statement}
 use Rattle.elements.proofs.below.onward.Tie as tie
 
+-- where the function began, and where the element was marked and its rank known
+abbrev start : tie.After-marked → tie.Start
+start c = c .before .before .before
+
+abbrev ranked : tie.After-mark-boundary-arg → tie.After-rank-of
+ranked c = c .before .before
+
 marked-requires : tie.Need-marked-requires
 marked-requires c κs = search needs
 
@@ -22,16 +29,25 @@ returns-2 c = record { of = λ t l u root P. a-vertex _ t l _ u root _ P (sym (c
 
 mark-boundary-requires : tie.Need-mark-boundary-requires
 mark-boundary-requires c κs =
-    let p = c .before .before .before .before .before .before .before .pre in
-    boundary-ready _ _ (p .lent) _ (p .used) (polytope-ranked _ _ (p .lent) _ (p .used) (λ q. c .before .if2 .left (c .before .before .rank-of .ensures ∙ q)))
+    let r = ranked c in
+    let p = start (r .before .before) .pre in
+    boundary-ready _ _ (p .lent) _ (p .used) (polytope-ranked _ _ (p .lent) _ (p .used) (λ q. c .before .if2 .left (r .rank-of .ensures ∙ q)))
 
 returns-3 : tie.Need-returns-3
 returns-3 c =
-    let m = sym (c .before .before .before .before .before .marked .ensures) ∙ not-false _ (c .before .before .before .before .if1 .left) in
-    let rank-of = c .before .before .before .rank-of .ensures in
-    record { of = λ t l u root P. go-on _ t l _ u root _ P m (λ q. c .before .before .if2 .left (rank-of ∙ q)) _ (c .mark-boundary .ensures) }
+    let r = ranked (c .before) in
+    let m = sym (r .before .before .marked .ensures) ∙ not-false _ (r .before .if1 .left) in
+    let rank-of = r .rank-of .ensures in
+    let above = c .before .before .if2 .left in
+    record { of = λ t l u root P. go-on _ t l _ u root _ P m (λ q. above (rank-of ∙ q)) _ (c .mark-boundary .ensures) }
 
 pub onward-spec : {M : Type 1} → statement M
 onward-spec =
     tie.close
-    (tie.spec marked-requires returns rank-of-requires returns-2 mark-boundary-requires returns-3)
+    (tie.spec
+    marked-requires
+    returns
+    rank-of-requires
+    returns-2
+    mark-boundary-requires
+    returns-3)

@@ -1,5 +1,6 @@
 -- The marks, and the roots that are left, are all roots.
-use Prim.Native.Nat.{_-_, _≤_}
+use Prim.Native.Nat.{ℕ, _-_, _≤_}
+use mathlib.Core.List.{List}
 use mathlib.Core.Path.{_≡_}
 use native.Mathlib.Omega.{arith}
 use lib.ListN.{length}
@@ -9,11 +10,25 @@ use borrow.Author.Needs.{needs}
 use Rattle.elements.proofs.common.common.Statement.{statement}
 use Rattle.elements.proofs.common.common.Tie as tie
 
+-- the roots from i on are left
+record Left (es roots : List ℕ) (last : ℕ) (ws : List ℕ) (i : ℕ) : Type 0 where
+  low : i ≤ last
+  size : last ≡ length roots
+  used : AllUsed es roots
+  marks : Narrowing es roots i ws
+
 abbrev Inv-loop : tie.InvT-loop
-Inv-loop elements roots s₀ i₀ i-end s i = (i ≤ i-end) × (i-end ≡ length roots) × AllUsed elements roots × Narrowing elements roots i (s .words)
+Inv-loop elements roots s₀ i₀ i-end s i = Left elements roots i-end (s .words) i
 
 abbrev μ-loop : tie.MeasureT-loop
 μ-loop elements roots s₀ i₀ i-end s i = i-end - i
+
+-- where the function began, and where the turn did
+abbrev start : tie.After-wide Inv-loop μ-loop → tie.Start Inv-loop μ-loop
+start c = c .before .before .before .before
+
+abbrev turn : tie.After-below2 Inv-loop μ-loop → tie.At-loop Inv-loop μ-loop
+turn c = c .before .before .before .before
 
 shared-slice-read-wide : tie.Need-shared-slice-read-wide Inv-loop μ-loop
 shared-slice-read-wide c = search needs
@@ -22,12 +37,20 @@ wide-requires : tie.Need-wide-requires Inv-loop μ-loop
 wide-requires c κs = search needs
 
 below-requires : tie.Need-below-requires Inv-loop μ-loop
-below-requires c κs = roots-used-at _ _ 0 _ (c .before .before .before .before .pre .0) (c .before .before .before .before .pre .1) (c .wide .ensures .0)
+below-requires c κs =
+    let p = start c .pre in
+    roots-used-at _ _ 0 _ (p .every) (p .some) (c .wide .ensures .0)
 
 loop-holds : tie.Need-loop-holds Inv-loop μ-loop
 loop-holds c =
-    let some = c .before .before .before .before .before .pre .1 in
-    (search (needs, some), search needs, c .before .before .before .before .before .pre .0, narrowing-start _ _ _ _ some (c .before .wide .ensures .0) (c .below .ensures))
+    let p = start (c .before) .pre in
+    let some = p .some in
+    record {
+      low = search (needs, some);
+      size = search needs;
+      used = p .every;
+      marks = narrowing-start _ _ _ _ some (c .before .wide .ensures .0) (c .below .ensures);
+    }
 
 mul-wide : tie.Need-mul-wide Inv-loop μ-loop
 mul-wide c = search needs
@@ -39,7 +62,7 @@ wide-requires-2 : tie.Need-wide-requires-2 Inv-loop μ-loop
 wide-requires-2 c κs = search needs
 
 below-requires-2 : tie.Need-below-requires-2 Inv-loop μ-loop
-below-requires-2 c κs = roots-used-at _ _ _ _ (c .before .before .before .loop .inv .2) (search needs) (c .wide2 .ensures .0)
+below-requires-2 c κs = roots-used-at _ _ _ _ (c .before .before .before .loop .inv .used) (search needs) (c .wide2 .ensures .0)
 
 both-requires : tie.Need-both-requires Inv-loop μ-loop
 both-requires c κs = search needs
@@ -52,12 +75,17 @@ loop-less c = search needs
 
 loop-again : tie.Need-loop-again Inv-loop μ-loop
 loop-again c =
-    let at = c .before .before .before .before .before .loop in
-    let wide = c .before .before .wide2 .ensures .0 in
-    (search needs, search needs, at .inv .2, narrowing-next _ _ _ _ _ _ _ (search needs) wide (c .before .below2 .ensures) (c .both .ensures) (at .inv .3))
+    let b = c .before in
+    let at = turn b .loop .inv in
+    record {
+      low = search needs;
+      size = search needs;
+      used = at .used;
+      marks = narrowing-next _ _ _ _ _ _ _ (search needs) (b .before .wide2 .ensures .0) (b .below2 .ensures) (c .both .ensures) (at .marks);
+    }
 
 returns : tie.Need-returns Inv-loop μ-loop
-returns c = narrowing-end _ _ _ _ (omega arith) (c .before .loop .inv .3)
+returns c = narrowing-end _ _ _ _ (omega arith) (c .before .loop .inv .marks)
 
 pub common-spec : {M : Type 1} → statement M
 common-spec =

@@ -1,5 +1,6 @@
 -- The words before w are of both, those from w on as they came.
-use Prim.Native.Nat.{_-_, _≤_}
+use Prim.Native.Nat.{ℕ, _-_, _≤_}
+use mathlib.Core.List.{List}
 use mathlib.Core.Path.{_≡_}
 use native.Mathlib.Omega.{arith}
 use lib.ListN.{length}
@@ -8,14 +9,21 @@ use borrow.Author.Needs.{needs}
 use Rattle.elements.proofs.marks.both.Statement.{statement}
 use Rattle.elements.proofs.marks.both.Tie as tie
 
+record Met (old other new : List ℕ) (w : ℕ) : Type 0 where
+  so-far : w ≤ 8
+  old-long : length old ≡ 8
+  long : length new ≡ 8
+  other-long : length other ≡ 8
+  meeting : Meeting old other new w
+
 abbrev Inv-loop : tie.InvT-loop
-Inv-loop words₀ other w₀ words w = (w ≤ 8) × (length words₀ ≡ 8) × (length words ≡ 8) × (length other ≡ 8) × Meeting words₀ other words w
+Inv-loop words₀ other w₀ words w = Met words₀ other words w
 
 abbrev μ-loop : tie.MeasureT-loop
 μ-loop words₀ other w₀ words w = 8 - w
 
 loop-holds : tie.Need-loop-holds Inv-loop μ-loop
-loop-holds c = (search needs, search needs, search needs, search needs, meeting-start _ _ (search needs))
+loop-holds c = record { so-far = search needs; old-long = search needs; long = search needs; other-long = search needs; meeting = meeting-start _ _ (search needs) }
 
 mul-words : tie.Need-mul-words Inv-loop μ-loop
 mul-words c = search needs
@@ -42,10 +50,18 @@ loop-less : tie.Need-loop-less Inv-loop μ-loop
 loop-less c = search needs
 
 loop-again : tie.Need-loop-again Inv-loop μ-loop
-loop-again c = (search needs, search needs, search needs, search needs, meeting-next _ _ _ _ (search needs) (c .before .loop .inv .4))
+loop-again c =
+    record {
+      so-far = search needs;
+      old-long = search needs;
+      long = search needs;
+      other-long = search needs;
+      meeting = meeting-next _ _ _ _ (search needs) (c .before .loop .inv .meeting);
+    }
 
 returns : tie.Need-returns Inv-loop μ-loop
-returns c = meeting-end _ _ _ _ (omega arith) (c .before .loop .inv .1) (c .before .loop .inv .4)
+returns c =
+    let at = c .before .loop .inv in meeting-end _ _ _ _ (omega arith) (at .old-long) (at .meeting)
 
 pub both-spec : {M : Type 1} → statement M
 both-spec =

@@ -1,6 +1,5 @@
--- What is above the digit is shifted out, so the zeros are those from it down.
-use native.Mathlib.Omega.{arith}
-use Rattle.elements.proofs.MarkLaws.{down-to}
+-- What is above the digit is shifted out, so the zeros are those from it down, and the digit below them is the mark.
+use Rattle.elements.proofs.MarkLaws.{down-to-mark, down-to-first}
 use borrow.Author.Needs.{needs}
 use Rattle.elements.proofs.marks.down_to.Statement.{statement}
 use Rattle.elements.proofs.marks.down_to.Tie as tie
@@ -27,10 +26,10 @@ sub-result-2 : tie.Need-sub-result-2
 sub-result-2 c = search needs
 
 returns : tie.Need-returns
-returns c = down-to _ _ _ _ (c .before .zeros-above .ensures .0) (omega arith) (omega arith) (omega arith)
+returns c = down-to-mark _ _ _ (c .before .zeros-above .ensures .zeros) (c .if1 .taken)
 
 returns-2 : tie.Need-returns-2
-returns-2 c = down-to _ _ _ _ (c .before .zeros-above .ensures .0) (omega arith) (omega arith) (omega arith)
+returns-2 c = down-to-first _ _ _ (c .before .zeros-above .ensures .zeros) (c .if1 .left)
 
 pub down-to-spec : {M : Type 1} → statement M
 down-to-spec =

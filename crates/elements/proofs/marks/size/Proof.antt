@@ -1,5 +1,6 @@
 -- What is counted, and the marks of the words that are left, are all marks.
-use Prim.Native.Nat.{_-_, _≤_}
+use Prim.Native.Nat.{ℕ, _-_, _≤_}
+use mathlib.Core.List.{List}
 use mathlib.Core.Path.{_≡_}
 use native.Mathlib.Omega.{arith}
 use lib.ListN.{length}
@@ -8,14 +9,19 @@ use borrow.Author.Needs.{needs}
 use Rattle.elements.proofs.marks.size.Statement.{statement}
 use Rattle.elements.proofs.marks.size.Tie as tie
 
+record Counted (ws : List ℕ) (n w : ℕ) : Type 0 where
+  so-far : w ≤ 8
+  long : length ws ≡ 8
+  counting : Counting ws n w
+
 abbrev Inv-loop : tie.InvT-loop
-Inv-loop words n₀ w₀ n w = (w ≤ 8) × (length words ≡ 8) × Counting words n w
+Inv-loop words n₀ w₀ n w = Counted words n w
 
 abbrev μ-loop : tie.MeasureT-loop
 μ-loop words n₀ w₀ n w = 8 - w
 
 loop-holds : tie.Need-loop-holds Inv-loop μ-loop
-loop-holds c = (search needs, search needs, counting-start _)
+loop-holds c = record { so-far = search needs; long = search needs; counting = counting-start _ }
 
 mul-ones-of : tie.Need-mul-ones-of Inv-loop μ-loop
 mul-ones-of c = search needs
@@ -36,10 +42,11 @@ loop-less : tie.Need-loop-less Inv-loop μ-loop
 loop-less c = search needs
 
 loop-again : tie.Need-loop-again Inv-loop μ-loop
-loop-again c = (search needs, search needs, counting-next _ _ _ _ (search needs) (c .ones-of .ensures) (c .before .before .loop .inv .2))
+loop-again c =
+    record { so-far = search needs; long = search needs; counting = counting-next _ _ _ _ (search needs) (c .ones-of .ensures) (c .before .before .loop .inv .counting) }
 
 returns : tie.Need-returns Inv-loop μ-loop
-returns c = counting-end _ _ _ (omega arith) (c .before .loop .inv .2)
+returns c = counting-end _ _ _ (omega arith) (c .before .loop .inv .counting)
 
 pub size-spec : {M : Type 1} → statement M
 size-spec =

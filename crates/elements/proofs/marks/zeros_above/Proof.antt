@@ -9,7 +9,7 @@ cast-result : tie.Need-cast-result
 cast-result c = record { fits = omega (arith, leading-le 64 (c .args .x)) }
 
 returns : tie.Need-returns
-returns c = (refl, leading-le 64 (c .args .x))
+returns c = record { zeros = refl; most = leading-le 64 (c .args .x) }
 
 pub zeros-above-spec : {M : Type 1} → statement M
 zeros-above-spec = tie.close (tie.spec cast-result returns)

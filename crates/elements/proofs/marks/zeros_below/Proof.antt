@@ -9,7 +9,7 @@ cast-result : tie.Need-cast-result
 cast-result c = record { fits = omega (arith, trailing-le 64 (c .args .x)) }
 
 returns : tie.Need-returns
-returns c = (refl, trailing-le 64 (c .args .x))
+returns c = record { zeros = refl; most = trailing-le 64 (c .args .x) }
 
 pub zeros-below-spec : {M : Type 1} → statement M
 zeros-below-spec = tie.close (tie.spec cast-result returns)

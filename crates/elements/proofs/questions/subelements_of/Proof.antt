@@ -1,10 +1,14 @@
--- The refusals in their order; then the members of the marks are the sub-elements.
-use Rattle.elements.specs.Marks.{members}
+-- The refusals in their order; then the numbers of the marks are the sub-elements.
+use Rattle.elements.specs.Marks.{markedNumbers}
 use Rattle.elements.proofs.BelowLoops.{sub-elements-marked}
 use Rattle.elements.proofs.QuestionReplies.{sub-elements, root-refused, root-used, root-answered}
 use borrow.Author.Needs.{needs}
 use Rattle.elements.proofs.questions.subelements_of.Statement.{statement}
 use Rattle.elements.proofs.questions.subelements_of.Tie as tie
+
+-- where the marks were made
+abbrev marks : tie.After-list-marks → tie.After-below
+marks c = c .before .before
 
 root-refusal-requires : tie.Need-root-refusal-requires
 root-refusal-requires c κs = search needs
@@ -23,10 +27,11 @@ same-length c = search needs
 
 returns-2 : tie.Need-returns-2
 returns-2 c =
-    let f = c .before .before .before .before .before .before .root-refusal .ensures in
-    let on = c .before .before .before .before .before .if1 .left in
-    root-answered _ _ _ _ _ _ f on sub-elements _ (members (c .before .before .before .before .below .result .words)) _ (c .before .before .list-marks .ensures)
-    (λ t l u. sub-elements-marked _ t _ _ l u (c .before .before .before .before .below .ensures))
+    let l = c .before .before in
+    let s = marks l in
+    let on = s .before in
+    root-answered _ _ _ _ _ _ (on .before .root-refusal .ensures) (on .if1 .left) sub-elements _ (markedNumbers (s .below .result .words)) _ (l .list-marks .ensures)
+    (λ t l u. sub-elements-marked _ t _ _ l u (s .below .ensures))
 
 pub subelements-of-spec : {M : Type 1} → statement M
 subelements-of-spec =

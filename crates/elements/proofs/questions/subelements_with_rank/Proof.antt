@@ -1,5 +1,5 @@
--- The refusals in their order; then the members of the marks are the sub-elements of the rank.
-use Rattle.elements.specs.Marks.{members}
+-- The refusals in their order; then the numbers of the marks are the sub-elements of the rank.
+use Rattle.elements.specs.Marks.{markedNumbers}
 use Rattle.elements.proofs.BelowLoops.{lent-long}
 use Rattle.elements.proofs.RankLoops.{with-rank-marked}
 use Rattle.elements.proofs.QuestionReplies.{with-rank, root-refused, root-used, root-answered}
@@ -7,11 +7,20 @@ use borrow.Author.Needs.{needs}
 use Rattle.elements.proofs.questions.subelements_with_rank.Statement.{statement}
 use Rattle.elements.proofs.questions.subelements_with_rank.Tie as tie
 
+-- where the function began, and where those of the rank were known
+abbrev start : tie.After-slice-known → tie.Start
+start c = c .before .before .before .before .before
+
+abbrev ranked : tie.After-list-marks → tie.After-with-rank
+ranked c = c .before .before
+
 root-refusal-requires : tie.Need-root-refusal-requires
 root-refusal-requires c κs = search needs
 
 returns : tie.Need-returns
-returns c = root-refused _ _ _ _ _ _ (c .before .root-refusal .ensures) (with-rank (c .before .before .before .before .before .before .before .args .rank)) _ (c .if1 .taken)
+returns c =
+    let r = c .before in
+    root-refused _ _ _ _ _ _ (r .root-refusal .ensures) (with-rank (start (r .before) .args .rank)) _ (c .if1 .taken)
 
 below-requires : tie.Need-below-requires
 below-requires c κs = root-used _ _ _ _ _ _ (c .before .root-refusal .ensures) (c .if1 .left)
@@ -27,11 +36,13 @@ same-length c = search needs
 
 returns-2 : tie.Need-returns-2
 returns-2 c =
-    let a = c .before .before .before .before .before .before .before .before .before .before .before .before .before .args in
-    let f = c .before .before .before .before .before .before .before .root-refusal .ensures in
-    let on = c .before .before .before .before .before .before .if1 .left in
-    root-answered _ _ _ _ _ _ f on (with-rank (a .rank)) _ (members (c .before .before .before .before .with-rank .result .words)) _ (c .before .before .list-marks .ensures)
-    (λ t l u. with-rank-marked _ t l _ u _ (c .before .before .before .before .before .below .ensures) _ _ (c .before .before .before .before .with-rank .ensures))
+    let l = c .before .before in
+    let k = ranked l in
+    let s = k .before in
+    let on = s .before in
+    let r = on .before in
+    root-answered _ _ _ _ _ _ (r .root-refusal .ensures) (on .if1 .left) (with-rank (start (r .before) .args .rank)) _ (markedNumbers (k .with-rank .result .words)) _ (l .list-marks .ensures)
+    (λ t l u. with-rank-marked _ t l _ u _ (s .below .ensures) _ _ (k .with-rank .ensures))
 
 pub subelements-with-rank-spec : {M : Type 1} → statement M
 subelements-with-rank-spec =

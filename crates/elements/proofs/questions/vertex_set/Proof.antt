@@ -1,7 +1,7 @@
 -- The refusals in their order; then what the vertex elements name is the vertex set.
 use mathlib.Core.List.{map}
 use mathlib.Core.Path.{refl}
-use Rattle.elements.specs.Marks.{members}
+use Rattle.elements.specs.Marks.{markedNumbers}
 use Rattle.elements.specs.Ranks.{vertexWord}
 use Rattle.elements.proofs.BelowLoops.{lent-long}
 use Rattle.elements.proofs.RankLoops.{vertices-named}
@@ -9,6 +9,13 @@ use Rattle.elements.proofs.QuestionReplies.{vertices, root-refused, roo
 use borrow.Author.Needs.{needs}
 use Rattle.elements.proofs.questions.vertex_set.Statement.{statement}
 use Rattle.elements.proofs.questions.vertex_set.Tie as tie
+
+-- where the function began, and where the vertex elements were known
+abbrev start : tie.After-slice-known → tie.Start
+start c = c .before .before .before .before .before
+
+abbrev ranked : tie.After-list-vertices → tie.After-with-rank
+ranked c = c .before .before
 
 root-refusal-requires : tie.Need-root-refusal-requires
 root-refusal-requires c κs = search needs
@@ -23,18 +30,23 @@ with-rank-requires : tie.Need-with-rank-requires
 with-rank-requires c κs = lent-long _ _ (root-used _ _ _ _ _ _ (c .before .before .root-refusal .ensures) (c .before .if1 .left) .lent)
 
 list-vertices-requires : tie.Need-list-vertices-requires
-list-vertices-requires c κs = lent-long _ _ (root-used _ _ _ _ _ _ (c .before .before .before .before .root-refusal .ensures) (c .before .before .before .if1 .left) .lent)
+list-vertices-requires c κs =
+    let on = c .before .before .before in
+    lent-long _ _ (root-used _ _ _ _ _ _ (on .before .root-refusal .ensures) (on .if1 .left) .lent)
 
 same-length : tie.Need-same-length
 same-length c = search needs
 
 returns-2 : tie.Need-returns-2
 returns-2 c =
-    let a = c .before .before .before .before .before .before .before .before .before .before .before .before .before .args in
-    let f = c .before .before .before .before .before .before .before .root-refusal .ensures in
-    let xs = members (c .before .before .before .before .with-rank .result .words) in
-    root-answered _ _ _ _ _ _ f (c .before .before .before .before .before .before .if1 .left) vertices _ (map (vertexWord (a .elements .now)) xs) _ (c .before .before .list-vertices .ensures)
-    (λ t l u. vertices-named _ t l _ u _ (c .before .before .before .before .before .below .ensures) _ _ (c .before .before .before .before .with-rank .ensures) refl)
+    let l = c .before .before in
+    let k = ranked l in
+    let s = k .before in
+    let on = s .before in
+    let r = on .before in
+    let names = map (vertexWord (start (r .before) .args .elements .now)) (markedNumbers (k .with-rank .result .words)) in
+    root-answered _ _ _ _ _ _ (r .root-refusal .ensures) (on .if1 .left) vertices _ names _ (l .list-vertices .ensures)
+    (λ t l u. vertices-named _ t l _ u _ (s .below .ensures) _ _ (k .with-rank .ensures) refl)
 
 pub vertex-set-spec : {M : Type 1} → statement M
 vertex-set-spec =

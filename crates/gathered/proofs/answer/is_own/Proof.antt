@@ -2,6 +2,7 @@
 use Prim.Native.Nat.{ℕ, _+_, _-_, _*_, _≤_, _<_}
 use mathlib.Core.Bool.{false≢true}
 use mathlib.Core.Path.{_≡_, refl, sym, _∙_}
+use mathlib.Core.List.{List}
 use native.Mathlib.Omega.{arith}
 use lib.ListN.{getD}
 use borrow.Author.Count.{below-none, below-more}
@@ -9,8 +10,12 @@ use borrow.Author.Needs.{needs}
 use Rattle.gathered.proofs.answer.is_own.Statement.{statement}
 use Rattle.gathered.proofs.answer.is_own.Tie as tie
 
+record SoFar (es : List ℕ) (e : ℕ) (set : List ℕ) (n j : ℕ) : Type 0 where
+  pub within : j ≤ n
+  pub same : (k : ℕ) → k < j → getD set k 0 ≡ getD es (e * 36 + (4 + k)) 0
+
 abbrev Inv-loop : tie.InvT-loop
-Inv-loop elements e set n j₀ j = (j ≤ n) × ((k : ℕ) → k < j → getD set k 0 ≡ getD elements (e .0 * 36 + (4 + k)) 0)
+Inv-loop elements e set n j₀ j = SoFar elements (e .0) set n j
 
 abbrev μ-loop : tie.MeasureT-loop
 μ-loop elements e set n j₀ j = n - j
@@ -19,10 +24,10 @@ size-of-requires : tie.Need-size-of-requires Inv-loop μ-loop
 size-of-requires c κs = search needs
 
 returns : tie.Need-returns Inv-loop μ-loop
-returns c = (λ h. absurd (false≢true h), λ own. absurd (c .if1 .taken (c .before .size-of .ensures ∙ own .size)))
+returns c = record { only = λ h. absurd (false≢true h); wherever = λ own. absurd (c .if1 .taken (c .before .size-of .ensures ∙ own .size)) }
 
 loop-holds : tie.Need-loop-holds Inv-loop μ-loop
-loop-holds c = (search needs, below-none _)
+loop-holds c = record { within = search needs; same = below-none _ }
 
 boundary-at-requires : tie.Need-boundary-at-requires Inv-loop μ-loop
 boundary-at-requires c κs = search needs
@@ -36,7 +41,11 @@ element-copy-out-if2 c = search needs
 returns-2 : tie.Need-returns-2 Inv-loop μ-loop
 returns-2 c =
     let here = c .before .before in
-    (λ h. absurd (false≢true h), λ own. absurd (c .if2 .taken (here .boundary-at .ensures ∙ sym (own .same (here .before .before .loop .j) (here .before .loop-test .taken)))))
+    let round = here .before in
+    record {
+      only = λ h. absurd (false≢true h);
+      wherever = λ own. absurd (c .if2 .taken (here .boundary-at .ensures ∙ sym (own .same (round .before .loop .j) (round .loop-test .taken))));
+    }
 
 add-j : tie.Need-add-j Inv-loop μ-loop
 add-j c = search needs
@@ -46,13 +55,18 @@ loop-less c = search needs
 
 loop-again : tie.Need-loop-again Inv-loop μ-loop
 loop-again c =
-    let round = c .before .before .before .before in
-    (search needs, below-more _ (round .loop .j) (round .loop .inv .1) (sym (c .if2 .left) ∙ c .before .before .boundary-at .ensures))
+    let here = c .before .before in
+    let at = here .before .before .loop in
+    record { within = search needs; same = below-more _ (at .j) (at .inv .same) (sym (c .if2 .left) ∙ here .boundary-at .ensures) }
 
 returns-3 : tie.Need-returns-3 Inv-loop μ-loop
 returns-3 c =
     let round = c .before in
-    (λ h. record { size = sym (round .before .before .size-of .ensures) ∙ round .before .if1 .left; same = λ k l. round .loop .inv .1 k (omega arith) }, λ own. refl)
+    let counted = round .before in
+    record {
+      only = λ h. record { size = sym (counted .before .size-of .ensures) ∙ counted .if1 .left; same = λ k l. round .loop .inv .same k (omega arith) };
+      wherever = λ own. refl;
+    }
 
 pub is-own-spec : {M : Type 1} → statement M
 is-own-spec =

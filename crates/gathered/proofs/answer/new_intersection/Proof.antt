@@ -5,22 +5,36 @@ use borrow.Author.Needs.{needs}
 use Rattle.gathered.proofs.answer.new_intersection.Statement.{statement}
 use Rattle.gathered.proofs.answer.new_intersection.Tie as tie
 
+-- where the function began, and where the hyperplane and the size are read
+abbrev start : tie.After-number → tie.Start
+start c = c .before .before .before .before
+
+abbrev sized : tie.After-add-polytope-arg3 → tie.After-wide
+sized c = c .before .before .before
+
+abbrev named : tie.After-wide → tie.After-plane-of-intersection
+named c = c .before .before
+
 plane-of-intersection-requires : tie.Need-plane-of-intersection-requires
-plane-of-intersection-requires c κs = plane-asks (c .before .before .before .before .before .pre .0)
+plane-of-intersection-requires c κs = plane-asks (start (c .before) .pre)
 
 element-copy-out-wide : tie.Need-element-copy-out-wide
-element-copy-out-wide c = omega (arith, c .before .before .before .before .before .before .pre .0 .fit .sized .long)
+element-copy-out-wide c = omega (arith, start (c .before .before) .pre .fit .sized .long)
 
 wide-requires : tie.Need-wide-requires
 wide-requires c κs = search needs
 
 sub-add-polytope : tie.Need-sub-add-polytope
-sub-add-polytope c = let h = c .before .before .before .before .before .before .before .before .before .before .before .pre .0 .fit .some in search needs
+sub-add-polytope c =
+    let plane = named (sized c) in
+    let h = start (plane .before .before) .pre .fit .some in
+    search needs
 
 add-polytope-requires : tie.Need-add-polytope-requires
 add-polytope-requires c κs =
-    let asked = intersection-asks (c .before .before .before .before .before .before .before .before .before .before .before .pre .0) _ (c .before .before .before .wide .ensures .0) in
-    (asked .0, asked .1, asked .2, asked .3, asked .4, asked .5, asked .6, asked .7, c .before .before .before .before .before .before .before .before .before .before .before .pre .1)
+    let size = sized c in
+    let plane = named size in
+    intersection-asks (start (plane .before .before) .pre) _ (size .wide .ensures .0)
 
 same-length : tie.Need-same-length
 same-length c = search needs
@@ -32,7 +46,10 @@ same-length-3 : tie.Need-same-length-3
 same-length-3 c = search needs
 
 returns : tie.Need-returns
-returns c = (intersection-made _ _ (c .before .before .before .before .before .before .before .before .before .before .wide .ensures .0) (c .before .before .before .before .before .before .before .before .before .before .before .before .plane-of-intersection .ensures) (c .before .before .before .before .before .before .add-polytope .ensures .0), c .before .before .before .before .before .before .add-polytope .ensures .1)
+returns c =
+    let added = c .before .before .before .before .before .before in
+    let size = sized (added .before) in
+    intersection-made _ _ (size .wide .ensures .0) (named size .plane-of-intersection .ensures) (added .add-polytope .ensures .0) (added .add-polytope .ensures .1)
 
 pub new-intersection-spec : {M : Type 1} → statement M
 new-intersection-spec =

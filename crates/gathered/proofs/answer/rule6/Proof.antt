@@ -5,20 +5,40 @@ use borrow.Author.Needs.{needs}
 use Rattle.gathered.proofs.answer.rule6.Statement.{statement}
 use Rattle.gathered.proofs.answer.rule6.Tie as tie
 
+-- where the function began; the one flush answer; no flush answer, and the intersection worked out and known
+abbrev start : tie.After-flushes → tie.Start
+start c = c .before .before .before .before
+
+abbrev one : tie.After-rule7-arg5 → tie.After-wide
+one c = c .before .before .before .before .before
+
+abbrev none : tie.After-new-intersection-arg3 → tie.Else2
+none c = c .before .before .before
+
+abbrev worked-out : tie.After-slice-known9 → tie.After-new-intersection
+worked-out c = c .before .before .before .before .before .before
+
+abbrev known : tie.After-rule7-arg10 → tie.After-middle2
+known c = c .before .before .before .before .before .before
+
 element-copy-out-flushes : tie.Need-element-copy-out-flushes
 element-copy-out-flushes c = omega (arith, c .before .before .before .pre .0 .fit .sized .flush)
 
 returns : tie.Need-returns
-returns c = (rule6-flush (c .if1 .taken), c .before .before .before .before .before .pre .1)
+returns c = (rule6-flush (c .if1 .taken), start (c .before) .pre .1)
 
 element-copy-out-wide : tie.Need-element-copy-out-wide
-element-copy-out-wide c = omega (arith, c .before .before .before .before .before .before .pre .0 .fit .sized .flush)
+element-copy-out-wide c = omega (arith, start (c .before .before) .pre .0 .fit .sized .flush)
 
 wide-requires : tie.Need-wide-requires
 wide-requires c κs = search needs
 
 rule7-requires : tie.Need-rule7-requires
-rule7-requires c κs = (flush-ready (c .before .before .before .before .before .before .before .if2 .taken) _ (c .before .before .before .before .before .wide .ensures .0) (c .before .before .before .before .before .before .before .before .before .before .before .before .before .pre .0), c .before .before .before .before .before .before .before .before .before .before .before .before .before .pre .1)
+rule7-requires c κs =
+    let read = one c in
+    let single = read .before .before in
+    let claims = start (single .before .before) .pre in
+    flush-ready (single .if2 .taken) _ (read .wide .ensures .0) (claims .0) (claims .1)
 
 same-length : tie.Need-same-length
 same-length c = search needs
@@ -30,10 +50,16 @@ same-length-3 : tie.Need-same-length-3
 same-length-3 c = search needs
 
 returns-2 : tie.Need-returns-2
-returns-2 c = (rule6-one (c .before .before .before .before .before .before .before .before .before .before .before .before .before .before .if2 .taken) _ (c .before .before .before .before .before .before .before .before .before .before .before .before .wide .ensures .0) (c .before .before .before .before .before .before .rule7 .ensures .0), c .before .before .before .before .before .before .rule7 .ensures .1)
+returns-2 c =
+    let answered = c .before .before .before .before .before .before in
+    let read = one (answered .before) in
+    let done = answered .rule7 .ensures in
+    (rule6-one (read .before .before .if2 .taken) _ (read .wide .ensures .0) done, done .indexed)
 
 new-intersection-requires : tie.Need-new-intersection-requires
-new-intersection-requires c κs = (intersection-ready (c .before .before .before .before .before .before .before .before .before .pre .0), c .before .before .before .before .before .before .before .before .before .pre .1)
+new-intersection-requires c κs =
+    let claims = start (none c .before .before) .pre in
+    intersection-ready (claims .0) (claims .1)
 
 enum-known-middle : tie.Need-enum-known-middle
 enum-known-middle c = search needs
@@ -42,7 +68,12 @@ enum-known-middle-2 : tie.Need-enum-known-middle-2
 enum-known-middle-2 c = search needs
 
 rule7-requires-2 : tie.Need-rule7-requires-2
-rule7-requires-2 c κs = (intersection-known (c .before .before .before .before .before .before .before .before .before .before .before .before .before .before .before .before .before .before .before .if1 .left) (c .before .before .before .before .before .before .before .before .before .before .before .before .before .before .before .before .before .before .if2 .left) (c .before .before .before .before .before .before .before .before .before .before .before .before .before .before .new-intersection .ensures .0) _ (c .before .before .before .before .before .before .middle2 .given .1) (c .before .before .before .before .before .before .before .before .before .before .before .before .before .before .before .before .before .before .before .before .before .before .before .before .pre .0), c .before .before .before .before .before .before .before .before .before .before .before .before .before .before .new-intersection .ensures .1)
+rule7-requires-2 c κs =
+    let middle = known c in
+    let worked = worked-out (middle .before .before) in
+    let asked = none (worked .before) in
+    let claims = start (asked .before .before) .pre in
+    intersection-known (asked .before .if1 .left) (asked .if2 .left) (worked .new-intersection .ensures) _ (middle .middle2 .given .1) (claims .0)
 
 same-length-4 : tie.Need-same-length-4
 same-length-4 c = search needs
@@ -54,7 +85,12 @@ same-length-6 : tie.Need-same-length-6
 same-length-6 c = search needs
 
 returns-3 : tie.Need-returns-3
-returns-3 c = (intersection-refused (c .before .before .before .before .before .before .before .before .before .before .before .before .before .before .if1 .left) (c .before .before .before .before .before .before .before .before .before .before .before .before .before .if2 .left) (c .before .before .before .before .before .before .before .before .before .new-intersection .ensures .0) _ (c .before .middle .given .1), c .before .before .before .before .before .before .before .before .before .new-intersection .ensures .1)
+returns-3 c =
+    let refused = c .before in
+    let worked = worked-out (refused .before .before) in
+    let asked = none (worked .before) in
+    let made = worked .new-intersection .ensures in
+    (intersection-refused (asked .before .if1 .left) (asked .if2 .left) made _ (refused .middle .given .1), made .indexed)
 
 same-length-7 : tie.Need-same-length-7
 same-length-7 c = search needs
@@ -66,7 +102,13 @@ same-length-9 : tie.Need-same-length-9
 same-length-9 c = search needs
 
 returns-4 : tie.Need-returns-4
-returns-4 c = (rule6-none (c .before .before .before .before .before .before .before .before .before .before .before .before .before .before .before .before .before .before .before .before .before .before .before .before .before .before .if1 .left) (c .before .before .before .before .before .before .before .before .before .before .before .before .before .before .before .before .before .before .before .before .before .before .before .before .before .if2 .left) (c .before .before .before .before .before .before .before .before .before .before .before .before .before .before .before .before .before .before .before .before .before .new-intersection .ensures .0) _ (c .before .before .before .before .before .before .before .before .before .before .before .before .before .middle2 .given .1) (c .before .before .before .before .before .before .rule72 .ensures .0), c .before .before .before .before .before .before .rule72 .ensures .1)
+returns-4 c =
+    let answered = c .before .before .before .before .before .before in
+    let middle = known (answered .before) in
+    let worked = worked-out (middle .before .before) in
+    let asked = none (worked .before) in
+    let done = answered .rule72 .ensures in
+    (rule6-none (asked .before .if1 .left) (asked .if2 .left) (worked .new-intersection .ensures) _ (middle .middle2 .given .1) done, done .indexed)
 
 pub rule6-spec : {M : Type 1} → statement M
 rule6-spec =

@@ -6,45 +6,69 @@ use borrow.Author.Needs.{needs}
 use Rattle.gathered.proofs.answer.side_of_cut.Statement.{statement}
 use Rattle.gathered.proofs.answer.side_of_cut.Tie as tie
 
+-- where the function began; the side is kept; its hyperplane, its mark, its set with the intersection, and the size of that are read
+abbrev start : tie.Else1 → tie.Start
+start c = c .before .before .before .before
+
+abbrev plane : tie.After-is-primordial → tie.After-plane-of
+plane c = c .before .before
+
+abbrev kept : tie.After-plane-of → tie.Else1
+kept c = c .before .before
+
+abbrev mark : tie.After-include → tie.After-is-primordial
+mark c = c .before .before
+
+abbrev with : tie.After-wide → tie.After-include
+with c = c .before .before
+
+abbrev sized : tie.After-is-own-arg2 → tie.After-wide
+sized c = c .before .before
+
+abbrev own : tie.After-add-polytope-arg4 → tie.After-is-own
+own c = c .before .before .before .before .before
+
+-- where the function began, from where the set is ready
+abbrev first : tie.After-include → tie.Start
+first c = start (kept (plane (mark c)))
+
 returns : tie.Need-returns
-returns c = (side-removed (not-true _ (c .if1 .taken)), c .before .before .before .before .pre .1)
+returns c = side-removed (c .before .before .before .before .pre) (not-true _ (c .if1 .taken))
 
 plane-of-requires : tie.Need-plane-of-requires
-plane-of-requires c κs = reads-ask (c .before .before .before .before .before .pre .0)
+plane-of-requires c κs = reads-ask (start (c .before) .pre)
 
 is-primordial-requires : tie.Need-is-primordial-requires
-is-primordial-requires c κs = reads-ask (c .before .before .before .before .before .before .before .pre .0)
+is-primordial-requires c κs = reads-ask (start (kept (c .before)) .pre)
 
 include-requires : tie.Need-include-requires
-include-requires c κs = including-asks (c .before .before .before .before .before .before .before .before .before .pre .0)
+include-requires c κs = including-asks (start (kept (plane (c .before))) .pre)
 
 element-copy-out-wide : tie.Need-element-copy-out-wide
-element-copy-out-wide c = omega (arith, c .include .ensures .sized 32 (c .before .before .before .before .before .before .before .before .before .before .pre .0 .fit .sized) .long)
+element-copy-out-wide c = omega (arith, c .include .ensures .sized 32 (first c .pre .fit .sized) .long)
 
 wide-requires : tie.Need-wide-requires
 wide-requires c κs = search needs
 
 is-own-requires : tie.Need-is-own-requires
-is-own-requires c κs = own-asks (c .before .before .before .before .before .before .before .before .before .before .before .before .before .before .pre .0)
+is-own-requires c κs = own-asks (first (with (sized c)) .pre)
 
 same-length : tie.Need-same-length
 same-length c = search needs
 
 returns-2 : tie.Need-returns-2
 returns-2 c =
-    let own = c .before in
-    let read = own .before .before .before in
-    let with = read .before .before in
-    let kept = with .before .before .before .before .before .before in
-    (side-own _ _ (read .wide .ensures .0) (not-false _ (kept .if1 .left)) (with .include .ensures) (own .is-own .ensures .0 (c .if2 .taken)), kept .before .before .before .before .pre .1)
+    let told = c .before in
+    let size = sized (told .before) in
+    let set = with size in
+    let keep = kept (plane (mark set)) in
+    side-own (start keep .pre) _ _ (size .wide .ensures .0) (not-false _ (keep .if1 .left)) (set .include .ensures) (told .is-own .ensures .only (c .if2 .taken))
 
 add-polytope-requires : tie.Need-add-polytope-requires
 add-polytope-requires c κs =
-    let read = c .before .before .before .before .before .before .before .before in
-    let with = read .before .before in
-    let start = with .before .before .before .before .before .before .before .before .before .before in
-    let asked = side-asks (start .pre .0) _ (with .include .ensures) _ (read .wide .ensures .0) in
-    (asked .0, asked .1, asked .2, asked .3, asked .4, asked .5, asked .6, asked .7, start .pre .1)
+    let size = sized (own c .before) in
+    let set = with size in
+    side-asks (first set .pre) _ (set .include .ensures) _ (size .wide .ensures .0)
 
 same-length-2 : tie.Need-same-length-2
 same-length-2 c = search needs
@@ -57,16 +81,13 @@ same-length-4 c = search needs
 
 returns-3 : tie.Need-returns-3
 returns-3 c =
-    let made = c .before .before .before .before .before .before in
-    let read = made .before .before .before .before .before .before .before .before .before in
-    let with = read .before .before in
-    let mark = with .before .before in
-    let plane = mark .before .before in
-    let kept = plane .before .before in (
-      side-kept _ _ _ _ (read .wide .ensures .0) (not-false _ (kept .if1 .left)) (plane .plane-of .ensures) (mark .is-primordial .ensures) (with .include .ensures)
-          (made .add-polytope .ensures .0),
-      made .add-polytope .ensures .1,
-    )
+    let added = c .before .before .before .before .before .before in
+    let size = sized (own (added .before) .before) in
+    let set = with size in
+    let marked = mark set in
+    let named = plane marked in
+    side-kept _ _ _ _ (size .wide .ensures .0) (not-false _ (kept named .if1 .left)) (named .plane-of .ensures) (marked .is-primordial .ensures) (set .include .ensures)
+    (added .add-polytope .ensures .0) (added .add-polytope .ensures .1)
 
 pub side-of-cut-spec : {M : Type 1} → statement M
 side-of-cut-spec =

@@ -1,8 +1,15 @@
 -- A flush answer is counted; the parts of another go to their sets.
-use Rattle.gathered.proofs.Gathering.{at-most, gather-flush, gather-sides, sides-room}
+use Rattle.gathered.proofs.Gathering.{gather-flush, gather-sides, include-ready, sides-room}
 use borrow.Author.Needs.{needs}
 use Rattle.gathered.proofs.sets.gather_in.Statement.{statement}
 use Rattle.gathered.proofs.sets.gather_in.Tie as tie
+
+-- where the answer is known to be no flush one
+abbrev told : tie.After-include-arg → tie.After-a
+told c = c .before .before
+
+abbrev start : tie.After-a → tie.Start
+start c = c .before .before
 
 enum-told : tie.Need-enum-told
 enum-told c = search needs
@@ -27,38 +34,37 @@ enum-known-a c = search needs
 
 include-requires : tie.Need-include-requires
 include-requires c κs =
-    let told = c .before .before in
-    let start = told .before .before in
-    (at-most 31 32 (search needs) (start .pre .0 .inside), sides-room _ _ _ (told .a .given .1) (start .pre .2) .0)
+    let sides = told c in
+    let claims = start sides .pre in
+    include-ready (claims .0 .inside) (sides-room _ _ _ (sides .a .given .1) (claims .2) .inside)
 
 include-requires-2 : tie.Need-include-requires-2
 include-requires-2 c κs =
-    let told = c .before .before .before .before in
-    let start = told .before .before in
-    (at-most 31 32 (search needs) (start .pre .0 .outside), sides-room _ _ _ (told .a .given .1) (start .pre .2) .1)
+    let sides = told (c .before .before) in
+    let claims = start sides .pre in
+    include-ready (claims .0 .outside) (sides-room _ _ _ (sides .a .given .1) (claims .2) .outside)
 
 include-requires-3 : tie.Need-include-requires-3
 include-requires-3 c κs =
-    let told = c .before .before .before .before .before .before in
-    let start = told .before .before in
-    (at-most 31 32 (search needs) (start .pre .0 .intersections), sides-room _ _ _ (told .a .given .1) (start .pre .2) .2)
+    let sides = told (c .before .before .before .before) in
+    let claims = start sides .pre in
+    include-ready (claims .0 .intersections) (sides-room _ _ _ (sides .a .given .1) (claims .2) .intersection)
 
 returns : tie.Need-returns
 returns c =
-    let told = c .before .before in
-    let start = told .before .before in
-    let a = start .args in
-    gather-flush (a .flush .now) (a .inside .now) (a .outside .now) (a .intersections .now) (a .b .0) (a .a) (start .pre .0 .flush) (told .enum-told .given .1)
+    let flush = c .before .before in
+    let first = flush .before .before in
+    let a = first .args in
+    gather-flush (a .flush .now) (a .inside .now) (a .outside .now) (a .intersections .now) (a .b .0) (a .a) (first .pre .0 .flush) (flush .enum-told .given .1)
 
 returns-2 : tie.Need-returns-2
 returns-2 c =
     let two = c .before .before in
     let one = two .before .before in
-    let told = one .before .before .before in
-    let start = told .before .before in
-    let a = start .args in
+    let sides = told (one .before) in
+    let a = start sides .args in
     gather-sides (a .flush .now) (a .inside .now) (a .outside .now) (a .intersections .now) (a .b .0) (a .a) _ _ _ _ _ _
-    (told .a .given .1) (one .include .ensures) (two .include2 .ensures) (c .include3 .ensures)
+    (sides .a .given .1) (one .include .ensures) (two .include2 .ensures) (c .include3 .ensures)
 
 pub gather-in-spec : {M : Type 1} → statement M
 gather-in-spec =

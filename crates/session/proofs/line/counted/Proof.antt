@@ -15,7 +15,10 @@ same-length : tie.Need-same-length
 same-length c = search needs
 
 returns : tie.Need-returns
-returns c = then-line (drop 1 (c .before .before .before .before .before .before .before .before .before .before .before .args .counts .now)) (c .before .before .before .before .before .before .word .ensures) (c .before .before .counts-end .ensures)
+returns c =
+    let end = c .before .before in
+    let name = end .before .before .before .before in
+    then-line (drop 1 (name .before .before .before .before .before .args .counts .now)) (name .word .ensures) (end .counts-end .ensures)
 
 pub counted-spec : {M : Type 1} → statement M
 counted-spec = tie.close (tie.spec word-requires counts-end-requires same-length returns)

@@ -6,6 +6,19 @@ use Rattle.session.proofs.Puts.{put-length, then, then-line, element-sh
 use Rattle.session.proofs.line.cut.Statement.{statement}
 use Rattle.session.proofs.line.cut.Tie as tie
 
+-- where the function began, and what stands before each element
+abbrev start : tie.After-word → tie.Start
+start c = c .before .before .before .before .before
+
+abbrev name : tie.After-element → tie.After-word
+name c = c .before .before .before .before
+
+abbrev before-outside : tie.After-element2 → tie.After-element
+before-outside c = c .before .before .before .before
+
+abbrev before-intersection : tie.After-element3 → tie.After-element2
+before-intersection c = c .before .before .before .before
+
 slice-aggregate-word : tie.Need-slice-aggregate-word
 slice-aggregate-word c = search needs
 
@@ -17,29 +30,70 @@ element-requires c κs = search needs
 
 element-requires-2 : tie.Need-element-requires-2
 element-requires-2 c κs =
-    let a = c .before .before .before .before .before .before .before .word .ensures in let i = c .before .before .before .element .ensures in
-    let l = put-length a in let m = put-length i in let e = a .place in let q = element-short (c .before .before .before .before .before .before .before .before .before .before .before .before .args .inside) (c .before .before .before .before .before .before .before .before .before .before .before .before .pre .0 .0) i in
-    (c .before .before .before .before .before .before .before .before .before .before .before .before .pre .0 .1, omega (arith, l, m, e, q))
+    let inside = c .before .before .before in
+    let word = name inside in
+    let first = start word in
+    let claims = first .pre .0 in
+    let a = word .word .ensures in
+    let i = inside .element .ensures in
+    let l = put-length a in
+    let m = put-length i in
+    let e = a .place in
+    let q = element-short (first .args .inside) (claims .0) i in
+    (claims .1, omega (arith, l, m, e, q))
 
 element-requires-3 : tie.Need-element-requires-3
 element-requires-3 c κs =
-    let a = c .before .before .before .before .before .before .before .before .before .before .before .word .ensures in let i = c .before .before .before .before .before .before .before .element .ensures in let o = c .before .before .before .element2 .ensures in
-    let l = put-length a in let m = put-length i in let n = put-length o in let e = a .place in
-    let q = element-short (c .before .before .before .before .before .before .before .before .before .before .before .before .before .before .before .before .args .inside) (c .before .before .before .before .before .before .before .before .before .before .before .before .before .before .before .before .pre .0 .0) i in let r = element-short (c .before .before .before .before .before .before .before .before .before .before .before .before .before .before .before .before .args .outside) (c .before .before .before .before .before .before .before .before .before .before .before .before .before .before .before .before .pre .0 .1) o in
-    (c .before .before .before .before .before .before .before .before .before .before .before .before .before .before .before .before .pre .0 .2, omega (arith, l, m, n, e, q, r))
+    let outside = c .before .before .before in
+    let inside = before-outside outside in
+    let word = name inside in
+    let first = start word in
+    let claims = first .pre .0 in
+    let a = word .word .ensures in
+    let i = inside .element .ensures in
+    let o = outside .element2 .ensures in
+    let l = put-length a in
+    let m = put-length i in
+    let n = put-length o in
+    let e = a .place in
+    let q = element-short (first .args .inside) (claims .0) i in
+    let r = element-short (first .args .outside) (claims .1) o in
+    (claims .2, omega (arith, l, m, n, e, q, r))
 
 counts-end-requires : tie.Need-counts-end-requires
 counts-end-requires c κs =
-    let a = c .before .before .before .before .before .before .before .before .before .before .before .before .before .before .before .word .ensures in let i = c .before .before .before .before .before .before .before .before .before .before .before .element .ensures in let o = c .before .before .before .before .before .before .before .element2 .ensures in let x = c .before .before .before .element3 .ensures in
-    let l = put-length a in let m = put-length i in let n = put-length o in let k = put-length x in let e = a .place in
-    let q = element-short (c .before .before .before .before .before .before .before .before .before .before .before .before .before .before .before .before .before .before .before .before .args .inside) (c .before .before .before .before .before .before .before .before .before .before .before .before .before .before .before .before .before .before .before .before .pre .0 .0) i in let r = element-short (c .before .before .before .before .before .before .before .before .before .before .before .before .before .before .before .before .before .before .before .before .args .outside) (c .before .before .before .before .before .before .before .before .before .before .before .before .before .before .before .before .before .before .before .before .pre .0 .1) o in let s = element-short (c .before .before .before .before .before .before .before .before .before .before .before .before .before .before .before .before .before .before .before .before .args .intersection) (c .before .before .before .before .before .before .before .before .before .before .before .before .before .before .before .before .before .before .before .before .pre .0 .2) x in
+    let intersection = c .before .before .before in
+    let outside = before-intersection intersection in
+    let inside = before-outside outside in
+    let word = name inside in
+    let first = start word in
+    let claims = first .pre .0 in
+    let a = word .word .ensures in
+    let i = inside .element .ensures in
+    let o = outside .element2 .ensures in
+    let x = intersection .element3 .ensures in
+    let l = put-length a in
+    let m = put-length i in
+    let n = put-length o in
+    let k = put-length x in
+    let e = a .place in
+    let q = element-short (first .args .inside) (claims .0) i in
+    let r = element-short (first .args .outside) (claims .1) o in
+    let s = element-short (first .args .intersection) (claims .2) x in
     omega (arith, l, m, n, k, e, q, r, s)
 
 same-length : tie.Need-same-length
 same-length c = search needs
 
 returns : tie.Need-returns
-returns c = then-line (drop 1 (c .before .before .before .before .before .before .before .before .before .before .before .before .before .before .before .before .before .before .before .before .before .before .before .args .counts .now)) (then (then (then (c .before .before .before .before .before .before .before .before .before .before .before .before .before .before .before .before .before .before .word .ensures) (c .before .before .before .before .before .before .before .before .before .before .before .before .before .before .element .ensures)) (c .before .before .before .before .before .before .before .before .before .before .element2 .ensures)) (c .before .before .before .before .before .before .element3 .ensures)) (c .before .before .counts-end .ensures)
+returns c =
+    let end = c .before .before in
+    let intersection = end .before .before .before .before in
+    let outside = before-intersection intersection in
+    let inside = before-outside outside in
+    let word = name inside in
+    then-line (drop 1 (start word .args .counts .now))
+    (then (then (then (word .word .ensures) (inside .element .ensures)) (outside .element2 .ensures)) (intersection .element3 .ensures)) (end .counts-end .ensures)
 
 pub cut-spec : {M : Type 1} → statement M
 cut-spec =

@@ -6,6 +6,10 @@ use Rattle.session.proofs.Puts.{put-length, then-number, then-line, num
 use Rattle.session.proofs.line.numbered.Statement.{statement}
 use Rattle.session.proofs.line.numbered.Tie as tie
 
+-- the name, which stands before the number
+abbrev name : tie.After-number → tie.After-word
+name c = c .before .before .before .before
+
 word-requires : tie.Need-word-requires
 word-requires c κs = search needs
 
@@ -17,15 +21,23 @@ slice-aggregate-word c = search needs
 
 word-requires-2 : tie.Need-word-requires-2
 word-requires-2 c κs =
-    let a = c .before .before .before .before .before .before .before .before .word .ensures in let b = c .before .before .before .before .number .ensures in
-    let l = put-length a in let m = put-length b in let e = a .place in
-    let q = number-fits _ (search needs) b in omega (arith, l, m, e, q)
+    let number = c .before .before .before .before in
+    let a = name number .word .ensures in
+    let b = number .number .ensures in
+    let l = put-length a in
+    let m = put-length b in
+    let e = a .place in
+    let q = number-fits _ (search needs) b in
+    omega (arith, l, m, e, q)
 
 same-length : tie.Need-same-length
 same-length c = search needs
 
 returns : tie.Need-returns
-returns c = then-line (_ ∷ []) (c .before .before .before .before .before .before .before .before .before .before .before .word .ensures) (then-number _ [] (10 ∷ []) (c .before .before .before .before .before .before .before .number .ensures) (c .before .before .word2 .ensures))
+returns c =
+    let end = c .before .before in
+    let number = end .before .before .before .before .before in
+    then-line (_ ∷ []) (name number .word .ensures) (then-number _ [] (10 ∷ []) (number .number .ensures) (end .word2 .ensures))
 
 pub numbered-spec : {M : Type 1} → statement M
 numbered-spec =

@@ -23,7 +23,11 @@ add-result : tie.Need-add-result
 add-result c = search needs
 
 returns : tie.Need-returns
-returns c = (ap₂ (λ (x y : ℕ). x + 0x10000 * y) (c .before .two .ensures .0) (c .two2 .ensures .0) ∙ four-is (c .before .before .before .args .bytes .now) (c .before .before .before .args .at) (search needs), (let a = c .before .two .ensures .1 in let b = c .two2 .ensures .1 in omega (arith, a, b)))
+returns c =
+    let low = c .before .two .ensures in
+    let high = c .two2 .ensures in
+    let a = c .before .before .before .args in
+    (ap₂ (λ (x y : ℕ). x + 0x10000 * y) (low .0) (high .0) ∙ four-is (a .bytes .now) (a .at) (search needs), omega (arith, low .1, high .1))
 
 pub four-spec : {M : Type 1} → statement M
 four-spec = tie.close (tie.spec two-requires add-two two-requires-2 mul-result add-result returns)

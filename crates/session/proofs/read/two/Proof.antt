@@ -23,7 +23,11 @@ add-result : tie.Need-add-result
 add-result c = search needs
 
 returns : tie.Need-returns
-returns c = (ap₂ (λ (x y : ℕ). x + 0x100 * y) (c .before .one .ensures .0) (c .one2 .ensures .0) ∙ two-is (c .before .before .before .args .bytes .now) (c .before .before .before .args .at) (search needs), (let a = c .before .one .ensures .1 in let b = c .one2 .ensures .1 in omega (arith, a, b)))
+returns c =
+    let low = c .before .one .ensures in
+    let high = c .one2 .ensures in
+    let a = c .before .before .before .args in
+    (ap₂ (λ (x y : ℕ). x + 0x100 * y) (low .0) (high .0) ∙ two-is (a .bytes .now) (a .at) (search needs), omega (arith, low .1, high .1))
 
 pub two-spec : {M : Type 1} → statement M
 two-spec = tie.close (tie.spec one-requires add-one one-requires-2 mul-result add-result returns)

@@ -1,4 +1,6 @@
 -- The two cases of an answer.
+use Prim.Native.Nat.{ℕ}
+use mathlib.Core.List.{List}
 use mathlib.Core.Path.{sym, ap, subst}
 use lib.ListN.{drop}
 use borrow.Author.Needs.{needs}
@@ -9,6 +11,13 @@ use Rattle.rules.specs.Promises.{NamesBelow}
 use Rattle.session.proofs.Puts.{put-as}
 use Rattle.session.proofs.record.answer_line.Statement.{statement}
 use Rattle.session.proofs.record.answer_line.Tie as tie
+
+-- where the function began, and the line of an answer
+abbrev start : tie.After-slice-known → tie.Start
+start c = c .before .before
+
+abbrev line : ElementCutOutput → List ℕ → List ℕ
+line a counts = text (cutText (Answered a) (drop 1 counts))
 
 enum-told : tie.Need-enum-told
 enum-told c = search needs
@@ -23,19 +32,30 @@ enum-known-answer : tie.Need-enum-known-answer
 enum-known-answer c = search needs
 
 cut-requires : tie.Need-cut-requires
-cut-requires c κs = (subst (NamesBelow 512) (c .before .before .answer .given .1) (c .before .before .before .before .before .before .pre .0), c .before .before .before .before .before .before .pre .1)
+cut-requires c κs =
+    let told = c .before .before in
+    let claims = start (told .before .before) .pre in
+    (subst (NamesBelow 512) (told .answer .given .1) (claims .0), claims .1)
 
 same-length : tie.Need-same-length
 same-length c = search needs
 
 returns : tie.Need-returns
-returns c = put-as (sym (ap (λ (a : ElementCutOutput). text (cutText (Answered a) (drop 1 (c .before .before .before .before .before .before .before .before .before .args .counts .now)))) (c .before .before .before .before .before .enum-told .given .1))) (c .before .before .counted .ensures)
+returns c =
+    let put = c .before .before in
+    let told = put .before .before .before in
+    let counts = start (told .before .before) .args .counts .now in
+    put-as (sym (ap (λ (a : ElementCutOutput). line a counts) (told .enum-told .given .1))) (put .counted .ensures)
 
 same-length-2 : tie.Need-same-length-2
 same-length-2 c = search needs
 
 returns-2 : tie.Need-returns-2
-returns-2 c = put-as (sym (ap (λ (a : ElementCutOutput). text (cutText (Answered a) (drop 1 (c .before .before .before .before .before .before .before .before .before .args .counts .now)))) (c .before .before .before .before .before .answer .given .1))) (c .before .before .cut .ensures)
+returns-2 c =
+    let put = c .before .before in
+    let told = put .before .before .before in
+    let counts = start (told .before .before) .args .counts .now in
+    put-as (sym (ap (λ (a : ElementCutOutput). line a counts) (told .answer .given .1))) (put .cut .ensures)
 
 pub answer-line-spec : {M : Type 1} → statement M
 answer-line-spec =

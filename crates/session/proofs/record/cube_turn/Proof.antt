@@ -6,11 +6,29 @@ use Rattle.session.proofs.Turns.{cube-long, cube-counts, cube-made, cub
 use Rattle.session.proofs.record.cube_turn.Statement.{statement}
 use Rattle.session.proofs.record.cube_turn.Tie as tie
 
+-- where the function began; what is read before the call, and the call
+abbrev start : tie.After-slice-known5 → tie.Start
+start c = c .before .before .before .before .before .before
+
+abbrev read : tie.After-with-primordial-cube-radius → tie.After-float
+read c = c .before .before .before .before .before
+
+abbrev planes-back : tie.After-slice-known9 → tie.After-planes
+planes-back c = c .before .before .before
+
+abbrev called : tie.After-slice-known9 → tie.After-with-primordial-cube-radius
+called c = planes-back c .before .before .before .before .before
+
 one-requires : tie.Need-one-requires
-one-requires c κs = let l = cube-long (c .before .before .before .before .before .before .args .input .now) (c .before .before .before .before .before .before .pre .0) in omega (arith, l)
+one-requires c κs =
+    let first = start c in
+    let l = cube-long (first .args .input .now) (first .pre .0) in
+    omega (arith, l)
 
 float-requires : tie.Need-float-requires
-float-requires c κs = cube-long (c .before .before .before .before .before .before .before .args .input .now) (c .before .before .before .before .before .before .before .pre .0)
+float-requires c κs =
+    let first = start (c .before) in
+    cube-long (first .args .input .now) (first .pre .0)
 
 with-primordial-cube-radius-requires : tie.Need-with-primordial-cube-radius-requires
 with-primordial-cube-radius-requires c κs = search needs
@@ -19,7 +37,11 @@ slice-aggregate-counted : tie.Need-slice-aggregate-counted
 slice-aggregate-counted c = search needs
 
 counted-requires : tie.Need-counted-requires
-counted-requires c κs = (lit≤ tt, (cube-counts _ _ _ _ _ (c .before .before .before .before .before .before .before .before .before .before .before .before .with-primordial-cube-radius .ensures) (c .before .before .before .if1 .taken), c .before .before .before .before .before .before .before .before .before .before .before .before .before .before .before .before .before .before .before .before .before .before .before .before .before .pre .1))
+counted-requires c κs =
+    let made = c .before .before .before in
+    let call = called (made .before) in
+    let first = start (read call .before .before) in
+    (lit≤ tt, (cube-counts _ _ _ _ _ (call .with-primordial-cube-radius .ensures) (made .if1 .taken), first .pre .1))
 
 same-length : tie.Need-same-length
 same-length c = search needs
@@ -37,7 +59,14 @@ same-length-5 : tie.Need-same-length-5
 same-length-5 c = search needs
 
 returns : tie.Need-returns
-returns c = cube-made (c .before .before .before .before .before .before .before .before .before .before .before .before .before .before .before .before .before .before .before .before .before .before .before .before .before .before .before .before .args .input .now) _ _ (c .before .before .before .before .before .before .before .before .before .before .before .before .before .before .before .before .before .before .before .before .before .before .before .before .before .before .before .before .args .stands) _ _ _ _ _ (c .before .before .before .before .before .before .before .before .before .before .before .before .before .before .before .before .before .before .before .before .before .one .ensures .0) (c .before .before .before .before .before .before .before .before .before .before .before .before .before .before .before .before .before .before .before .before .float .ensures) (c .before .before .before .before .before .before .before .before .before .before .before .before .before .before .before .with-primordial-cube-radius .ensures) _ (c .before .before .before .before .before .before .if1 .taken) (c .before .before .counted .ensures)
+returns c =
+    let put = c .before .before in
+    let made = put .before .before .before .before in
+    let call = called (made .before) in
+    let radius = read call in
+    let first = start (radius .before .before) .args in
+    cube-made (first .input .now) _ _ (first .stands) _ _ _ _ _ (radius .before .one .ensures .0) (radius .float .ensures) (call .with-primordial-cube-radius .ensures) _
+    (made .if1 .taken) (put .counted .ensures)
 
 slice-aggregate-numbered : tie.Need-slice-aggregate-numbered
 slice-aggregate-numbered c = search needs
@@ -64,7 +93,14 @@ same-length-10 : tie.Need-same-length-10
 same-length-10 c = search needs
 
 returns-2 : tie.Need-returns-2
-returns-2 c = cube-refused (c .before .before .before .before .before .before .before .before .before .before .before .before .before .before .before .before .before .before .before .before .before .before .before .before .before .before .before .args .input .now) _ _ (c .before .before .before .before .before .before .before .before .before .before .before .before .before .before .before .before .before .before .before .before .before .before .before .before .before .before .before .args .stands) _ _ _ _ _ (c .before .before .before .before .before .before .before .before .before .before .before .before .before .before .before .before .before .before .before .before .one .ensures .0) (c .before .before .before .before .before .before .before .before .before .before .before .before .before .before .before .before .before .before .before .float .ensures) (c .before .before .before .before .before .before .before .before .before .before .before .before .before .before .with-primordial-cube-radius .ensures) _ (c .before .before .before .before .before .if1 .left) (c .before .before .numbered .ensures)
+returns-2 c =
+    let put = c .before .before in
+    let refused = put .before .before .before in
+    let call = called (refused .before) in
+    let radius = read call in
+    let first = start (radius .before .before) .args in
+    cube-refused (first .input .now) _ _ (first .stands) _ _ _ _ _ (radius .before .one .ensures .0) (radius .float .ensures) (call .with-primordial-cube-radius .ensures) _
+    (refused .if1 .left) (put .numbered .ensures)
 
 pub cube-turn-spec : {M : Type 1} → statement M
 cube-turn-spec =

@@ -9,6 +9,10 @@ use Rattle.session.proofs.Puts.{put-as}
 use Rattle.session.proofs.record.cut_line.Statement.{statement}
 use Rattle.session.proofs.record.cut_line.Tie as tie
 
+-- where the function began
+abbrev start : tie.After-slice-known → tie.Start
+start c = c .before .before
+
 enum-known-reply : tie.Need-enum-known-reply
 enum-known-reply c = search needs
 
@@ -25,19 +29,31 @@ enum-known-reply-2 : tie.Need-enum-known-reply-2
 enum-known-reply-2 c = search needs
 
 answer-line-requires : tie.Need-answer-line-requires
-answer-line-requires c κs = let z = subst (λ (r : CutReply). LineFits r (c .before .before .before .before .before .before .args .counts .now)) (c .before .before .reply2 .given .1) (c .before .before .before .before .before .before .pre .0) in (z .0, (z .1, c .before .before .before .before .before .before .pre .1))
+answer-line-requires c κs =
+    let told = c .before .before in
+    let first = start (told .before .before) in
+    let fits = subst (λ (r : CutReply). LineFits r (first .args .counts .now)) (told .reply2 .given .1) (first .pre .0) in
+    (fits .0, (fits .1, first .pre .1))
 
 same-length : tie.Need-same-length
 same-length c = search needs
 
 returns : tie.Need-returns
-returns c = put-as (sym (ap (λ (r : CutReply). text (cutText r (drop 1 (c .before .before .before .before .before .before .before .before .before .before .args .counts .now)))) (c .before .before .before .before .before .before .reply .given .1))) (c .before .before .numbered .ensures)
+returns c =
+    let put = c .before .before in
+    let told = put .before .before .before .before in
+    let counts = start (told .before .before) .args .counts .now in
+    put-as (sym (ap (λ (r : CutReply). text (cutText r (drop 1 counts))) (told .reply .given .1))) (put .numbered .ensures)
 
 same-length-2 : tie.Need-same-length-2
 same-length-2 c = search needs
 
 returns-2 : tie.Need-returns-2
-returns-2 c = put-as (sym (ap (λ (r : CutReply). text (cutText r (drop 1 (c .before .before .before .before .before .before .before .before .before .args .counts .now)))) (c .before .before .before .before .before .reply2 .given .1))) (c .before .before .answer-line .ensures)
+returns-2 c =
+    let put = c .before .before in
+    let told = put .before .before .before in
+    let counts = start (told .before .before) .args .counts .now in
+    put-as (sym (ap (λ (r : CutReply). text (cutText r (drop 1 counts))) (told .reply2 .given .1))) (put .answer-line .ensures)
 
 pub cut-line-spec : {M : Type 1} → statement M
 cut-line-spec =

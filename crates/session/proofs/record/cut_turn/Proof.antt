@@ -5,81 +5,97 @@ use native.Mathlib.Omega.{arith}
 use lib.ListN.{length}
 use borrow.Author.Needs.{needs}
 use Rattle.rules.specs.Session.{cutLength}
-use Rattle.cut.proofs.cut.Reads as cut-reads
 use Rattle.session.proofs.Turns.{cut-long, line-fits, cut-taken}
 use Rattle.session.proofs.record.cut_turn.Statement.{statement}
 use Rattle.session.proofs.record.cut_turn.Tie as tie
-use Rattle.session.proofs.record.cut_turn.Lts as lts
-use Rattle.session.proofs.read.one.Reads as one-reads
-use Rattle.session.proofs.read.two.Reads as two-reads
-use Rattle.session.proofs.record.cut_line.Reads as cut-line-reads
-use Rattle.session.proofs.record.dimension_of.Reads as dimension-of-reads
-use Rattle.session.proofs.record.divider_at.Reads as divider-at-reads
-use Rattle.session.proofs.record.fate.Reads as fate-reads
 
--- src/record.rt:177:9
+-- where the function began, and where the dimension is read
+abbrev entered : tie.After-slice-known5 → tie.Start
+entered c = c .before .before .before .before .before .before
+
+abbrev start : tie.After-dimension-of → tie.Start
+start c = entered (c .before .before)
+
+abbrev dimension : tie.After-two → tie.After-dimension-of
+dimension c = c .before .before .before .before .before
+
+-- the last of what is read before the cut, and the cut
+abbrev root : tie.After-cut → tie.After-two
+root c = c .before .before .before .before .before
+
+abbrev planes-back : tie.After-slice-known9 → tie.After-planes
+planes-back c = c .before .before .before
+
+abbrev cut-done : tie.After-slice-known9 → tie.After-cut
+cut-done c = planes-back c .before .before .before .before .before
+
 dimension-of-requires : tie.Need-dimension-of-requires
 dimension-of-requires c κs = search needs
 
--- src/record.rt:178:9
 divider-at-requires : tie.Need-divider-at-requires
-divider-at-requires c κs = (c .dimension-of .ensures .1, subst (λ (k : ℕ). cutLength k ≤ length (c .before .before .before .before .before .before .before .before .args .input .now)) (sym (c .dimension-of .ensures .0)) (cut-long (c .before .before .before .before .before .before .before .before .args .input .now) _ (c .before .before .before .before .before .before .before .before .pre .0)))
+divider-at-requires c κs =
+    let first = start c in
+    let bytes = first .args .input .now in
+    (c .dimension-of .ensures .1, subst (λ (k : ℕ). cutLength k ≤ length bytes) (sym (c .dimension-of .ensures .0)) (cut-long bytes _ (first .pre .0)))
 
--- src/record.rt:179:9
 one-requires : tie.Need-one-requires
-one-requires c κs = let l = cut-long (c .before .before .before .before .before .before .before .before .before .args .input .now) _ (c .before .before .before .before .before .before .before .before .before .pre .0) in omega (arith, l)
+one-requires c κs =
+    let first = start (c .before) in
+    let l = cut-long (first .args .input .now) _ (first .pre .0) in
+    omega (arith, l)
 
--- src/record.rt:180:9
 fate-requires : tie.Need-fate-requires
 fate-requires c κs = search needs
 
--- src/record.rt:181:9
 fate-requires-2 : tie.Need-fate-requires-2
 fate-requires-2 c κs = search needs
 
--- src/record.rt:182:26
 two-requires : tie.Need-two-requires
-two-requires c κs = let l = cut-long (c .before .before .before .before .before .before .before .before .before .before .before .before .args .input .now) _ (c .before .before .before .before .before .before .before .before .before .before .before .before .pre .0) in omega (arith, l)
+two-requires c κs =
+    let first = start (c .before .before .before .before) in
+    let l = cut-long (first .args .input .now) _ (first .pre .0) in
+    omega (arith, l)
 
--- src/record.rt:183:9
 cut-requires : tie.Need-cut-requires
 cut-requires c κs = search needs
 
--- src/record.rt:184:9
 cut-line-requires : tie.Need-cut-line-requires
-cut-line-requires c κs = (line-fits _ _ _ _ _ _ _ (c .before .before .before .before .before .before .before .before .before .before .cut .ensures), c .before .before .before .before .before .before .before .before .before .before .before .before .before .before .before .before .before .before .before .before .before .before .before .before .before .before .before .before .pre .1)
+cut-line-requires c κs =
+    let done = cut-done (c .before .before) in
+    (line-fits _ _ _ _ _ _ _ (done .cut .ensures), start (dimension (root done)) .pre .1)
 
--- src/record.rt:186:22
 mul-t19 : tie.Need-mul-t19
 mul-t19 c = search needs
 
--- src/record.rt:186:17
 add-t32 : tie.Need-add-t32
 add-t32 c = search needs
 
--- src/record.rt:165:1
 same-length : tie.Need-same-length
 same-length c = search needs
 
--- src/record.rt:165:1
 same-length-2 : tie.Need-same-length-2
 same-length-2 c = search needs
 
--- src/record.rt:165:1
 same-length-3 : tie.Need-same-length-3
 same-length-3 c = search needs
 
--- src/record.rt:165:1
 same-length-4 : tie.Need-same-length-4
 same-length-4 c = search needs
 
--- src/record.rt:165:1
 same-length-5 : tie.Need-same-length-5
 same-length-5 c = search needs
 
--- src/record.rt:165:1
 returns : tie.Need-returns
-returns c = cut-taken _ _ _ _ _ _ _ _ _ _ _ _ _ (c .before .before .before .before .before .before .before .before .before .before .before .before .before .cut .ensures) (c .before .before .before .before .before .before .before .before .before .before .before .before .before .before .before .before .before .before .before .before .before .before .before .dimension-of .ensures .0) (c .before .before .before .before .before .before .before .before .before .before .before .before .before .before .before .before .before .before .before .before .before .before .divider-at .ensures) (c .before .before .before .before .before .before .before .before .before .before .before .before .before .before .before .before .before .before .before .before .before .one .ensures .0) (c .before .before .before .before .before .before .before .before .before .before .before .before .before .before .before .before .before .before .before .before .fate .ensures) (c .before .before .before .before .before .before .before .before .before .before .before .before .before .before .before .before .before .before .before .fate2 .ensures) (c .before .before .before .before .before .before .before .before .before .before .before .before .before .before .before .before .before .before .two .ensures .0) (c .before .before .cut-line .ensures)
+returns c =
+    let put = c .before .before in
+    let done = cut-done (put .before .before .before) in
+    let two = root done in
+    let outside = two .before in
+    let inside = outside .before in
+    let kept = inside .before in
+    let divider = kept .before in
+    cut-taken _ _ _ _ _ _ _ _ _ _ _ _ _ (done .cut .ensures) (divider .before .dimension-of .ensures .0) (divider .divider-at .ensures) (kept .one .ensures .0)
+    (inside .fate .ensures) (outside .fate2 .ensures) (two .two .ensures .0) (put .cut-line .ensures)
 
 pub cut-turn-spec : {M : Type 1} → statement M
 cut-turn-spec =

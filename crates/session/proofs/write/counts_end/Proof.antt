@@ -9,6 +9,16 @@ use Rattle.session.proofs.Puts.{put-as, put-length, then-number, three-
 use Rattle.session.proofs.write.counts_end.Statement.{statement}
 use Rattle.session.proofs.write.counts_end.Tie as tie
 
+-- where the function began, and the number written before the second and the third count
+abbrev start : tie.After-wide → tie.Start
+start c = c .before .before .before .before
+
+abbrev first : tie.After-wide2 → tie.After-number
+first c = c .before .before .before .before
+
+abbrev second : tie.After-wide3 → tie.After-number2
+second c = c .before .before .before .before
+
 shared-slice-read-wide : tie.Need-shared-slice-read-wide
 shared-slice-read-wide c = search needs
 
@@ -25,7 +35,11 @@ wide-requires-2 : tie.Need-wide-requires-2
 wide-requires-2 c κs = search needs
 
 number-requires-2 : tie.Need-number-requires-2
-number-requires-2 c κs = let a = c .before .before .before .before .before .number .ensures in let l = put-length a in let q = number-short _ (search needs) a in omega (arith, l, q)
+number-requires-2 c κs =
+    let a = first (c .before) .number .ensures in
+    let l = put-length a in
+    let q = number-short _ (search needs) a in
+    omega (arith, l, q)
 
 shared-slice-read-wide-3 : tie.Need-shared-slice-read-wide-3
 shared-slice-read-wide-3 c = search needs
@@ -35,27 +49,53 @@ wide-requires-3 c κs = search needs
 
 number-requires-3 : tie.Need-number-requires-3
 number-requires-3 c κs =
-    let a = c .before .before .before .before .before .before .before .before .before .before .before .number .ensures in let b = c .before .before .before .before .before .number2 .ensures in
-    let l = put-length a in let m = put-length b in
-    let q = number-short _ (search needs) a in let r = number-short _ (search needs) b in omega (arith, l, m, q, r)
+    let vertices = second (c .before) in
+    let a = first (vertices .before .before) .number .ensures in
+    let b = vertices .number2 .ensures in
+    let l = put-length a in
+    let m = put-length b in
+    let q = number-short _ (search needs) a in
+    let r = number-short _ (search needs) b in
+    omega (arith, l, m, q, r)
 
 slice-aggregate-word : tie.Need-slice-aggregate-word
 slice-aggregate-word c = search needs
 
 word-requires : tie.Need-word-requires
 word-requires c κs =
-    let a = c .before .before .before .before .before .before .before .before .before .before .before .before .before .before .before .before .number .ensures in let b = c .before .before .before .before .before .before .before .before .before .before .number2 .ensures in let d = c .before .before .before .before .number3 .ensures in
-    let l = put-length a in let m = put-length b in let n = put-length d in
-    let q = number-short _ (search needs) a in let r = number-short _ (search needs) b in let s = number-short _ (search needs) d in omega (arith, l, m, n, q, r, s)
+    let hyperplanes = c .before .before .before .before in
+    let vertices = second (hyperplanes .before .before) in
+    let elements = first (vertices .before .before) in
+    let claims = start (elements .before .before) .pre in
+    let a = elements .number .ensures in
+    let b = vertices .number2 .ensures in
+    let d = hyperplanes .number3 .ensures in
+    let l = put-length a in
+    let m = put-length b in
+    let n = put-length d in
+    let q = number-short _ (search needs) a in
+    let r = number-short _ (search needs) b in
+    let s = number-short _ (search needs) d in
+    omega (arith, l, m, n, q, r, s, claims .1)
 
 same-length : tie.Need-same-length
 same-length c = search needs
 
 returns : tie.Need-returns
 returns c =
+    let end = c .before .before in
+    let hyperplanes = end .before .before .before .before .before in
+    let third-count = hyperplanes .before .before in
+    let vertices = second third-count in
+    let second-count = vertices .before .before in
+    let elements = first second-count in
+    let first-count = elements .before .before in
+    let began = start first-count in
     put-as
-    (ap (λ (ns : List ℕ). spaced ns ++ 10 ∷ []) (three-counts (c .before .before .before .before .before .before .before .before .before .before .before .before .before .before .before .before .before .before .before .before .before .before .before .before .before .args .counts .now) (omega arith) _ _ _ (c .before .before .before .before .before .before .before .before .before .before .before .before .before .before .before .before .before .before .before .before .before .wide .ensures .0) (c .before .before .before .before .before .before .before .before .before .before .before .before .before .before .before .wide2 .ensures .0) (c .before .before .before .before .before .before .before .before .before .wide3 .ensures .0)))
-    (then-number _ (_ ∷ _ ∷ []) (10 ∷ []) (c .before .before .before .before .before .before .before .before .before .before .before .before .before .before .before .before .before .before .before .number .ensures) (then-number _ (_ ∷ []) (10 ∷ []) (c .before .before .before .before .before .before .before .before .before .before .before .before .before .number2 .ensures) (then-number _ [] (10 ∷ []) (c .before .before .before .before .before .before .before .number3 .ensures) (c .before .before .word .ensures))))
+    (ap (λ (ns : List ℕ). spaced ns ++ 10 ∷ [])
+    (three-counts (began .args .counts .now) (began .pre .0) _ _ _ (first-count .wide .ensures .0) (second-count .wide2 .ensures .0) (third-count .wide3 .ensures .0)))
+    (then-number _ (_ ∷ _ ∷ []) (10 ∷ []) (elements .number .ensures)
+    (then-number _ (_ ∷ []) (10 ∷ []) (vertices .number2 .ensures) (then-number _ [] (10 ∷ []) (hyperplanes .number3 .ensures) (end .word .ensures))))
 
 pub counts-end-spec : {M : Type 1} → statement M
 counts-end-spec =

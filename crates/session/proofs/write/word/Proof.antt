@@ -10,14 +10,20 @@ use Rattle.space.proofs.RowWords.{sets-more, sets-all}
 use Rattle.session.proofs.write.word.Statement.{statement}
 use Rattle.session.proofs.write.word.Tie as tie
 
+record SoFar (bytes before : List ℕ) (at end : ℕ) (room : List ℕ) (i : ℕ) : Type 0 where
+  pub within : i ≤ length bytes
+  pub ends : end ≡ length bytes
+  pub long : length room ≡ length before
+  pub stored : room ≡ sets before at (take i bytes)
+
 abbrev Inv-loop : tie.InvT-loop
-Inv-loop bytes room₀ at i₀ i-end room i = (i ≤ length bytes) × (i-end ≡ length bytes) × (length room ≡ length room₀) × (room ≡ sets room₀ at (take i bytes))
+Inv-loop bytes room₀ at i₀ i-end room i = SoFar bytes room₀ at i-end room i
 
 abbrev μ-loop : tie.MeasureT-loop
 μ-loop bytes room₀ at i₀ i-end room i = i-end - i
 
 loop-holds : tie.Need-loop-holds Inv-loop μ-loop
-loop-holds c = (search needs, refl, refl, refl)
+loop-holds c = record { within = search needs; ends = refl; long = refl; stored = refl }
 
 shared-slice-read-room : tie.Need-shared-slice-read-room Inv-loop μ-loop
 shared-slice-read-room c = search needs
@@ -36,12 +42,14 @@ loop-less c = search needs
 
 loop-again : tie.Need-loop-again Inv-loop μ-loop
 loop-again c =
-    let at = c .before .before .loop in (
-      search needs,
-      refl,
-      simp length-set (omega arith),
-      ap (λ (l : List ℕ). set l (c .before .before .before .args .at + at .i) (getD (c .before .before .before .args .bytes .now) (at .i) 0)) (at .inv .3) ∙ sets-more _ _ _ (at .i) 0 (search needs) (search needs),
-    )
+    let at = c .before .before .loop in
+    let a = c .before .before .before .args in
+    record {
+      within = search needs;
+      ends = refl;
+      long = simp length-set (omega arith);
+      stored = ap (λ (l : List ℕ). set l (a .at + at .i) (getD (a .bytes .now) (at .i) 0)) (at .inv .stored) ∙ sets-more _ _ _ (at .i) 0 (search needs) (search needs);
+    }
 
 add-result : tie.Need-add-result Inv-loop μ-loop
 add-result c = search needs
@@ -50,7 +58,9 @@ same-length : tie.Need-same-length Inv-loop μ-loop
 same-length c = search needs
 
 returns : tie.Need-returns Inv-loop μ-loop
-returns c = record { place = refl; room = c .before .loop .inv .3 ∙ sets-all _ _ _ (c .before .loop .i) (omega arith) }
+returns c =
+    let at = c .before .loop in
+    record { place = refl; room = at .inv .stored ∙ sets-all _ _ _ (at .i) (omega arith) }
 
 pub word-spec : {M : Type 1} → statement M
 word-spec =

@@ -26,7 +26,10 @@ returns c =
     let s = c .before .before in
     let a = s .args in
     let p = s .pre in
-    (boundary-by (a .elements .now) (a .at) (a .n) (a .d) (a .e) (a .rank) (p .0) (p .1) false _ _ (le-ltb _ _ (c .if1 .taken)) refl refl, λ t. absurd (false≢true t))
+    record {
+      told = boundary-by (a .elements .now) (a .at) (a .n) (a .d) (a .e .0) (a .rank) (p .long) (p .end) false _ _ (le-ltb _ _ (c .if1 .taken)) refl refl;
+      unmet = λ t. absurd (false≢true t);
+    }
 
 add-numbers-fit : tie.Need-add-numbers-fit
 add-numbers-fit c = search needs
@@ -34,16 +37,17 @@ add-numbers-fit c = search needs
 numbers-fit-requires : tie.Need-numbers-fit-requires
 numbers-fit-requires c κs =
     let p = c .before .before .before .pre in
-    (omega arith, omega (arith, p .0, p .1), p .0, omega (arith, p .3))
+    record { part = record { order = omega arith; end = omega (arith, p .long, p .end) }; long = p .long; room = omega (arith, p .inRoom) }
 
 returns-2 : tie.Need-returns-2
 returns-2 c =
     let s = c .before .before .before .before in
     let a = s .args in
-    let p = s .pre in (
-      boundary-body (a .elements .now) (a .at) (a .n) (a .d) (a .e) (a .rank) (p .0) (p .1) (p .4) (c .before .if2 .taken) (lt-ltb _ _ (c .before .before .if1 .left)) (c .numbers-fit .ensures),
-      λ t. unmet-next (a .e) (a .met .now) (p .6),
-    )
+    let p = s .pre in
+    record {
+      told = boundary-body (a .elements .now) (a .at) (a .n) (a .d) (a .e .0) (a .rank) (p .long) (p .end) (p .no-edge) (c .before .if2 .taken) (lt-ltb _ _ (c .before .before .if1 .left)) (c .numbers-fit .ensures);
+      unmet = λ t. unmet-next (a .e .0) (a .met .now) (p .unmet);
+    }
 
 few-edges-requires : tie.Need-few-edges-requires
 few-edges-requires c κs = search needs
@@ -54,7 +58,14 @@ add-few-fits c = search needs
 few-fits-requires : tie.Need-few-fits-requires
 few-fits-requires c κs =
     let p = start (c .before .before .before) .pre in
-    (omega arith, omega (arith, p .2), omega (arith, p .0, p .1), p .0, p .3, p .5, p .6)
+    record {
+      part = record { order = omega arith; end = omega (arith, p .long, p .end) };
+      size = omega (arith, p .size);
+      long = p .long;
+      inRoom = p .inRoom;
+      edges = p .edges;
+      unmet = p .unmet;
+    }
 
 returns-3 : tie.Need-returns-3
 returns-3 c =
@@ -62,10 +73,12 @@ returns-3 c =
     let a = start f .args in
     let p = start f .pre in
     let h = c .before .before .if3 .taken in
-    let q = c .before .before .before .few-edges .ensures in (
-      boundary-few (a .elements .now) (a .at) (a .n) (a .d) (a .e) (a .rank) (p .0) (p .1) (f .if2 .left) (lt-ltb _ _ (f .before .if1 .left)) (let z : a .n ≤ few (a .d) = omega (arith, h, q) in z) (c .few-fits .ensures .0),
-      c .few-fits .ensures .1,
-    )
+    let q = c .before .before .before .few-edges .ensures in
+    record {
+      told = boundary-few (a .elements .now) (a .at) (a .n) (a .d) (a .e .0) (a .rank) (p .long) (p .end) (f .if2 .left) (lt-ltb _ _ (f .before .if1 .left))
+          (let z : a .n ≤ few (a .d) = omega (arith, h, q) in z) (c .few-fits .ensures .told);
+      unmet = c .few-fits .ensures .unmet;
+    }
 
 add-face-fits : tie.Need-add-face-fits
 add-face-fits c = search needs
@@ -73,7 +86,14 @@ add-face-fits c = search needs
 face-fits-requires : tie.Need-face-fits-requires
 face-fits-requires c κs =
     let p = start (c .before .before .before) .pre in
-    (omega arith, omega (arith, p .2), omega (arith, p .0, p .1), p .0, p .3, p .5, p .6)
+    record {
+      part = record { order = omega arith; end = omega (arith, p .long, p .end) };
+      size = omega (arith, p .size);
+      long = p .long;
+      inRoom = p .inRoom;
+      edges = p .edges;
+      unmet = p .unmet;
+    }
 
 returns-4 : tie.Need-returns-4
 returns-4 c =
@@ -81,10 +101,12 @@ returns-4 c =
     let a = start f .args in
     let p = start f .pre in
     let h = c .before .before .if3 .left in
-    let q = c .before .before .before .few-edges .ensures in (
-      boundary-face (a .elements .now) (a .at) (a .n) (a .d) (a .e) (a .rank) (p .0) (p .1) (f .if2 .left) (lt-ltb _ _ (f .before .if1 .left)) (let z : few (a .d) < a .n = omega (arith, h, q) in z) (c .face-fits .ensures .0),
-      c .face-fits .ensures .1,
-    )
+    let q = c .before .before .before .few-edges .ensures in
+    record {
+      told = boundary-face (a .elements .now) (a .at) (a .n) (a .d) (a .e .0) (a .rank) (p .long) (p .end) (f .if2 .left) (lt-ltb _ _ (f .before .if1 .left))
+          (let z : few (a .d) < a .n = omega (arith, h, q) in z) (c .face-fits .ensures .told);
+      unmet = c .face-fits .ensures .unmet;
+    }
 
 pub boundary-sound-spec : {M : Type 1} → statement M
 boundary-sound-spec =

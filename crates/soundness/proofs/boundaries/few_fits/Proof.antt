@@ -1,5 +1,6 @@
 -- The numbers that are left fit exactly when all do, until one does not; the ends of those before are met.
 use Prim.Native.Nat.{ℕ, _+_, _-_, _≤_}
+use mathlib.Core.List.{List}
 use mathlib.Core.Bool.{false≢true}
 use mathlib.Core.Path.{_≡_, sym, subst, _∙_}
 use native.Mathlib.Omega.{arith}
@@ -16,9 +17,16 @@ use Rattle.soundness.proofs.OnePass.{no-first}
 use Rattle.soundness.proofs.boundaries.few_fits.Statement.{statement}
 use Rattle.soundness.proofs.boundaries.few_fits.Tie as tie
 
+-- up to place i the numbers fit, and the ends of their edges are met
+record SoFar (es : List ℕ) (from to e : ℕ) (met : List ℕ) (stamp low twice i : ℕ) : Type 0 where
+  order : from ≤ i
+  bound : i ≤ to
+  same : stamp ≡ stampOf e
+  rest : numbersFit desk es e 2 (drop from (take to es)) ≡ left es to e 2 low i
+  round : Round es (drop from (take to es)) (stampOf e) met twice (i - from)
+
 abbrev Inv-loop : tie.InvT-loop
-Inv-loop elements from to e met₀ stamp low₀ twice₀ i₀ met low twice i = (from ≤ i) × (i ≤ to) × (stamp ≡ stampOf e) × (numbersFit desk elements e 2 (drop from (take to elements)) ≡ left elements to e 2 low i)
-    × Round elements (drop from (take to elements)) (stampOf e) met twice (i - from)
+Inv-loop elements from to e met₀ stamp low₀ twice₀ i₀ met low twice i = SoFar elements from to (e .0) met stamp low twice i
 
 abbrev μ-loop : tie.MeasureT-loop
 μ-loop elements from to e met₀ stamp low₀ twice₀ i₀ met low twice i = to - i
@@ -39,14 +47,16 @@ stamp-of-requires c κs = search needs
 loop-holds : tie.Need-loop-holds Inv-loop μ-loop
 loop-holds c =
     let a = c .before .before .args in
-    let p = c .before .before .pre in (
-      search needs,
-      p .0,
-      c .stamp-of .ensures .0,
-      fits-start (a .elements .now) (a .to) (a .e) 2 (a .from),
-      subst (λ (k : ℕ). Round (a .elements .now) (drop (a .from) (take (a .to) (a .elements .now))) (stampOf (a .e)) (a .met .now) 0 k) (let z : 0 ≡ a .from - a .from = omega arith in z)
-          (round-start (a .elements .now) (drop (a .from) (take (a .to) (a .elements .now))) (stampOf (a .e)) (a .met .now) (p .6)),
-    )
+    let p = c .before .before .pre in
+    let edges = drop (a .from) (take (a .to) (a .elements .now)) in
+    record {
+      order = search needs;
+      bound = p .part .order;
+      same = c .stamp-of .ensures .0;
+      rest = fits-start (a .elements .now) (a .to) (a .e .0) 2 (a .from);
+      round = subst (λ (k : ℕ). Round (a .elements .now) edges (stampOf (a .e .0)) (a .met .now) 0 k) (let z : 0 ≡ a .from - a .from = omega arith in z)
+          (round-start (a .elements .now) edges (stampOf (a .e .0)) (a .met .now) (p .unmet));
+    }
 
 mul-wide : tie.Need-mul-wide Inv-loop μ-loop
 mul-wide c = search needs
@@ -58,7 +68,7 @@ wide-requires : tie.Need-wide-requires Inv-loop μ-loop
 wide-requires c κs = search needs
 
 number-fits-requires : tie.Need-number-fits-requires Inv-loop μ-loop
-number-fits-requires c κs = (search needs, omega (arith, start (c .before .before .before) .pre .4))
+number-fits-requires c κs = (search needs, omega (arith, start (c .before .before .before) .pre .inRoom))
 
 returns : tie.Need-returns Inv-loop μ-loop
 returns c =
@@ -67,7 +77,11 @@ returns c =
     let at = f .before .loop in
     let a = start (f .before) .args in
     let p = start (f .before) .pre in
-    (no-first _ _ (fits-no (a .elements .now) (a .to) (a .e) 2 (p .2) (at .low) (at .i) _ (at .inv .3) (n .before .wide .ensures .0) (f .loop-test .taken) (sym (n .number-fits .ensures) ∙ not-true _ (c .if1 .taken))), λ e. absurd (false≢true e))
+    let no = sym (n .number-fits .ensures) ∙ not-true _ (c .if1 .taken) in
+    record {
+      told = no-first _ _ (fits-no (a .elements .now) (a .to) (a .e .0) 2 (p .part .end) (at .low) (at .i) _ (at .inv .rest) (n .before .wide .ensures .0) (f .loop-test .taken) no);
+      unmet = λ e. absurd (false≢true e);
+    }
 
 meet-ends-requires : tie.Need-meet-ends-requires Inv-loop μ-loop
 meet-ends-requires c κs =
@@ -77,8 +91,13 @@ meet-ends-requires c κs =
     let a = start (f .before) .args in
     let p = start (f .before) .pre in
     let fits = sym (e .before .number-fits .ensures) ∙ not-false _ (e .if1 .left) in
-    let l = number-low (a .elements .now) (a .e) 2 (at .low) _ fits in
-    (p .3, omega (arith, l, p .4), number-ends (a .elements .now) (a .e) (p .5) (at .low) _ fits, f .before .before .stamp-of .ensures .1)
+    let l = number-low (a .elements .now) (a .e .0) 2 (at .low) _ fits in
+    record {
+      elements = p .long;
+      room = omega (arith, l, p .inRoom);
+      ends = number-ends (a .elements .now) (a .e .0) (p .edges) (at .low) _ fits;
+      stamp = f .before .before .stamp-of .ensures .1;
+    }
 
 add-twice : tie.Need-add-twice Inv-loop μ-loop
 add-twice c =
@@ -86,8 +105,8 @@ add-twice c =
     let f = taken-up e in
     let at = f .before .loop in
     let p = start (f .before) .pre in
-    let few = round-few _ _ _ _ _ _ (at .inv .4) in
-    omega (arith, few, c .meet-ends .ensures .2, p .1, at .inv .0, at .inv .1)
+    let few = round-few _ _ _ _ _ _ (at .inv .round) in
+    omega (arith, few, c .meet-ends .ensures .most, p .size, at .inv .order, at .inv .bound)
 
 add-low : tie.Need-add-low Inv-loop μ-loop
 add-low c = search needs
@@ -107,28 +126,30 @@ loop-again c =
     let p = start (f .before) .pre in
     let fits = sym (e .before .number-fits .ensures) ∙ not-false _ (e .if1 .left) in
     let h = f .loop-test .taken in
-    let x = e .before .before .wide .ensures .0 in (
-      search needs,
-      search needs,
-      at .inv .2,
-      fits-go (a .elements .now) (a .to) (a .e) 2 (p .2) (at .low) (at .i) _ (at .inv .3) x h fits,
-      few-go (a .elements .now) (a .from) (a .to) (a .e) (p .2) (at .met) _ (at .twice) (at .i) _ _ (stampOf (a .e)) _ (at .inv .4) (at .inv .0) h x
-          (number-ends (a .elements .now) (a .e) (p .5) (at .low) _ fits) (at .inv .2) (c .meet-ends .ensures .0) (c .meet-ends .ensures .1),
-    )
+    let x = e .before .before .wide .ensures .0 in
+    record {
+      order = search needs;
+      bound = search needs;
+      same = at .inv .same;
+      rest = fits-go (a .elements .now) (a .to) (a .e .0) 2 (p .part .end) (at .low) (at .i) _ (at .inv .rest) x h fits;
+      round = few-go (a .elements .now) (a .from) (a .to) (a .e .0) (p .part .end) (at .met) _ (at .twice) (at .i) _ _ (stampOf (a .e .0)) _ (at .inv .round) (at .inv .order) h x
+          (number-ends (a .elements .now) (a .e .0) (p .edges) (at .low) _ fits) (at .inv .same) (c .meet-ends .ensures .count) (c .meet-ends .ensures .words);
+    }
 
 sub-result : tie.Need-sub-result Inv-loop μ-loop
-sub-result c = c .before .before .before .before .pre .0
+sub-result c = c .before .before .before .before .pre .part .order
 
 returns-2 : tie.Need-returns-2 Inv-loop μ-loop
 returns-2 c =
     let a = c .before .before .before .before .args in
     let p = c .before .before .before .before .pre in
     let at = c .before .loop in
-    let e : at .i ≡ a .to = omega (arith, at .inv .1, c .loop-test .left) in (
-      few-end (a .elements .now) (a .from) (a .to) (a .e) (p .2) (at .met) (at .twice) (at .i) (stampOf (a .e)) (at .inv .4) e (p .5)
-          (fits-end (a .elements .now) (a .to) (a .e) 2 (p .2) (at .low) (at .i) (at .inv .3) (c .loop-test .left)),
-      λ t. unmet-above (stampOf (a .e) + 2) (stampOf (a .e + 1)) (at .met) (omega arith) (round-out _ _ (stampOf (a .e)) (at .met) _ _ (at .inv .4)),
-    )
+    let e : at .i ≡ a .to = omega (arith, at .inv .bound, c .loop-test .left) in
+    record {
+      told = few-end (a .elements .now) (a .from) (a .to) (a .e .0) (p .part .end) (at .met) (at .twice) (at .i) (stampOf (a .e .0)) (at .inv .round) e (p .edges)
+          (fits-end (a .elements .now) (a .to) (a .e .0) 2 (p .part .end) (at .low) (at .i) (at .inv .rest) (c .loop-test .left));
+      unmet = λ t. unmet-above (stampOf (a .e .0) + 2) (stampOf (a .e .0 + 1)) (at .met) (omega arith) (round-out _ _ (stampOf (a .e .0)) (at .met) _ _ (at .inv .round));
+    }
 
 pub few-fits-spec : {M : Type 1} → statement M
 few-fits-spec =

@@ -1,3 +1,4 @@
+-- The answer is read off the tests that were taken.
 use Rattle.soundness.proofs.BoundaryFits.{number-is}
 use borrow.Author.Tests.{le-leb, lt-leb, le-ltb, lt-ltb}
 use lib.Dec.{eqb}
@@ -6,20 +7,23 @@ use native.Mathlib.Numerals.{add-one}
 use mathlib.Core.Bool.{true, false}
 use mathlib.Core.Path.{sym, ap, refl, _∙_}
 use Prim.Native.Nat.{ℕ, _+_}
--- The answer is read off the tests that were taken.
 use borrow.Author.Needs.{needs}
 use Rattle.soundness.proofs.boundaries.number_fits.Statement.{statement}
 use Rattle.soundness.proofs.boundaries.number_fits.Tie as tie
 
+-- where the function began, for what is past the first test
+abbrev late : tie.Else1 → tie.Start
+late c = c .before .before
+
 returns : tie.Need-returns
 returns c =
     let a = c .before .before .args in
-    number-is (a .elements .now) (a .e) (a .rank) (a .low) (a .x) false _ _ (lt-leb _ _ (c .if1 .taken)) refl refl
+    number-is (a .elements .now) (a .e .0) (a .rank) (a .low) (a .x) false _ _ (lt-leb _ _ (c .if1 .taken)) refl refl
 
 returns-2 : tie.Need-returns-2
 returns-2 c =
-    let a = c .before .before .before .args in
-    number-is (a .elements .now) (a .e) (a .rank) (a .low) (a .x) true false _ (le-leb _ _ (c .before .if1 .left)) (le-ltb _ _ (c .if2 .taken)) refl
+    let a = late (c .before .before) .args in
+    number-is (a .elements .now) (a .e .0) (a .rank) (a .low) (a .x) true false _ (le-leb _ _ (c .before .before .if1 .left)) (le-ltb _ _ (c .if2 .taken)) refl
 
 mul-wide : tie.Need-mul-wide
 mul-wide c = search needs
@@ -29,7 +33,7 @@ mul-wide-2 c = search needs
 
 shared-slice-read-wide : tie.Need-shared-slice-read-wide
 shared-slice-read-wide c =
-    let p = c .before .before .before .before .pre in
+    let p = late (c .before .before .before) .pre in
     let q = c .before .if2 .left in
     omega (arith, q, p .0, p .1)
 
@@ -41,8 +45,9 @@ add-result c = search needs
 
 returns-3 : tie.Need-returns-3
 returns-3 c =
-    let a = c .before .before .before .before .before .args in
-    number-is (a .elements .now) (a .e) (a .rank) (a .low) (a .x) true true _ (le-leb _ _ (c .before .before .before .if1 .left)) (lt-ltb _ _ (c .before .before .if2 .left))
+    let f = c .before .before .before .before in
+    let a = late f .args in
+    number-is (a .elements .now) (a .e .0) (a .rank) (a .low) (a .x) true true _ (le-leb _ _ (f .if1 .left)) (lt-ltb _ _ (c .before .before .if2 .left))
     (ap (λ (y : ℕ). eqb y (a .rank)) (sym (ap (λ (y : ℕ). y + 1) (c .wide .ensures .0) ∙ add-one _)))
 
 pub number-fits-spec : {M : Type 1} → statement M

@@ -1,23 +1,28 @@
 -- All words are blank exactly when no bit of them has been seen and the words that are left are.
-use Prim.Native.Nat.{_-_, _≤_}
+use Prim.Native.Nat.{ℕ, _-_, _≤_}
 use mathlib.Core.Path.{_≡_, refl}
 use mathlib.Core.Bool.{_&&_}
+use mathlib.Core.List.{List}
 use lib.Dec.{eqb}
 use lib.ListN.{getD, drop, take}
-use Rattle.soundness.specs.Words.{blank}
+use Rattle.soundness.specs.Words.{blankWords}
 use Rattle.soundness.proofs.Unseen.{eq-turned, unseen-go, unseen-end}
 use borrow.Author.Needs.{needs}
 use Rattle.soundness.proofs.sound.blank_words.Statement.{statement}
 use Rattle.soundness.proofs.sound.blank_words.Tie as tie
 
+pub record Seen (list : List ℕ) (from to seen i : ℕ) : Type 0 where
+  pub within : i ≤ to
+  pub same : blankWords (drop from (take to list)) ≡ (eqb seen 0 && blankWords (drop i (take to list)))
+
 abbrev Inv-loop : tie.InvT-loop
-Inv-loop list from to seen₀ i₀ seen i = (i ≤ to) × (blank (drop from (take to list)) ≡ (eqb seen 0 && blank (drop i (take to list))))
+Inv-loop list from to seen₀ i₀ seen i = Seen list from to seen i
 
 abbrev μ-loop : tie.MeasureT-loop
 μ-loop list from to seen₀ i₀ seen i = to - i
 
 loop-holds : tie.Need-loop-holds Inv-loop μ-loop
-loop-holds c = (search needs, refl)
+loop-holds c = record { within = search needs; same = refl }
 
 mul-seen : tie.Need-mul-seen Inv-loop μ-loop
 mul-seen c = search needs
@@ -33,17 +38,19 @@ loop-less c = search needs
 
 loop-again : tie.Need-loop-again Inv-loop μ-loop
 loop-again c =
-    let a = c .before .before .before .args in
-    let at = c .before .before .loop in (
-      search needs,
-      unseen-go (eqb 0) 0 (a .to) (a .list .now) (c .before .before .before .pre .1) (at .seen) _ (at .i) (at .inv .1) (search needs) (eq-turned 0 (getD (a .list .now) (at .i) 0)),
-    )
+    let begun = c .before .before .before in
+    let a = begun .args in
+    let at = c .before .before .loop in
+    record {
+      within = search needs;
+      same = unseen-go (eqb 0) 0 (a .to) (a .list .now) (begun .pre .end) (at .seen) _ (at .i) (at .inv .same) (search needs) (eq-turned 0 (getD (a .list .now) (at .i) 0));
+    }
 
 returns : tie.Need-returns Inv-loop μ-loop
 returns c =
-    let a = c .before .before .args in
+    let begun = c .before .before in
     let at = c .before .loop in
-    unseen-end (eqb 0) 0 (a .to) (a .list .now) (c .before .before .pre .1) (at .seen) (at .i) (at .inv .1) (search needs)
+    unseen-end (eqb 0) 0 (begun .args .to) (begun .args .list .now) (begun .pre .end) (at .seen) (at .i) (at .inv .same) (search needs)
 
 pub blank-words-spec : {M : Type 1} → statement M
 blank-words-spec =

@@ -9,6 +9,19 @@ use borrow.Author.Needs.{needs}
 use Rattle.soundness.proofs.sound.corner_sound.Statement.{statement}
 use Rattle.soundness.proofs.sound.corner_sound.Tie as tie
 
+-- where the function began, and where the row had no mark, no hyperplane and a count of one
+abbrev start : tie.Else1 → tie.Start
+start c = c .before .before .before
+
+abbrev no-mark : tie.Else2 → tie.Else1
+no-mark c = c .before .before
+
+abbrev no-plane : tie.Else3 → tie.Else2
+no-plane c = c .before .before
+
+abbrev one : tie.After-struct-known → tie.Else3
+one c = c .before .before .before .before .before
+
 add-if1 : tie.Need-add-if1
 add-if1 c = search needs
 
@@ -20,8 +33,12 @@ shared-slice-read-if1 c = search needs
 
 returns : tie.Need-returns
 returns c =
-    let a = c .before .before .before .args in
-    (corner-is (a .elements .now) (a .at) (a .k) false _ _ _ (c .before .before .before .pre .1) (not-eq 0 _ (λ q. c .if1 .taken (sym q))) refl refl refl, λ t. absurd (false≢true t))
+    let begun = c .before .before .before in
+    let a = begun .args in
+    record {
+      told = corner-is (a .elements .now) (a .at) (a .k .0) false _ _ _ (begun .pre .corner) (not-eq 0 _ (λ q. c .if1 .taken (sym q))) refl refl refl;
+      past = λ t. absurd (false≢true t);
+    }
 
 add-if2 : tie.Need-add-if2
 add-if2 c = search needs
@@ -34,8 +51,12 @@ shared-slice-read-if2 c = search needs
 
 returns-2 : tie.Need-returns-2
 returns-2 c =
-    let a = c .before .before .before .before .before .args in
-    (corner-is (a .elements .now) (a .at) (a .k) true false _ _ (c .before .before .before .before .before .pre .1) (test-eq 0 _ (sym (c .before .before .if1 .left))) (not-eq 65535 _ (λ q. c .if2 .taken (sym q))) refl refl, λ t. absurd (false≢true t))
+    let m = c .before .before in
+    let a = start m .args in
+    record {
+      told = corner-is (a .elements .now) (a .at) (a .k .0) true false _ _ (start m .pre .corner) (test-eq 0 _ (sym (m .if1 .left))) (not-eq 65535 _ (λ q. c .if2 .taken (sym q))) refl refl;
+      past = λ t. absurd (false≢true t);
+    }
 
 add-if3 : tie.Need-add-if3
 add-if3 c = search needs
@@ -48,13 +69,19 @@ shared-slice-read-if3 c = search needs
 
 returns-3 : tie.Need-returns-3
 returns-3 c =
-    let a = c .before .before .before .before .before .before .before .args in
-    (corner-is (a .elements .now) (a .at) (a .k) true true false _ (c .before .before .before .before .before .before .before .pre .1) (test-eq 0 _ (sym (c .before .before .before .before .if1 .left))) (test-eq 65535 _ (sym (c .before .before .if2 .left))) (not-eq 1 _ (λ q. c .if3 .taken (sym q))) refl, λ t. absurd (false≢true t))
+    let p = c .before .before in
+    let m = no-mark p in
+    let a = start m .args in
+    record {
+      told = corner-is (a .elements .now) (a .at) (a .k .0) true true false _ (start m .pre .corner) (test-eq 0 _ (sym (m .if1 .left))) (test-eq 65535 _ (sym (p .if2 .left)))
+          (not-eq 1 _ (λ q. c .if3 .taken (sym q))) refl;
+      past = λ t. absurd (false≢true t);
+    }
 
 gather-past-requires : tie.Need-gather-past-requires
 gather-past-requires c κs =
-    let p = c .before .before .before .before .before .before .before .before .pre in
-    (p .0, sym (c .before .if3 .left), search needs, p .2, p .3)
+    let p = start (no-mark (no-plane (c .before))) .pre in
+    record { row = p .row; count = sym (c .before .if3 .left); fits = search needs; mask = p .mask; places = p .places }
 
 add-wide : tie.Need-add-wide
 add-wide c = search needs
@@ -70,11 +97,15 @@ wide-requires c κs = search needs
 
 returns-4 : tie.Need-returns-4
 returns-4 c =
-    let a = c .before .before .before .before .before .before .before .before .before .before .before .args in (
-      corner-is (a .elements .now) (a .at) (a .k) true true true _ (c .before .before .before .before .before .before .before .before .before .before .before .pre .1) (test-eq 0 _ (sym (c .before .before .before .before .before .before .before .before .if1 .left))) (test-eq 65535 _ (sym (c .before .before .before .before .before .before .if2 .left))) (test-eq 1 _ (sym (c .before .before .before .before .if3 .left)))
-          (ap (λ (x : ℕ). eqb x (a .k)) (sym (c .wide .ensures .0))),
-      λ t. c .before .before .gather-past .ensures,
-    )
+    let n = one c in
+    let p = no-plane n in
+    let m = no-mark p in
+    let a = start m .args in
+    record {
+      told = corner-is (a .elements .now) (a .at) (a .k .0) true true true _ (start m .pre .corner) (test-eq 0 _ (sym (m .if1 .left))) (test-eq 65535 _ (sym (p .if2 .left)))
+          (test-eq 1 _ (sym (n .if3 .left))) (ap (λ (x : ℕ). eqb x (a .k .0)) (sym (c .before .wide .ensures .0)));
+      past = λ t. c .before .before .before .gather-past .ensures;
+    }
 
 pub corner-sound-spec : {M : Type 1} → statement M
 corner-sound-spec =

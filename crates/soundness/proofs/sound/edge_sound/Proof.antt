@@ -7,6 +7,13 @@ use borrow.Author.Needs.{needs}
 use Rattle.soundness.proofs.sound.edge_sound.Statement.{statement}
 use Rattle.soundness.proofs.sound.edge_sound.Tie as tie
 
+-- where the function began, and where the count was two
+abbrev start : tie.Else1 → tie.Start
+start c = c .before .before .before .before
+
+abbrev two : tie.After-gather-past → tie.Else1
+two c = c .before .before
+
 mul-at : tie.Need-mul-at
 mul-at c = search needs
 
@@ -21,14 +28,17 @@ shared-slice-read-if1 c = search needs
 
 returns : tie.Need-returns
 returns c =
-    let a = c .before .before .before .args in
-    let p = c .before .before .before .pre in
-    (λ d. edge-open (a .elements .now) d (a .e) _ refl (p .0) (p .1) (c .if1 .taken), λ t. absurd (false≢true t))
+    let begun = c .before .before .before .before in
+    let a = begun .args in
+    record {
+      told = λ d. edge-open (a .elements .now) d (a .e .0) _ refl (begun .pre .long) (begun .pre .inRoom) (c .if1 .taken);
+      past = λ t. absurd (false≢true t);
+    }
 
 gather-past-requires : tie.Need-gather-past-requires
 gather-past-requires c κs =
-    let p = c .before .before .before .before .pre in
-    (omega (arith, p .0, p .1), sym (c .before .if1 .left), search needs, p .2, p .3)
+    let p = start (c .before) .pre in
+    record { row = omega (arith, p .long, p .inRoom); count = sym (c .before .if1 .left); fits = search needs; mask = p .mask; places = p .places }
 
 add-numbers-fit : tie.Need-add-numbers-fit
 add-numbers-fit c = search needs
@@ -41,14 +51,19 @@ add-numbers-fit-3 c = search needs
 
 numbers-fit-requires : tie.Need-numbers-fit-requires
 numbers-fit-requires c κs =
-    let p = c .before .before .before .before .before .pre in
-    (omega arith, omega (arith, p .0, p .1), p .0, omega (arith, p .1))
+    let p = start (two c) .pre in
+    record { part = record { order = omega arith; end = omega (arith, p .long, p .inRoom) }; long = p .long; room = omega (arith, p .inRoom) }
 
 returns-2 : tie.Need-returns-2
 returns-2 c =
-    let a = c .before .before .before .before .before .before .args in
-    let p = c .before .before .before .before .before .before .pre in
-    (λ d. edge-two (a .elements .now) d (a .e) _ refl (p .0) (p .1) (c .before .before .before .if1 .left) (c .numbers-fit .ensures), λ t. c .before .gather-past .ensures)
+    let g = c .before in
+    let n = two g in
+    let a = start n .args in
+    let p = start n .pre in
+    record {
+      told = λ d. edge-two (a .elements .now) d (a .e .0) _ refl (p .long) (p .inRoom) (n .if1 .left) (c .numbers-fit .ensures);
+      past = λ t. g .gather-past .ensures;
+    }
 
 pub edge-sound-spec : {M : Type 1} → statement M
 edge-sound-spec =

@@ -1,9 +1,9 @@
 -- Place by place the words past the boundary join what was seen before.
-use Prim.Native.Nat.{ℕ, _+_, _-_, _≤_}
+use Prim.Native.Nat.{ℕ, _+_, _-_}
 use mathlib.Core.Bool.{Bool, _&&_}
 use mathlib.Core.Path.{sym, ap, _∙_}
 use lib.ListN.{getD, take, drop}
-use Rattle.soundness.specs.Words.{blank}
+use Rattle.soundness.specs.Words.{blankWords}
 use Rattle.soundness.proofs.PastLoops.{Joining, kept-is, joining-start, joining-go, joining-end}
 use Rattle.soundness.proofs.RowLoops.{past-is}
 use borrow.Author.Needs.{needs}
@@ -11,13 +11,20 @@ use Rattle.soundness.proofs.sound.gather_past.Statement.{statement}
 use Rattle.soundness.proofs.sound.gather_past.Tie as tie
 
 abbrev Inv-loop : tie.InvT-loop
-Inv-loop elements at n past seen₀ j₀ seen j = (j ≤ 32) × Joining elements at n seen₀ seen j
+Inv-loop elements at n past seen₀ j₀ seen j = Joining elements at n seen₀ seen j
 
 abbrev μ-loop : tie.MeasureT-loop
 μ-loop elements at n past seen₀ j₀ seen j = 32 - j
 
+-- where the function began, and where a place is taken up
+abbrev start : tie.At-loop Inv-loop μ-loop → tie.Start Inv-loop μ-loop
+start c = c .before .before
+
+abbrev taken-up : tie.After-kept Inv-loop μ-loop → tie.At-loop Inv-loop μ-loop
+taken-up c = c .before .before .before .before .before
+
 loop-holds : tie.Need-loop-holds Inv-loop μ-loop
-loop-holds c = (search needs, joining-start _ _ _ _ (c .before .pre .4))
+loop-holds c = joining-start _ _ _ _ (c .before .pre .places)
 
 mul-seen : tie.Need-mul-seen Inv-loop μ-loop
 mul-seen c = search needs
@@ -38,7 +45,7 @@ shared-slice-read-kept : tie.Need-shared-slice-read-kept Inv-loop μ-loop
 shared-slice-read-kept c = search needs
 
 sub-kept : tie.Need-sub-kept Inv-loop μ-loop
-sub-kept c = search (needs, c .before .before .before .before .before .pre .2)
+sub-kept c = search (needs, c .before .before .before .before .before .pre .fits)
 
 add-kept-3 : tie.Need-add-kept-3 Inv-loop μ-loop
 add-kept-3 c = search needs
@@ -66,24 +73,23 @@ loop-less c = search needs
 
 loop-again : tie.Need-loop-again Inv-loop μ-loop
 loop-again c =
-    let a = c .before .before .before .before .before .before .before .args in
-    let p = c .before .before .before .before .before .before .before .pre in
-    let at = c .before .before .before .before .before .loop in
-    let k = 32 - a .n + at .j in (
-      search needs,
-      joining-go (a .elements .now) (a .at) (a .n) (a .seen .now) (at .seen) (at .j) _ (at .inv .1) (search needs)
-          (kept-is (getD (a .past .now) k 0) (getD (a .elements .now) (a .at + 4 + at .j) 0) _ k (p .3 k (search needs)) (c .kept .ensures)),
-    )
+    let l = taken-up c in
+    let a = start l .args in
+    let at = l .loop in
+    let k = 32 - a .n + at .j in
+    joining-go (a .elements .now) (a .at) (a .n) (a .seen .now) (at .seen) (at .j) _ (at .inv) (search needs)
+    (kept-is (getD (a .past .now) k 0) (getD (a .elements .now) (a .at + 4 + at .j) 0) _ k (start l .pre .mask k (search needs)) (c .kept .ensures))
 
 returns : tie.Need-returns Inv-loop μ-loop
 returns c =
-    let a = c .before .before .before .args in
-    let p = c .before .before .before .pre in
+    let a = start (c .before) .args in
+    let p = start (c .before) .pre in
     let at = c .before .loop in
     record {
-      clear = joining-end (a .elements .now) (a .at) (a .n) (a .seen .now) (p .2) (p .0) (p .4) (at .seen) (at .j) (at .inv .1) (search needs)
-          ∙ ap (λ (m : ℕ). blank (a .seen .now) && blank (drop (a .at + 4 + m) (take (a .at + 36) (a .elements .now)))) (p .1) ∙ ap (λ (b : Bool). blank (a .seen .now) && b) (sym (past-is (a .at) (a .elements .now)));
-      long = at .inv .1 .long;
+      clear = joining-end (a .elements .now) (a .at) (a .n) (a .seen .now) (p .fits) (p .row) (p .places) (at .seen) (at .j) (at .inv) (search needs)
+          ∙ ap (λ (m : ℕ). blankWords (a .seen .now) && blankWords (drop (a .at + 4 + m) (take (a .at + 36) (a .elements .now)))) (p .count)
+          ∙ ap (λ (b : Bool). blankWords (a .seen .now) && b) (sym (past-is (a .at) (a .elements .now)));
+      long = at .inv .long;
     }
 
 pub gather-past-spec : {M : Type 1} → statement M

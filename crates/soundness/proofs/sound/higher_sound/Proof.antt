@@ -8,7 +8,7 @@ use Rattle.soundness.proofs.sound.higher_sound.Tie as tie
 
 -- where the count was found to fit, and where the function began
 abbrev start : tie.Else1 → tie.Start
-start c = c .before .before .before .before
+start c = c .before .before .before .before .before
 
 abbrev counted : tie.After-gather-past → tie.Else1
 counted c = c .before .before
@@ -30,13 +30,19 @@ wide-requires c κs = search needs
 
 returns : tie.Need-returns
 returns c =
-    let a = c .before .before .before .before .args in
-    (polytope-many (a .elements .now) (a .d) (a .e) _ (c .before .wide .ensures .0) (a .rank) (c .if1 .taken), λ t. absurd (false≢true t), λ t. absurd (false≢true t))
+    let begun = c .before .before .before .before .before in
+    let a = begun .args in
+    record {
+      told = polytope-many (a .elements .now) (a .d) (a .e .0) _ (c .before .wide .ensures .0) (a .rank) (c .if1 .taken);
+      unmet = λ t. absurd (false≢true t);
+      past = λ t. absurd (false≢true t);
+    }
 
 gather-past-requires : tie.Need-gather-past-requires
 gather-past-requires c κs =
-    let p = c .before .before .before .before .before .pre in
-    (omega (arith, p .0, p .1), c .before .before .wide .ensures .0, c .before .if1 .left, p .5, p .6)
+    let f = c .before in
+    let p = start f .pre .ready .there in
+    record { row = omega (arith, p .long, p .inRoom); count = f .before .wide .ensures .0; fits = f .if1 .left; mask = p .mask; places = p .places }
 
 add-boundary-sound : tie.Need-add-boundary-sound
 add-boundary-sound c = search needs
@@ -45,17 +51,27 @@ boundary-sound-requires : tie.Need-boundary-sound-requires
 boundary-sound-requires c κs =
     let f = counted (c .before) in
     let p = start f .pre in
-    (p .0, omega (arith, p .1, f .if1 .left), f .if1 .left, p .1, p .2, p .3, p .4)
+    let r = p .ready in
+    record {
+      long = r .there .long;
+      end = omega (arith, r .there .inRoom, f .if1 .left);
+      size = f .if1 .left;
+      inRoom = r .there .inRoom;
+      no-edge = p .no-edge;
+      edges = r .edges;
+      unmet = r .unmet;
+    }
 
 returns-2 : tie.Need-returns-2
 returns-2 c =
     let g = c .before .before in
     let f = counted g in
-    let a = start f .args in (
-      polytope-few (a .elements .now) (a .d) (a .e) _ (f .before .wide .ensures .0) (a .rank) (f .if1 .left) (c .boundary-sound .ensures .0),
-      c .boundary-sound .ensures .1,
-      λ t. g .gather-past .ensures,
-    )
+    let a = start f .args in
+    record {
+      told = polytope-few (a .elements .now) (a .d) (a .e .0) _ (f .before .wide .ensures .0) (a .rank) (f .if1 .left) (c .boundary-sound .ensures .told);
+      unmet = c .boundary-sound .ensures .unmet;
+      past = λ t. g .gather-past .ensures;
+    }
 
 pub higher-sound-spec : {M : Type 1} → statement M
 higher-sound-spec =

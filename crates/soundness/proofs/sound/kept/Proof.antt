@@ -11,7 +11,9 @@ all-ones : (x m : ℕ) → x < 65536 → m ≡ 65535 → bitAnd x m ≡ x
 all-ones x m l e = ap (bitAnd x) e ∙ and-mask x 16 ∙ mod-eq-of-lt l
 
 returns : tie.Need-returns
-returns c = (λ e. ap (bitAnd (c .args .x)) e ∙ and-zero-r (c .args .x), λ e. all-ones (c .args .x) (c .args .mask) (search needs) e)
+returns c =
+    let a = c .args in
+    record { nothing = λ e. ap (bitAnd (a .x)) e ∙ and-zero-r (a .x); whole = λ e. all-ones (a .x) (a .mask) (search needs) e }
 
 pub kept-spec : {M : Type 1} → statement M
 kept-spec = tie.close (tie.spec returns)

@@ -11,7 +11,7 @@ memory-indexed-requires : tie.Need-memory-indexed-requires
 memory-indexed-requires c κs = index-blank _
 
 returns : tie.Need-returns
-returns c = c .before .memory-indexed .ensures .0
+returns c = c .before .memory-indexed .ensures .told
 
 pub memory-sound-spec : {M : Type 1} → statement M
 memory-sound-spec =

@@ -18,12 +18,18 @@ shared-slice-read-if1 c = search needs
 returns : tie.Need-returns
 returns c =
     let a = c .before .before .args in
-    (sym (ap (λ (x : ℕ). cond (eqb x 0) 1 0) (row-first (a .at) (a .elements .now)) ∙ ap (λ (b : Bool). cond b 1 0) (test-eq _ 0 (c .if1 .taken))), search needs)
+    record {
+      corner = sym (ap (λ (x : ℕ). cond (eqb x 0) 1 0) (row-first (a .at) (a .elements .now)) ∙ ap (λ (b : Bool). cond b 1 0) (test-eq _ 0 (c .if1 .taken)));
+      most = search needs;
+    }
 
 returns-2 : tie.Need-returns-2
 returns-2 c =
     let a = c .before .before .args in
-    (sym (ap (λ (x : ℕ). cond (eqb x 0) 1 0) (row-first (a .at) (a .elements .now)) ∙ ap (λ (b : Bool). cond b 1 0) (not-eq _ 0 (c .if1 .left))), search needs)
+    record {
+      corner = sym (ap (λ (x : ℕ). cond (eqb x 0) 1 0) (row-first (a .at) (a .elements .now)) ∙ ap (λ (b : Bool). cond b 1 0) (not-eq _ 0 (c .if1 .left)));
+      most = search needs;
+    }
 
 pub one-if-corner-spec : {M : Type 1} → statement M
 one-if-corner-spec = tie.close (tie.spec mul-if1 shared-slice-read-if1 returns returns-2)

@@ -1,30 +1,35 @@
 -- An edge meets no ends, so the places stay as they are.
-use Prim.Native.Nat.{ℕ, _*_}
+use Prim.Native.Nat.{ℕ}
 use mathlib.Core.Path.{sym, ap, _∙_}
-use lib.ListN.{take, drop}
 use Rattle.rules.specs.Limits.{desk}
+use Rattle.space.specs.Chains.{storedRow}
 use Rattle.soundness.specs.Words.{polytopeWords}
 use Rattle.soundness.proofs.FaceLoops.{unmet-next}
 use Rattle.soundness.proofs.sound.polytope_sound.Statement.{statement}
 use Rattle.soundness.proofs.sound.polytope_sound.Tie as tie
 
+-- where the rank was found to be an edge's, or not
+abbrev edge : tie.After-edge-sound → tie.Then1
+edge c = c .before .before
+
+abbrev higher : tie.After-higher-sound-arg2 → tie.Else1
+higher c = c .before .before
+
 edge-sound-requires : tie.Need-edge-sound-requires
-edge-sound-requires c κs =
-    let p = c .before .before .before .pre in
-    (p .0, p .1, p .4, p .5)
+edge-sound-requires c κs = c .before .before .before .pre .there
 
 returns : tie.Need-returns
 returns c =
-    let a = c .before .before .before .before .args in (
-      c .edge-sound .ensures .0 (a .d) ∙ ap (λ (r : ℕ). polytopeWords desk (a .elements .now) (a .d) (a .e) r (take 36 (drop (a .e * 36) (a .elements .now)))) (sym (c .before .before .if1 .taken)),
-      λ t. unmet-next (a .e) (a .met .now) (c .before .before .before .before .pre .3),
-      c .edge-sound .ensures .1,
-    )
+    let begun = edge c .before .before in
+    let a = begun .args in
+    record {
+      told = c .edge-sound .ensures .told (a .d) ∙ ap (λ (r : ℕ). polytopeWords desk (a .elements .now) (a .d) (a .e .0) r (storedRow (a .elements .now) (a .e .0))) (sym (edge c .if1 .taken));
+      unmet = λ t. unmet-next (a .e .0) (a .met .now) (begun .pre .unmet);
+      past = c .edge-sound .ensures .past;
+    }
 
 higher-sound-requires : tie.Need-higher-sound-requires
-higher-sound-requires c κs =
-    let p = c .before .before .before .before .pre in
-    (p .0, p .1, c .before .before .if1 .left, p .2, p .3, p .4, p .5)
+higher-sound-requires c κs = record { ready = higher c .before .before .pre; no-edge = higher c .if1 .left }
 
 returns-2 : tie.Need-returns-2
 returns-2 c = c .higher-sound .ensures

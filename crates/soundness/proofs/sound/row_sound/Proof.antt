@@ -10,9 +10,13 @@ use borrow.Author.Needs.{needs}
 use Rattle.soundness.proofs.sound.row_sound.Statement.{statement}
 use Rattle.soundness.proofs.sound.row_sound.Tie as tie
 
--- a polytope: where the function began, where its rank and its mark were found to fit, and where its boundary was
+-- where the function began, for a vertex
+abbrev named : tie.Then1 → tie.Start
+named c = c .before .before .before .before .before
+
+-- for a polytope: where the function began, where its rank and its mark were found to fit, and where its boundary was
 abbrev start : tie.Else1 → tie.Start
-start c = c .before .before .before .before
+start c = c .before .before .before .before .before
 
 abbrev ranked : tie.Else3 → tie.Else1
 ranked c = c .before .before .before
@@ -37,16 +41,19 @@ wide-requires c κs = search needs
 
 corner-sound-requires : tie.Need-corner-sound-requires
 corner-sound-requires c κs =
-    let p = c .before .before .before .before .before .pre in
-    (omega (arith, p .0, p .1), sym (c .before .before .wide .ensures .0) ∙ c .before .if1 .taken, p .4, p .5)
+    let f = c .before in
+    let p = named f .pre .there in
+    record { row = omega (arith, p .long, p .inRoom); corner = sym (f .before .wide .ensures .0) ∙ f .if1 .taken; mask = p .mask; places = p .places }
 
 returns : tie.Need-returns
 returns c =
-    let a = c .before .before .before .before .before .before .args in (
-      row-corner (a .elements .now) (a .d) (a .h) (a .k) (a .e) _ (c .before .before .before .wide .ensures .0) (c .before .before .if1 .taken) (c .corner-sound .ensures .0),
-      λ t. unmet-next (a .e) (a .met .now) (c .before .before .before .before .before .before .pre .3),
-      c .corner-sound .ensures .1,
-    )
+    let f = c .before .before in
+    let a = named f .args in
+    record {
+      told = row-corner (a .elements .now) (a .d) (a .h) (a .k .0) (a .e .0) _ (f .before .wide .ensures .0) (f .if1 .taken) (c .corner-sound .ensures .told);
+      unmet = λ t. unmet-next (a .e .0) (a .met .now) (named f .pre .unmet);
+      past = c .corner-sound .ensures .past;
+    }
 
 add-if2 : tie.Need-add-if2
 add-if2 c = search needs
@@ -60,20 +67,24 @@ shared-slice-read-if2 c = search needs
 returns-2 : tie.Need-returns-2
 returns-2 c =
     let r = c .before .before in
-    let a = start r .args in (
-      row-polytope (a .elements .now) (a .d) (a .h) (a .k) (a .e) _ (r .before .wide .ensures .0) _ _ false _ _ _ (r .if1 .left) refl refl (lt-leb _ 1 (c .if2 .taken)) refl refl refl,
-      λ t. absurd (false≢true t),
-      λ t. absurd (false≢true t),
-    )
+    let a = start r .args in
+    record {
+      told = row-polytope (a .elements .now) (a .d) (a .h) (a .k .0) (a .e .0) _ (r .before .wide .ensures .0) _ _ false _ _ _ (r .if1 .left) refl refl
+          (lt-leb _ 1 (c .if2 .taken)) refl refl refl;
+      unmet = λ t. absurd (false≢true t);
+      past = λ t. absurd (false≢true t);
+    }
 
 returns-3 : tie.Need-returns-3
 returns-3 c =
     let r = c .before .before .before in
-    let a = start r .args in (
-      row-polytope (a .elements .now) (a .d) (a .h) (a .k) (a .e) _ (r .before .wide .ensures .0) _ _ true false _ _ (r .if1 .left) refl refl (test-le _ 1 (c .before .if2 .left)) (lt-leb _ (a .d) (c .if3 .taken)) refl refl,
-      λ t. absurd (false≢true t),
-      λ t. absurd (false≢true t),
-    )
+    let a = start r .args in
+    record {
+      told = row-polytope (a .elements .now) (a .d) (a .h) (a .k .0) (a .e .0) _ (r .before .wide .ensures .0) _ _ true false _ _ (r .if1 .left) refl refl
+          (test-le _ 1 (c .before .if2 .left)) (lt-leb _ (a .d) (c .if3 .taken)) refl refl;
+      unmet = λ t. absurd (false≢true t);
+      past = λ t. absurd (false≢true t);
+    }
 
 polytope-sound-requires : tie.Need-polytope-sound-requires
 polytope-sound-requires c κs = start (ranked (c .before .before)) .pre
@@ -83,12 +94,13 @@ returns-4 c =
     let w = c .before in
     let t = fitted w in
     let r = ranked t in
-    let a = start r .args in (
-      row-polytope (a .elements .now) (a .d) (a .h) (a .k) (a .e) _ (r .before .wide .ensures .0) _ _ true true false _ (r .if1 .left) refl refl (test-le _ 1 (t .before .if2 .left)) (test-le _ (a .d) (t .if3 .left))
-          (sym (w .polytope-sound .ensures .0) ∙ not-true _ (c .if4 .taken)) refl,
-      λ t. absurd (false≢true t),
-      λ t. absurd (false≢true t),
-    )
+    let a = start r .args in
+    record {
+      told = row-polytope (a .elements .now) (a .d) (a .h) (a .k .0) (a .e .0) _ (r .before .wide .ensures .0) _ _ true true false _ (r .if1 .left) refl refl
+          (test-le _ 1 (t .before .if2 .left)) (test-le _ (a .d) (t .if3 .left)) (sym (w .polytope-sound .ensures .told) ∙ not-true _ (c .if4 .taken)) refl;
+      unmet = λ t. absurd (false≢true t);
+      past = λ t. absurd (false≢true t);
+    }
 
 add-wide : tie.Need-add-wide
 add-wide c = search needs
@@ -125,12 +137,14 @@ returns-5 c =
     let t = fitted w in
     let r = ranked t in
     let a = start r .args in
-    let yes = not-false _ (b .if4 .left) in (
-      row-polytope (a .elements .now) (a .d) (a .h) (a .k) (a .e) _ (r .before .wide .ensures .0) _ _ true true true _ (r .if1 .left) (q .wide2 .ensures .0) (c .before .wide3 .ensures .0) (test-le _ 1 (t .before .if2 .left)) (test-le _ (a .d) (t .if3 .left))
-          (sym (w .polytope-sound .ensures .0) ∙ yes) (sym (c .facet-sound .ensures)),
-      λ t. w .polytope-sound .ensures .1 yes,
-      λ t. w .polytope-sound .ensures .2 yes,
-    )
+    let yes = not-false _ (b .if4 .left) in
+    record {
+      told = row-polytope (a .elements .now) (a .d) (a .h) (a .k .0) (a .e .0) _ (r .before .wide .ensures .0) _ _ true true true _ (r .if1 .left)
+          (q .wide2 .ensures .0) (c .before .wide3 .ensures .0) (test-le _ 1 (t .before .if2 .left)) (test-le _ (a .d) (t .if3 .left))
+          (sym (w .polytope-sound .ensures .told) ∙ yes) (sym (c .facet-sound .ensures));
+      unmet = λ t. w .polytope-sound .ensures .unmet yes;
+      past = λ t. w .polytope-sound .ensures .past yes;
+    }
 
 pub row-sound-spec : {M : Type 1} → statement M
 row-sound-spec =

@@ -1,6 +1,7 @@
--- What is asked of the rows that are left, with `k` as the vertex that is to be named next, is what is asked of all, where nothing is seen past a boundary so far; and the rows so far are in the index, no two of them equal.
-use Prim.Native.Nat.{_-_, _≤_}
+-- What is asked of the rows that are rowsLeft, with `k` as the vertex that is to be named next, is what is asked of all, where nothing is seen past a boundary so far; and the rows so far are in the index, no two of them equal.
+use Prim.Native.Nat.{ℕ, _-_, _≤_}
 use mathlib.Core.Bool.{_&&_, true, false≢true}
+use mathlib.Core.List.{List}
 use mathlib.Core.Path.{_≡_, refl, sym, ap, _∙_}
 use native.Mathlib.Omega.{arith}
 use lib.ListN.{length}
@@ -10,18 +11,32 @@ use Rattle.space.specs.Chains.{Indexed}
 use Rattle.space.specs.Closed.{Unmet}
 use Rattle.space.proofs.Indexing.{index-count}
 use Rattle.space.proofs.Meetings.{unmet-new}
-use Rattle.soundness.specs.Words.{blank, Mask, stampOf, rowsInUse, EdgesLow}
+use Rattle.soundness.specs.Words.{blankWords, Mask, stampOf, rowsInUse, EdgesLow}
+use Rattle.soundness.specs.Tests.{rowsRead, withRows}
 use Rattle.soundness.proofs.BoundaryLoops.{edges-none, edges-on}
 use Rattle.soundness.proofs.Distinct.{apart, apart-go, apart-no, apart-is}
 use Rattle.soundness.proofs.RowLoops.{whole-room}
-use Rattle.soundness.proofs.OnePass.{left, pass-start, pass-go, pass-no, pass-short, pass-end, row-head, row-element, no-first, no-second, both}
+use Rattle.soundness.proofs.RowsRead.{readFrom, read-start, read-no, read-known, read-go, read-end, with-go}
+use Rattle.soundness.proofs.OnePass.{rowsLeft, pass-start, pass-go, pass-no, pass-short, pass-end, row-head, row-element, no-first, no-second, both}
 use borrow.Author.Needs.{needs}
 use Rattle.soundness.proofs.sound.rows_in_use.Statement.{statement}
 use Rattle.soundness.proofs.sound.rows_in_use.Tie as tie
 
+pub record Passed (es : List ℕ) (d n v h : ℕ) (index₀ past index met seen : List ℕ) (k i : ℕ) : Type 0 where
+  pub within : i ≤ n
+  pub few : k ≤ i
+  pub mask : Mask past
+  pub same : rowsInUse desk d n v h es ≡ (blankWords seen && rowsLeft es d n v h k i)
+  pub edges : EdgesLow es i
+  pub unmet : Unmet (stampOf i) met
+  pub places : length seen ≡ 32
+  pub distinct : apart es i ≡ true
+  pub indexed : Indexed es i index
+  pub read : rowsRead es d n h ≡ readFrom es d n h k i
+  pub joins : index ≡ withRows es i index₀
+
 abbrev Inv-loop : tie.InvT-loop
-Inv-loop elements d n v h index₀ past met₀ seen₀ k₀ i₀ index met seen k i = (i ≤ n) × (k ≤ i) × Mask past × (rowsInUse desk d n v h elements ≡ (blank seen && left elements d n v h k i)) × EdgesLow elements i
-    × Unmet (stampOf i) met × (length seen ≡ 32) × (apart elements i ≡ true) × Indexed elements i index
+Inv-loop elements d n v h index₀ past met₀ seen₀ k₀ i₀ index met seen k i = Passed elements d n v h index₀ past index met seen k i
 
 abbrev μ-loop : tie.MeasureT-loop
 μ-loop elements d n v h index₀ past met₀ seen₀ k₀ i₀ index met seen k i = n - i
@@ -41,40 +56,54 @@ past-mask-requires c κs = search needs
 
 loop-holds : tie.Need-loop-holds Inv-loop μ-loop
 loop-holds c =
-    let a = c .before .before .before .args in (
-      search needs,
-      search needs,
-      c .past-mask .ensures,
-      pass-start (a .elements .now) (a .d) (a .n) (a .v) (a .h),
-      edges-none (a .elements .now),
-      unmet-new,
-      refl,
-      refl,
-      c .before .before .before .pre .2,
-    )
+    let begun = c .before .before .before in
+    let a = begun .args in
+    record {
+      within = search needs;
+      few = search needs;
+      mask = c .past-mask .ensures;
+      same = pass-start (a .elements .now) (a .d) (a .n) (a .v) (a .h);
+      edges = edges-none (a .elements .now);
+      unmet = unmet-new;
+      places = refl;
+      distinct = refl;
+      indexed = begun .pre .empty;
+      read = read-start (a .elements .now) (a .d) (a .n) (a .h);
+      joins = refl;
+    }
 
 row-sound-requires : tie.Need-row-sound-requires Inv-loop μ-loop
 row-sound-requires c κs =
     let f = c .before .before .before in
-    let at = f .before .loop in
+    let inv = f .before .loop .inv in
     let p = start (f .before) .pre in
-    (p .1, omega (arith, p .0, f .loop-test .taken), at .inv .4, at .inv .5, at .inv .2, at .inv .6)
+    record {
+      there = record { long = p .long; inRoom = omega (arith, p .fits, f .loop-test .taken); mask = inv .mask; places = inv .places };
+      edges = inv .edges;
+      unmet = inv .unmet;
+    }
 
 same-length : tie.Need-same-length Inv-loop μ-loop
-same-length c = let l = taken-up (c .before) .before in l .loop .inv .8 .long ∙ sym (start l .pre .2 .long)
+same-length c = let l = taken-up (c .before) .before in l .loop .inv .indexed .long ∙ sym (start l .pre .empty .long)
 
 returns : tie.Need-returns Inv-loop μ-loop
 returns c =
     let f = taken-up (c .before) in
     let at = f .before .loop in
     let a = start (f .before) .args in
-    (no-first _ _ (pass-no (a .elements .now) (a .d) (a .n) (a .v) (a .h) (blank (at .seen)) (at .k) (at .i) (at .inv .3) (f .loop-test .taken) (sym (c .before .row-sound .ensures .0) ∙ not-true _ (c .if1 .taken))), λ e. absurd (false≢true e))
+    let l = f .loop-test .taken in
+    let no = sym (c .before .row-sound .ensures .told) ∙ not-true _ (c .if1 .taken) in
+    record {
+      told = no-first _ _ (pass-no (a .elements .now) (a .d) (a .n) (a .v) (a .h) (blankWords (at .seen)) (at .k) (at .i) (at .inv .same) l no);
+      indexed = λ t. absurd (false≢true t);
+      read = at .inv .joins ∙ ap (λ (m : ℕ). withRows (a .elements .now) m (a .index .now)) (sym (read-no (a .elements .now) (a .d) (a .n) (a .h) (at .k) (at .i) (at .inv .read) l no));
+    }
 
 row-new-requires : tie.Need-row-new-requires Inv-loop μ-loop
 row-new-requires c κs =
     let f = taken-up (c .before .before) in
     let p = start (f .before) .pre in
-    (omega (arith, p .0, f .loop-test .taken), p .1, f .before .loop .inv .8)
+    record { long = p .long; inRoom = omega (arith, p .fits, f .loop-test .taken); earlier = f .before .loop .inv .indexed }
 
 same-length-2 : tie.Need-same-length-2 Inv-loop μ-loop
 same-length-2 c = search needs
@@ -85,7 +114,15 @@ returns-2 c =
     let f = taken-up (tested w .before) in
     let at = f .before .loop in
     let a = start (f .before) .args in
-    (no-second (rowsInUse desk (a .d) (a .n) (a .v) (a .h) (a .elements .now)) _ (sym (apart-is (a .elements .now) (a .n)) ∙ apart-no (a .elements .now) (a .n) (at .i) (f .loop-test .taken) (sym (w .row-new .ensures .0) ∙ not-true _ (c .if2 .taken))), λ e. absurd (false≢true e))
+    let l = f .loop-test .taken in
+    let known = not-true _ (c .if2 .taken) in
+    let old = sym (w .row-new .ensures .told) ∙ known in
+    record {
+      told = no-second (rowsInUse desk (a .d) (a .n) (a .v) (a .h) (a .elements .now)) _ (sym (apart-is (a .elements .now) (a .n)) ∙ apart-no (a .elements .now) (a .n) (at .i) l old);
+      indexed = λ t. absurd (false≢true t);
+      read = w .row-new .ensures .stays known ∙ at .inv .joins
+          ∙ ap (λ (m : ℕ). withRows (a .elements .now) m (a .index .now)) (sym (read-known (a .elements .now) (a .d) (a .n) (a .h) (at .k) (at .i) (at .inv .read) l old));
+    }
 
 mul-one-if-corner : tie.Need-mul-one-if-corner Inv-loop μ-loop
 mul-one-if-corner c = search needs
@@ -109,51 +146,71 @@ loop-again c =
     let r = e .before in
     let f = taken-up r in
     let at = f .before .loop in
+    let inv = at .inv in
     let a = start (f .before) .args in
     let p = start (f .before) .pre in
+    let l = f .loop-test .taken in
     let yes = not-false _ (e .if1 .left) in
     let new = not-false _ (c .before .if2 .left) in
-    let sound = sym (r .row-sound .ensures .0) ∙ yes in
-    let gathered = r .row-sound .ensures .2 yes in (
-      search needs,
-      search needs,
-      at .inv .2,
-      pass-go (a .elements .now) (a .d) (a .n) (a .v) (a .h) (blank (at .seen)) _ (at .k) (at .i) _ (at .inv .3) (f .loop-test .taken) sound (gathered .clear) (c .one-if-corner .ensures .0),
-      edges-on (a .elements .now) (at .i) (a .d) (a .h) (p .1) (omega (arith, p .0, f .loop-test .taken)) (row-head (a .elements .now) (a .d) (a .h) (at .k) (at .i) _ sound) (row-element (a .elements .now) (a .d) (a .h) (at .k) (at .i) _ sound) (at .inv .4),
-      r .row-sound .ensures .1 yes,
-      gathered .long,
-      apart-go (a .elements .now) (at .i) (at .inv .7) (sym (w .row-new .ensures .0) ∙ new),
-      w .row-new .ensures .1 new,
-    )
+    let sound = sym (r .row-sound .ensures .told) ∙ yes in
+    let fresh = sym (w .row-new .ensures .told) ∙ new in
+    let past = r .row-sound .ensures .past yes in
+    let one = c .one-if-corner .ensures .corner in
+    record {
+      within = search needs;
+      few = search needs;
+      mask = inv .mask;
+      same = pass-go (a .elements .now) (a .d) (a .n) (a .v) (a .h) (blankWords (at .seen)) _ (at .k) (at .i) _ (inv .same) l sound (past .clear) one;
+      edges = edges-on (a .elements .now) (at .i) (a .d) (a .h) (p .long) (omega (arith, p .fits, l)) (row-head (a .elements .now) (a .d) (a .h) (at .k) (at .i) _ sound)
+          (row-element (a .elements .now) (a .d) (a .h) (at .k) (at .i) _ sound) (inv .edges);
+      unmet = r .row-sound .ensures .unmet yes;
+      places = past .long;
+      distinct = apart-go (a .elements .now) (at .i) (inv .distinct) fresh;
+      indexed = w .row-new .ensures .indexed new;
+      read = read-go (a .elements .now) (a .d) (a .n) (a .h) (at .k) (at .i) (inv .read) l _ sound fresh one;
+      joins = with-go (a .elements .now) (a .index .now) (at .index) _ (at .i) (inv .joins) (w .row-new .ensures .joins new);
+    }
 
 same-length-3 : tie.Need-same-length-3 Inv-loop μ-loop
-same-length-3 c = let l = c .before .before in l .loop .inv .8 .long ∙ sym (start l .pre .2 .long)
+same-length-3 c = let l = c .before .before in l .loop .inv .indexed .long ∙ sym (start l .pre .empty .long)
 
 returns-3 : tie.Need-returns-3 Inv-loop μ-loop
 returns-3 c =
-    let at = c .before .before .loop in
-    let a = start (c .before .before) .args in
-    (no-first _ _ (pass-short (a .elements .now) (a .d) (a .n) (a .v) (a .h) (blank (at .seen)) (at .k) (at .i) (at .inv .3) (c .before .loop-test .left) (c .if3 .taken)), λ e. absurd (false≢true e))
+    let l = c .before in
+    let at = l .before .loop in
+    let a = start (l .before) .args in
+    record {
+      told = no-first _ _ (pass-short (a .elements .now) (a .d) (a .n) (a .v) (a .h) (blankWords (at .seen)) (at .k) (at .i) (at .inv .same) (l .loop-test .left) (c .if3 .taken));
+      indexed = λ t. absurd (false≢true t);
+      read = at .inv .joins
+          ∙ ap (λ (m : ℕ). withRows (a .elements .now) m (a .index .now)) (sym (read-end (a .elements .now) (a .d) (a .n) (a .h) (at .k) (at .i) (at .inv .read) (l .loop-test .left)));
+    }
 
 slice-aggregate-blank-words : tie.Need-slice-aggregate-blank-words Inv-loop μ-loop
 slice-aggregate-blank-words c = search needs
 
 blank-words-requires : tie.Need-blank-words-requires Inv-loop μ-loop
-blank-words-requires c κs = search (needs, c .before .before .before .loop .inv .6)
+blank-words-requires c κs = record { order = search needs; end = search (needs, c .before .before .before .loop .inv .places) }
 
 same-length-4 : tie.Need-same-length-4 Inv-loop μ-loop
-same-length-4 c = let l = c .before .before .before .before in l .loop .inv .8 .long ∙ sym (start l .pre .2 .long)
+same-length-4 c = let l = c .before .before .before .before in l .loop .inv .indexed .long ∙ sym (start l .pre .empty .long)
 
 returns-4 : tie.Need-returns-4 Inv-loop μ-loop
 returns-4 c =
     let l = c .before .before .before in
     let at = l .before .loop in
+    let inv = at .inv in
     let a = start (l .before) .args in
-    let e : at .i ≡ a .n = omega (arith, at .inv .0, l .loop-test .left) in (
-      both _ _ (c .blank-words .ensures ∙ whole-room blank 0 32 (at .seen) (at .inv .6) ∙ pass-end (a .elements .now) (a .d) (a .n) (a .v) (a .h) (blank (at .seen)) (at .k) (at .i) (at .inv .3) (l .loop-test .left) (c .before .before .if3 .left))
-          (sym (apart-is (a .elements .now) (a .n)) ∙ ap (apart (a .elements .now)) (sym e) ∙ at .inv .7),
-      λ t. index-count _ _ _ _ e (at .inv .8),
-    )
+    let over = l .loop-test .left in
+    let e : at .i ≡ a .n = omega (arith, inv .within, over) in
+    record {
+      told = both _ _
+          (c .blank-words .ensures ∙ whole-room blankWords 0 32 (at .seen) (inv .places)
+          ∙ pass-end (a .elements .now) (a .d) (a .n) (a .v) (a .h) (blankWords (at .seen)) (at .k) (at .i) (inv .same) over (c .before .before .if3 .left))
+          (sym (apart-is (a .elements .now) (a .n)) ∙ ap (apart (a .elements .now)) (sym e) ∙ inv .distinct);
+      indexed = λ t. index-count _ _ _ _ e (inv .indexed);
+      read = inv .joins ∙ ap (λ (m : ℕ). withRows (a .elements .now) m (a .index .now)) (sym (read-end (a .elements .now) (a .d) (a .n) (a .h) (at .k) (at .i) (inv .read) over));
+    }
 
 pub rows-in-use-spec : {M : Type 1} → statement M
 rows-in-use-spec =

@@ -1,23 +1,32 @@
 -- The invariant: the rows are alike exactly when no bit has differed yet and the words that are left are alike.
-use Prim.Native.Nat.{_≤_, _-_}
+use Prim.Native.Nat.{ℕ, _≤_, _-_}
 use mathlib.Core.Bool.{_&&_}
+use mathlib.Core.List.{List}
 use mathlib.Core.Path.{_≡_, refl}
 use native.Mathlib.Omega.{arith}
 use lib.Dec.{eqb}
 use lib.ListN.{take, drop}
 use Rattle.rules.specs.Lists.{alike}
+use Rattle.space.specs.Numbers.{rowWidth}
 use Rattle.space.proofs.RowWords.{unlike-at, same-go, same-end}
 use borrow.Author.Needs.{needs}
 use borrow.Author.Tests.{ne-eqb}
 use Rattle.space.proofs.chains.same_row.Statement.{statement}
 use Rattle.space.proofs.chains.same_row.Tie as tie
 
+record Compared (row stored : List ℕ) (differ j : ℕ) : Type 0 where
+  pub most : j ≤ rowWidth
+  pub so-far : alike eqb row stored ≡ (eqb differ 0 && alike eqb (drop j row) (drop j stored))
+
 abbrev Inv-loop : tie.InvT-loop
-Inv-loop elements at words from differ₀ j₀ differ j =
-    (j ≤ 36) × (alike eqb (take 36 (drop from words)) (take 36 (drop at elements)) ≡ (eqb differ 0 && alike eqb (drop j (take 36 (drop from words))) (drop j (take 36 (drop at elements)))))
+Inv-loop elements at words from differ₀ j₀ differ j = Compared (take rowWidth (drop from words)) (take rowWidth (drop at elements)) differ j
 
 abbrev μ-loop : tie.MeasureT-loop
-μ-loop elements at words from differ₀ j₀ differ j = 36 - j
+μ-loop elements at words from differ₀ j₀ differ j = rowWidth - j
+
+-- where the function began
+abbrev start : tie.At-loop Inv-loop μ-loop → tie.Start Inv-loop μ-loop
+start c = c .before .before .before .before
 
 add-if1 : tie.Need-add-if1 Inv-loop μ-loop
 add-if1 c = search needs
@@ -44,7 +53,7 @@ returns c =
     unlike-at (a .elements .now) (a .words .now) (a .at) (a .from) (p .1) (p .0) 4 (omega arith) (ne-eqb _ _ (c .if1 .taken))
 
 loop-holds : tie.Need-loop-holds Inv-loop μ-loop
-loop-holds c = (search needs, refl)
+loop-holds c = record { most = search needs; so-far = refl }
 
 add-differ : tie.Need-add-differ Inv-loop μ-loop
 add-differ c = search needs
@@ -72,17 +81,18 @@ loop-less c = search needs
 
 loop-again : tie.Need-loop-again Inv-loop μ-loop
 loop-again c =
-    let at = c .before .before .before .loop in
-    let a = c .before .before .before .before .before .before .before .args in
-    let p = c .before .before .before .before .before .before .before .pre in
-    (search needs, same-go (a .elements .now) (a .words .now) (a .at) (a .from) (p .1) (p .0) (at .differ) (at .j) (at .inv .1) (search needs))
+    let up = c .before .before .before in
+    let at = up .loop in
+    let a = start up .args in
+    let p = start up .pre in
+    record { most = search needs; so-far = same-go (a .elements .now) (a .words .now) (a .at) (a .from) (p .1) (p .0) (at .differ) (at .j) (at .inv .so-far) (search needs) }
 
 returns-2 : tie.Need-returns-2 Inv-loop μ-loop
 returns-2 c =
     let at = c .before .loop in
-    let a = c .before .before .before .before .before .args in
-    let p = c .before .before .before .before .before .pre in
-    same-end (a .elements .now) (a .words .now) (a .at) (a .from) (p .1) (p .0) (at .differ) (at .j) (at .inv .1) (omega arith)
+    let a = start (c .before) .args in
+    let p = start (c .before) .pre in
+    same-end (a .elements .now) (a .words .now) (a .at) (a .from) (p .1) (p .0) (at .differ) (at .j) (at .inv .so-far) (omega arith)
 
 pub same-row-spec : {M : Type 1} → statement M
 same-row-spec =

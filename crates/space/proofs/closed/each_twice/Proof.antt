@@ -1,18 +1,25 @@
 -- The ends that are met so far and those that are left make up the whole; n second meetings mean that each end is met twice.
-use Prim.Native.Nat.{_-_, _≤_}
+use Prim.Native.Nat.{ℕ, _-_, _≤_}
+use mathlib.Core.List.{List}
 use mathlib.Core.Path.{ap, sym, _∙_}
 use lib.Dec.{eqb}
 use lib.ListN.{take, replicate}
 use native.Mathlib.Omega.{arith}
 use borrow.Author.Needs.{needs}
+use Rattle.rules.specs.Limits.{desk}
 use Rattle.space.proofs.TwiceMet.{edges-long, edges-fine, edge-at, edge-low, ends-low}
 use Rattle.space.proofs.EndsCounted.{Round, round-start, round-met, round-few, round-end}
 use Rattle.space.proofs.Meetings.{unmet-new}
 use Rattle.space.proofs.closed.each_twice.Statement.{statement}
 use Rattle.space.proofs.closed.each_twice.Tie as tie
 
+-- k of the edges are met
+record SoFar (es list : List ℕ) (n : ℕ) (met : List ℕ) (twice k : ℕ) : Type 0 where
+  bound : k ≤ n
+  round : Round es (take n list) 1 met twice k
+
 abbrev Inv-loop : tie.InvT-loop
-Inv-loop elements list n met₀ twice₀ k₀ met twice k = (k ≤ n) × Round elements (take n list) 1 met twice k
+Inv-loop elements list n met₀ twice₀ k₀ met twice k = SoFar elements list n met twice k
 
 abbrev μ-loop : tie.MeasureT-loop
 μ-loop elements list n met₀ twice₀ k₀ met twice k = n - k
@@ -27,7 +34,7 @@ taken-up c = c .before .before .before .before
 loop-holds : tie.Need-loop-holds Inv-loop μ-loop
 loop-holds c =
     let a = c .before .before .args in
-    (search needs, round-start (a .elements .now) (take (a .n) (a .list .now)) 1 (replicate 512 0) unmet-new)
+    record { bound = search needs; round = round-start (a .elements .now) (take (a .n) (a .list .now)) 1 (replicate (desk .elements) 0) unmet-new }
 
 mul-wide : tie.Need-mul-wide Inv-loop μ-loop
 mul-wide c = search needs
@@ -46,7 +53,12 @@ meet-ends-requires c κs =
     let k = f .before .loop .k in
     let h = f .loop-test .taken in
     let e = c .before .wide .ensures .0 in
-    (p .0, edge-low (a .list .now) (a .n) (p .1) k _ h e (p .3), ends-low (a .list .now) (a .n) (p .1) k _ h e (a .elements .now) (p .4), search needs)
+    record {
+      elements = p .elements;
+      room = edge-low (a .list .now) (a .n) (p .long) k _ h e (p .low);
+      ends = ends-low (a .list .now) (a .n) (p .long) k _ h e (a .elements .now) (p .ends);
+      stamp = search needs;
+    }
 
 add-twice : tie.Need-add-twice Inv-loop μ-loop
 add-twice c =
@@ -54,8 +66,8 @@ add-twice c =
     let at = f .before .loop in
     let a = start (f .before) .args in
     let p = start (f .before) .pre in
-    let few = round-few (a .elements .now) (take (a .n) (a .list .now)) 1 (at .met) (at .twice) (at .k) (at .inv .1) in
-    omega (arith, few, c .meet-ends .ensures .2, p .2, at .inv .0)
+    let few = round-few (a .elements .now) (take (a .n) (a .list .now)) 1 (at .met) (at .twice) (at .k) (at .inv .round) in
+    omega (arith, few, c .meet-ends .ensures .most, p .size, at .inv .bound)
 
 add-k : tie.Need-add-k Inv-loop μ-loop
 add-k c = search needs
@@ -72,21 +84,24 @@ loop-again c =
     let h = f .loop-test .taken in
     let w = c .before .before .wide in
     let e = w .ensures .0 in
-    let l = edges-long (a .list .now) (a .n) (p .1) in (
-      search needs,
-      round-met (a .elements .now) (take (a .n) (a .list .now)) 1 (at .met) _ (at .twice) (at .k) (w .result) _ (at .inv .1) (omega (arith, l, h))
-          (edge-at (a .list .now) (a .n) (p .1) (at .k) _ h e)
-          (ends-low (a .list .now) (a .n) (p .1) (at .k) _ h e (a .elements .now) (p .4))
-          (c .meet-ends .ensures .0) (c .meet-ends .ensures .1),
-    )
+    let l = edges-long (a .list .now) (a .n) (p .long) in
+    record {
+      bound = search needs;
+      round = round-met (a .elements .now) (take (a .n) (a .list .now)) 1 (at .met) _ (at .twice) (at .k) (w .result) _ (at .inv .round) (omega (arith, l, h))
+          (edge-at (a .list .now) (a .n) (p .long) (at .k) _ h e)
+          (ends-low (a .list .now) (a .n) (p .long) (at .k) _ h e (a .elements .now) (p .ends))
+          (c .meet-ends .ensures .count) (c .meet-ends .ensures .words);
+    }
 
 returns : tie.Need-returns Inv-loop μ-loop
 returns c =
     let a = c .before .before .before .before .args in
     let p = c .before .before .before .before .pre in
     let at = c .before .loop in
-    let l = edges-long (a .list .now) (a .n) (p .1) in
-    ap (eqb (at .twice)) (sym l) ∙ round-end (a .elements .now) (take (a .n) (a .list .now)) 1 (at .met) (at .twice) (at .k) (at .inv .1) (omega (arith, l)) (λ j q. edges-fine (a .list .now) (a .n) (p .1) (a .elements .now) (p .3) (p .4) j q .1)
+    let l = edges-long (a .list .now) (a .n) (p .long) in
+    ap (eqb (at .twice)) (sym l)
+    ∙ round-end (a .elements .now) (take (a .n) (a .list .now)) 1 (at .met) (at .twice) (at .k) (at .inv .round) (omega (arith, l))
+    (λ j q. edges-fine (a .list .now) (a .n) (p .long) (a .elements .now) (p .low) (p .ends) j q .1)
 
 pub each-twice-spec : {M : Type 1} → statement M
 each-twice-spec =

@@ -1,11 +1,12 @@
 -- Below the stamp the corner is its own path; else its word says the other end.
-use Prim.Native.Nat.{_-_, _<_}
+use Prim.Native.Nat.{_-_, _≤_}
 use mathlib.Core.Bool.{Bool, cond}
 use mathlib.Core.Path.{ap, sym}
 use native.Mathlib.Omega.{arith}
 use lib.ListN.{getD}
 use borrow.Author.Needs.{needs}
 use borrow.Author.Tests.{lt-ltb, le-ltb}
+use Rattle.space.specs.Closed.{inside}
 use Rattle.space.proofs.closed.far_end.Statement.{statement}
 use Rattle.space.proofs.closed.far_end.Tie as tie
 
@@ -21,7 +22,7 @@ returns c =
     let p = c .before .before .pre in
     let l = p .0 in (
       sym (ap (λ (b : Bool). cond b (a .v) (getD (a .paths .now) (a .v) 0 - a .stamp)) (lt-ltb (getD (a .paths .now) (a .v) 0) (a .stamp) (c .if1 .taken))),
-      let z : a .v < 513 = omega (arith, l) in z,
+      let z : a .v ≤ inside = omega (arith, l) in z,
     )
 
 cast-result : tie.Need-cast-result
@@ -29,7 +30,7 @@ cast-result c =
     let a = c .before .before .args in
     let p = c .before .before .pre in
     let u = p .1 .under (a .v) (p .0) in
-    let z : getD (a .paths .now) (a .v) 0 - a .stamp < 513 = omega (arith, u) in
+    let z : getD (a .paths .now) (a .v) 0 - a .stamp ≤ inside = omega (arith, u) in
     search (needs, z)
 
 returns-2 : tie.Need-returns-2
@@ -38,7 +39,7 @@ returns-2 c =
     let p = c .before .before .pre in
     let u = p .1 .under (a .v) (p .0) in (
       sym (ap (λ (b : Bool). cond b (a .v) (getD (a .paths .now) (a .v) 0 - a .stamp)) (le-ltb (getD (a .paths .now) (a .v) 0) (a .stamp) (c .if1 .left))),
-      let z : getD (a .paths .now) (a .v) 0 - a .stamp < 513 = omega (arith, u) in z,
+      let z : getD (a .paths .now) (a .v) 0 - a .stamp ≤ inside = omega (arith, u) in z,
     )
 
 pub far-end-spec : {M : Type 1} → statement M

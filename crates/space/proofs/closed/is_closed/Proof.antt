@@ -30,7 +30,7 @@ returns : tie.Need-returns
 returns c =
     let s = c .before .before .before .before in
     let a = s .args in
-    closed-one (getD (a .counts .now) 0 0) (a .elements .now) (take (a .n) (a .list .now)) (a .rank) (a .n) (edges-long (a .list .now) (a .n) (s .pre .2)) (c .if1 .taken)
+    closed-one (getD (a .counts .now) 0 0) (a .elements .now) (take (a .n) (a .list .now)) (a .rank) (a .n) (edges-long (a .list .now) (a .n) (s .pre .long)) (c .if1 .taken)
 
 returns-2 : tie.Need-returns-2
 returns-2 c =
@@ -48,24 +48,30 @@ few-edges-requires : tie.Need-few-edges-requires
 few-edges-requires c κs = search needs
 
 each-twice-requires : tie.Need-each-twice-requires
-each-twice-requires c κs = let e = c .before .before .before .before in let p = start e .pre in (p .1, p .2, p .3, p .4, p .5 (e .if2 .left))
+each-twice-requires c κs =
+    let e = c .before .before .before .before in
+    let p = start e .pre in
+    record { elements = p .elements; long = p .long; size = p .size; low = p .low; ends = p .ends (e .if2 .left) }
 
 returns-3 : tie.Need-returns-3
 returns-3 c =
     let e = counted c in
     let a = start e .args in
-    let l = edges-long (a .list .now) (a .n) (start e .pre .2) in
+    let l = edges-long (a .list .now) (a .n) (start e .pre .long) in
     closed-few (getD (a .counts .now) 0 0) (a .elements .now) (take (a .n) (a .list .now)) (a .rank) (c .each-twice .ensures)
     (few-at (take (a .n) (a .list .now)) l (c .before .if3 .taken) (c .before .before .few-edges .ensures) (c .before .before .before .wide .ensures .0)) (e .if2 .left)
 
 is-ring-requires : tie.Need-is-ring-requires
-is-ring-requires c κs = let e = c .before .before .before .before in let p = start e .pre in (p .1, p .2, p .3, p .4, p .5 (e .if2 .left))
+is-ring-requires c κs =
+    let e = c .before .before .before .before in
+    let p = start e .pre in
+    record { elements = p .elements; long = p .long; size = p .size; low = p .low; ends = p .ends (e .if2 .left) }
 
 returns-4 : tie.Need-returns-4
 returns-4 c =
     let e = joined c in
     let a = start e .args in
-    let l = edges-long (a .list .now) (a .n) (start e .pre .2) in
+    let l = edges-long (a .list .now) (a .n) (start e .pre .long) in
     closed-many (getD (a .counts .now) 0 0) (a .elements .now) (take (a .n) (a .list .now)) (a .rank) (c .is-ring .ensures)
     (many-at (take (a .n) (a .list .now)) l (c .before .if3 .left) (c .before .before .few-edges .ensures) (c .before .before .before .wide .ensures .0)) (e .if2 .left)
 

@@ -1,5 +1,5 @@
 -- The answer by the tests in turn; the four words are written only where the edge joins two paths.
-use Prim.Native.Nat.{ℕ, _+_, _≤_}
+use Prim.Native.Nat.{ℕ, _+_}
 use mathlib.Core.Bool.{Bool, cond}
 use mathlib.Core.List.{List}
 use mathlib.Core.Path.{_≡_, ap, ap₂, sym, _∙_, refl}
@@ -7,7 +7,7 @@ use native.Mathlib.Omega.{arith}
 use lib.Dec.{eqb, lit≤}
 use borrow.Author.Needs.{needs}
 use Rattle.rules.proofs.Laws.{test-eq, not-eq}
-use Rattle.space.specs.Closed.{firstEnd, secondEnd, farEnd, joinCode, joinWords, joining, joined}
+use Rattle.space.specs.Closed.{firstEnd, secondEnd, farEnd, inside, joinCode, joinWords, joining, joined}
 use Rattle.space.proofs.closed.join_ends.Statement.{statement}
 use Rattle.space.proofs.closed.join_ends.Tie as tie
 
@@ -26,20 +26,20 @@ module _ (s : ℕ) (es paths : List ℕ) (e a b x y : ℕ) (p : a ≡ firstEnd e
   unfolding joined
   words-are = sym (λ i. joinWords s paths (sym p i) (sym q i) (far-x i) (far-y i))
 
-  first-thrice : x ≡ 512 → 4 ≡ joining s es paths e
-  first-thrice h = sym (ap (λ (t : Bool). cond t 4 (cond (eqb y 512) 4 (cond (eqb x b) 3 (cond (eqb x a) 0 1 + cond (eqb y b) 0 1)))) (test-eq x 512 h)) ∙ code-is
+  first-thrice : x ≡ inside → 4 ≡ joining s es paths e
+  first-thrice h = sym (ap (λ (t : Bool). cond t 4 (cond (eqb y inside) 4 (cond (eqb x b) 3 (cond (eqb x a) 0 1 + cond (eqb y b) 0 1)))) (test-eq x inside h)) ∙ code-is
 
-  module _ (n : x ≡ 512 → ⊥) where
-    second-thrice : y ≡ 512 → 4 ≡ joining s es paths e
+  module _ (n : x ≡ inside → ⊥) where
+    second-thrice : y ≡ inside → 4 ≡ joining s es paths e
     second-thrice h =
-        sym (ap (λ (t : Bool). cond t 4 (cond (eqb y 512) 4 (cond (eqb x b) 3 (cond (eqb x a) 0 1 + cond (eqb y b) 0 1)))) (not-eq x 512 n)
-        ∙ ap (λ (t : Bool). cond t 4 (cond (eqb x b) 3 (cond (eqb x a) 0 1 + cond (eqb y b) 0 1))) (test-eq y 512 h)) ∙ code-is
+        sym (ap (λ (t : Bool). cond t 4 (cond (eqb y inside) 4 (cond (eqb x b) 3 (cond (eqb x a) 0 1 + cond (eqb y b) 0 1)))) (not-eq x inside n)
+        ∙ ap (λ (t : Bool). cond t 4 (cond (eqb x b) 3 (cond (eqb x a) 0 1 + cond (eqb y b) 0 1))) (test-eq y inside h)) ∙ code-is
 
-    module _ (m : y ≡ 512 → ⊥) where
+    module _ (m : y ≡ inside → ⊥) where
       not-thrice : joinCode a b x y ≡ cond (eqb x b) 3 (cond (eqb x a) 0 1 + cond (eqb y b) 0 1)
       not-thrice =
-          ap (λ (t : Bool). cond t 4 (cond (eqb y 512) 4 (cond (eqb x b) 3 (cond (eqb x a) 0 1 + cond (eqb y b) 0 1)))) (not-eq x 512 n)
-          ∙ ap (λ (t : Bool). cond t 4 (cond (eqb x b) 3 (cond (eqb x a) 0 1 + cond (eqb y b) 0 1))) (not-eq y 512 m)
+          ap (λ (t : Bool). cond t 4 (cond (eqb y inside) 4 (cond (eqb x b) 3 (cond (eqb x a) 0 1 + cond (eqb y b) 0 1)))) (not-eq x inside n)
+          ∙ ap (λ (t : Bool). cond t 4 (cond (eqb x b) 3 (cond (eqb x a) 0 1 + cond (eqb y b) 0 1))) (not-eq y inside m)
 
       closing : x ≡ b → 3 ≡ joining s es paths e
       closing h = sym (not-thrice ∙ ap (λ (t : Bool). cond t 3 (cond (eqb x a) 0 1 + cond (eqb y b) 0 1)) (test-eq x b h)) ∙ code-is
@@ -85,7 +85,7 @@ returns c =
     let q = t .wide2 .ensures .0 ∙ t .before .boundary-at2 .ensures in
     let f = z .before .before .far-end .ensures .0 in
     let g = z .far-end2 .ensures .0 in
-    (first-thrice (a .stamp) (a .elements .now) (a .paths .now) (a .e) _ _ _ _ p q f g (c .if1 .taken), λ l. absurd (omega (arith, l)), λ l. refl, lit≤ tt)
+    record { code = first-thrice (a .stamp) (a .elements .now) (a .paths .now) (a .e .0) _ _ _ _ p q f g (c .if1 .taken); words = λ l. absurd (omega (arith, l)); kept = λ l. refl; most = lit≤ tt }
 
 returns-2 : tie.Need-returns-2
 returns-2 c =
@@ -97,7 +97,12 @@ returns-2 c =
     let q = t .wide2 .ensures .0 ∙ t .before .boundary-at2 .ensures in
     let f = z .before .before .far-end .ensures .0 in
     let g = z .far-end2 .ensures .0 in
-    (second-thrice (a .stamp) (a .elements .now) (a .paths .now) (a .e) _ _ _ _ p q f g (c .before .if1 .left) (c .if2 .taken), λ l. absurd (omega (arith, l)), λ l. refl, lit≤ tt)
+    record {
+      code = second-thrice (a .stamp) (a .elements .now) (a .paths .now) (a .e .0) _ _ _ _ p q f g (c .before .if1 .left) (c .if2 .taken);
+      words = λ l. absurd (omega (arith, l));
+      kept = λ l. refl;
+      most = lit≤ tt;
+    }
 
 returns-3 : tie.Need-returns-3
 returns-3 c =
@@ -109,19 +114,24 @@ returns-3 c =
     let q = t .wide2 .ensures .0 ∙ t .before .boundary-at2 .ensures in
     let f = z .before .before .far-end .ensures .0 in
     let g = z .far-end2 .ensures .0 in
-    (closing (a .stamp) (a .elements .now) (a .paths .now) (a .e) _ _ _ _ p q f g (c .before .before .if1 .left) (c .before .if2 .left) (c .if3 .taken), λ l. absurd (omega (arith, l)), λ l. refl, lit≤ tt)
+    record {
+      code = closing (a .stamp) (a .elements .now) (a .paths .now) (a .e .0) _ _ _ _ p q f g (c .before .before .if1 .left) (c .before .if2 .left) (c .if3 .taken);
+      words = λ l. absurd (omega (arith, l));
+      kept = λ l. refl;
+      most = lit≤ tt;
+    }
 
-add-paths : tie.Need-add-paths
-add-paths c = search needs
+cast-inside : tie.Need-cast-inside
+cast-inside c = search needs
+
+add-inside : tie.Need-add-inside
+add-inside c = search needs
 
 mul-paths : tie.Need-mul-paths
 mul-paths c = search needs
 
 element-write-paths : tie.Need-element-write-paths
 element-write-paths c = search needs
-
-add-paths-2 : tie.Need-add-paths-2
-add-paths-2 c = search needs
 
 mul-paths-2 : tie.Need-mul-paths-2
 mul-paths-2 c = search needs
@@ -132,8 +142,8 @@ element-write-paths-2 c = search needs
 cast-paths : tie.Need-cast-paths
 cast-paths c = search needs
 
-add-paths-3 : tie.Need-add-paths-3
-add-paths-3 c = search needs
+add-paths : tie.Need-add-paths
+add-paths c = search needs
 
 mul-paths-3 : tie.Need-mul-paths-3
 mul-paths-3 c = search needs
@@ -144,8 +154,8 @@ element-write-paths-3 c = search needs
 cast-paths-2 : tie.Need-cast-paths-2
 cast-paths-2 c = search needs
 
-add-paths-4 : tie.Need-add-paths-4
-add-paths-4 c = search needs
+add-paths-2 : tie.Need-add-paths-2
+add-paths-2 c = search needs
 
 mul-paths-4 : tie.Need-mul-paths-4
 mul-paths-4 c = search needs
@@ -176,13 +186,14 @@ returns-4 c =
     let u = c .before .one-unless-same in
     let v = c .one-unless-same2 in
     let lu = u .ensures .1 in
-    let lv = v .ensures .1 in (
-      ap₂ (λ (m n : ℕ). m + n) (u .ensures .0) (v .ensures .0)
-          ∙ counting (a .stamp) (a .elements .now) (a .paths .now) (a .e) _ _ _ _ p q f g (j .before .before .if1 .left) (j .before .if2 .left) (j .if3 .left),
-      λ l. words-are (a .stamp) (a .elements .now) (a .paths .now) (a .e) _ _ _ _ p q f g,
-      λ l. absurd (omega (arith, l, lu, lv)),
-      omega (arith, lu, lv),
-    )
+    let lv = v .ensures .1 in
+    record {
+      code = ap₂ (λ (m n : ℕ). m + n) (u .ensures .0) (v .ensures .0)
+          ∙ counting (a .stamp) (a .elements .now) (a .paths .now) (a .e .0) _ _ _ _ p q f g (j .before .before .if1 .left) (j .before .if2 .left) (j .if3 .left);
+      words = λ l. words-are (a .stamp) (a .elements .now) (a .paths .now) (a .e .0) _ _ _ _ p q f g;
+      kept = λ l. absurd (omega (arith, l, lu, lv));
+      most = omega (arith, lu, lv);
+    }
 
 pub join-ends-spec : {M : Type 1} → statement M
 join-ends-spec =
@@ -197,18 +208,18 @@ join-ends-spec =
     returns
     returns-2
     returns-3
-    add-paths
+    cast-inside
+    add-inside
     mul-paths
     element-write-paths
-    add-paths-2
     mul-paths-2
     element-write-paths-2
     cast-paths
-    add-paths-3
+    add-paths
     mul-paths-3
     element-write-paths-3
     cast-paths-2
-    add-paths-4
+    add-paths-2
     mul-paths-4
     element-write-paths-4
     one-unless-same-requires

@@ -1,5 +1,5 @@
 -- The two ends one after the other; each is 1 at most.
-use Prim.Native.Nat.{ℕ, _+_, _*_, _≤_}
+use Prim.Native.Nat.{ℕ, _+_, _≤_}
 use mathlib.Core.Bool.{Bool, true, false, cond}
 use mathlib.Core.List.{List}
 use mathlib.Core.Path.{_≡_, ap, ap₂, _∙_}
@@ -7,7 +7,7 @@ use native.Mathlib.Omega.{arith}
 use lib.Dec.{eqb, lit≤}
 use lib.ListN.{getD}
 use borrow.Author.Needs.{needs}
-use Rattle.space.specs.Closed.{isSecond, meeting, seconds, bothMet}
+use Rattle.space.specs.Closed.{firstEnd, secondEnd, isSecond, meeting, seconds, bothMet}
 use Rattle.space.proofs.closed.meet_ends.Statement.{statement}
 use Rattle.space.proofs.closed.meet_ends.Tie as tie
 
@@ -21,8 +21,8 @@ both-few {f} {g} s met one a b p q =
     few true = lit≤ tt
     few false = lit≤ tt
 
-module _ (s : ℕ) (es met one : List ℕ) (e a b : ℕ) (p : a ≡ getD es (e * 36 + 4) 0) (q : b ≡ getD es (e * 36 + 5) 0) (h : one ≡ meeting s met a) where
-  first-met : one ≡ meeting s met (getD es (e * 36 + 4) 0)
+module _ (s : ℕ) (es met one : List ℕ) (e a b : ℕ) (p : a ≡ firstEnd es e) (q : b ≡ secondEnd es e) (h : one ≡ meeting s met a) where
+  first-met : one ≡ meeting s met (firstEnd es e)
   first-met = h ∙ ap (meeting s met) p
 
   both-count : isSecond s met a + isSecond s one b ≡ seconds s es met e
@@ -32,6 +32,16 @@ module _ (s : ℕ) (es met one : List ℕ) (e a b : ℕ) (p : a ≡ getD es (e *
   both-met : meeting s one b ≡ bothMet s es met e
   unfolding bothMet
   both-met = ap₂ (meeting s) first-met q
+
+-- where the function began, where the first end was read, and where both were
+abbrev start : tie.After-wide → tie.Start
+start c = c .before .before .before
+
+abbrev first : tie.After-wide2 → tie.After-wide
+first c = c .before .before
+
+abbrev met-first : tie.After-meet2 → tie.After-wide2
+met-first c = c .before .before .before .before
 
 boundary-at-requires : tie.Need-boundary-at-requires
 boundary-at-requires c κs = search needs
@@ -53,22 +63,26 @@ meet-requires-2 c κs = search needs
 
 add-result : tie.Need-add-result
 add-result c =
-    let a = c .before .before .before .before .before .before .before .before .before .args in
+    let r = met-first c in
+    let a = start (first r) .args in
     let one = c .before .before .meet in
-    let few = both-few (a .stamp) (a .met .now) (one .last .0) (c .before .before .before .before .before .before .wide .result) (c .before .before .before .before .wide2 .result) (one .ensures .0) (c .meet2 .ensures .0) in
+    let few = both-few (a .stamp) (a .met .now) (one .last .0) (first r .wide .result) (r .wide2 .result) (one .ensures .0) (c .meet2 .ensures .0) in
     omega arith
 
 returns : tie.Need-returns
 returns c =
-    let a = c .before .before .before .before .before .before .before .before .before .args in
-    let p = c .before .before .before .before .before .before .wide .ensures .0 ∙ c .before .before .before .before .before .before .before .boundary-at .ensures in
-    let q = c .before .before .before .before .wide2 .ensures .0 ∙ c .before .before .before .before .before .boundary-at2 .ensures in
+    let r = met-first c in
+    let w = first r in
+    let a = start w .args in
+    let p = w .wide .ensures .0 ∙ w .before .boundary-at .ensures in
+    let q = r .wide2 .ensures .0 ∙ r .before .boundary-at2 .ensures in
     let one = c .before .before .meet in
-    let two = c .meet2 in (
-      ap₂ (λ (x y : ℕ). x + y) (one .ensures .0) (two .ensures .0) ∙ both-count (a .stamp) (a .elements .now) (a .met .now) (one .last .0) (a .e) _ _ p q (one .ensures .1),
-      two .ensures .1 ∙ both-met (a .stamp) (a .elements .now) (a .met .now) (one .last .0) (a .e) _ _ p q (one .ensures .1),
-      both-few (a .stamp) (a .met .now) (one .last .0) (c .before .before .before .before .before .before .wide .result) (c .before .before .before .before .wide2 .result) (one .ensures .0) (two .ensures .0),
-    )
+    let two = c .meet2 in
+    record {
+      count = ap₂ (λ (x y : ℕ). x + y) (one .ensures .0) (two .ensures .0) ∙ both-count (a .stamp) (a .elements .now) (a .met .now) (one .last .0) (a .e .0) _ _ p q (one .ensures .1);
+      words = two .ensures .1 ∙ both-met (a .stamp) (a .elements .now) (a .met .now) (one .last .0) (a .e .0) _ _ p q (one .ensures .1);
+      most = both-few (a .stamp) (a .met .now) (one .last .0) (w .wide .result) (r .wide2 .result) (one .ensures .0) (two .ensures .0);
+    }
 
 pub meet-ends-spec : {M : Type 1} → statement M
 meet-ends-spec =

@@ -4,6 +4,22 @@ use borrow.Author.Needs.{needs}
 use Rattle.space.proofs.memo.add_hyperplane.Statement.{statement}
 use Rattle.space.proofs.memo.add_hyperplane.Tie as tie
 
+-- where the first number to match was known, where the hyperplanes were counted, where one was sought and its row made, and where it was shared
+abbrev first-asked : tie.After-wide2 → tie.After-primordials
+first-asked c = c .before .before
+
+abbrev counted : tie.After-find-hyperplane → tie.After-wide2
+counted c = c .before .before
+
+abbrev row-made : tie.After-share-hyperplane → tie.After-hyperplane-row
+row-made c = c .before .before .before
+
+abbrev sought : tie.After-share-hyperplane → tie.After-find-hyperplane
+sought c = row-made c .before
+
+abbrev shared : tie.After-slice-known6 → tie.After-share-hyperplane
+shared c = c .before .before .before .before
+
 slice-read-wide : tie.Need-slice-read-wide
 slice-read-wide c = search needs
 
@@ -35,7 +51,9 @@ same-length-2 : tie.Need-same-length-2
 same-length-2 c = search needs
 
 returns : tie.Need-returns
-returns c = hyperplane-added _ _ _ (c .before .before .before .before .before .before .before .before .before .before .before .before .before .wide .ensures .0) (c .before .before .before .before .before .before .before .before .before .before .before .before .primordials .ensures) (c .before .before .before .before .before .before .before .before .before .before .wide2 .ensures .0) (search needs) (c .before .before .before .before .before .before .before .hyperplane-row .ensures) (c .before .before .before .before .before .before .before .before .find-hyperplane .ensures) (c .before .before .before .before .share-hyperplane .ensures)
+returns c =
+    hyperplane-added _ _ _ (first-asked (counted (sought (shared c))) .before .wide .ensures .0) (first-asked (counted (sought (shared c))) .primordials .ensures)
+    (counted (sought (shared c)) .wide2 .ensures .0) (search needs) (row-made (shared c) .hyperplane-row .ensures) (sought (shared c) .find-hyperplane .ensures) (shared c .share-hyperplane .ensures)
 
 pub add-hyperplane-spec : {M : Type 1} → statement M
 add-hyperplane-spec =

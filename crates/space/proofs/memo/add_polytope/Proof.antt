@@ -27,13 +27,13 @@ returns : tie.Need-returns
 returns c =
     let a = c .before .before .before .before .args in
     let p = c .before .before .before .before .pre in
-    (poly-few _ _ _ _ _ _ (a .n) (taken (a .list .now) (a .n) (p .3) (p .4)) (c .if1 .taken), p .8)
+    (poly-few _ _ _ _ _ _ (a .n) (taken (a .list .now) (a .n) (p .words) (p .size)) (c .if1 .taken), p .index)
 
 returns-2 : tie.Need-returns-2
 returns-2 c =
     let a = c .before .before .before .before .before .args in
     let p = c .before .before .before .before .before .pre in
-    (poly-many _ _ _ _ _ _ (a .n) (taken (a .list .now) (a .n) (p .3) (p .4)) (c .before .if1 .left) (c .if2 .taken), p .8)
+    (poly-many _ _ _ _ _ _ (a .n) (taken (a .list .now) (a .n) (p .words) (p .size)) (c .before .if1 .left) (c .if2 .taken), p .index)
 
 is-closed-requires : tie.Need-is-closed-requires
 is-closed-requires c κs = search needs
@@ -49,7 +49,7 @@ returns-3 c =
     let f = fits (c .before) in
     let a = start f .args in
     let p = start f .pre in
-    (poly-open _ _ _ _ _ _ (a .n) (taken (a .list .now) (a .n) (p .3) (p .4)) (f .before .if1 .left) (f .if2 .left) (sym (c .before .is-closed .ensures) ∙ not-true _ (c .if3 .taken)), p .8)
+    (poly-open _ _ _ _ _ _ (a .n) (taken (a .list .now) (a .n) (p .words) (p .size)) (f .before .if1 .left) (f .if2 .left) (sym (c .before .is-closed .ensures) ∙ not-true _ (c .if3 .taken)), p .index)
 
 polytope-row-requires : tie.Need-polytope-row-requires
 polytope-row-requires c κs = search needs
@@ -58,7 +58,9 @@ slice-aggregate-add-row : tie.Need-slice-aggregate-add-row
 slice-aggregate-add-row c = search needs
 
 add-row-requires : tie.Need-add-row-requires
-add-row-requires c κs = let p = start (fits (tested (c .before .before .before .before))) .pre in (p .0, p .1, p .2, search needs, p .8)
+add-row-requires c κs =
+    let p = start (fits (tested (c .before .before .before .before))) .pre in
+    record { counts = p .counts; elements = p .elements; room = p .room; row = search needs; index = p .index }
 
 enum-known-placed : tie.Need-enum-known-placed
 enum-known-placed c = search needs
@@ -83,7 +85,7 @@ returns-4 c =
     let f = fits t in
     let a = start f .args in
     let p = start f .pre in
-    let l = taken (a .list .now) (a .n) (p .3) (p .4) in
+    let l = taken (a .list .now) (a .n) (p .words) (p .size) in
     let q = sym (t .is-closed .ensures) ∙ not-false _ (w .before .if3 .left) in
     (poly-refused _ _ _ _ _ _ (a .n) l (f .before .if1 .left) (f .if2 .left) q _ _ _ _ (w .polytope-row .ensures) (r .add-row .ensures .0) _ (c .before .placed .given .1), r .add-row .ensures .1)
 
@@ -104,7 +106,7 @@ returns-5 c =
     let f = fits t in
     let a = start f .args in
     let p = start f .pre in
-    let l = taken (a .list .now) (a .n) (p .3) (p .4) in
+    let l = taken (a .list .now) (a .n) (p .words) (p .size) in
     let q = sym (t .is-closed .ensures) ∙ not-false _ (w .before .if3 .left) in
     (poly-made _ _ _ _ _ _ (a .n) l (f .before .if1 .left) (f .if2 .left) q _ _ _ _ (w .polytope-row .ensures) (r .add-row .ensures .0) _ (c .before .placed2 .given .1), r .add-row .ensures .1)
 

@@ -5,6 +5,22 @@ use borrow.Author.Needs.{needs}
 use Rattle.space.proofs.memo.add_vertex.Statement.{statement}
 use Rattle.space.proofs.memo.add_vertex.Tie as tie
 
+-- where the function began, where the two counts were read, where the point was searched for, and where it was shared
+abbrev start : tie.After-wide → tie.Start
+start c = c .before .before .before .before .before .before
+
+abbrev dimension-read : tie.After-wide2 → tie.After-wide
+dimension-read c = c .before .before
+
+abbrev counted : tie.After-find-vertex → tie.After-wide2
+counted c = c .before .before
+
+abbrev sought : tie.After-share-vertex → tie.After-find-vertex
+sought c = c .before .before .before .before .before
+
+abbrev shared : tie.After-slice-known8 → tie.After-share-vertex
+shared c = c .before .before .before .before
+
 slice-read-wide : tie.Need-slice-read-wide
 slice-read-wide c = search needs
 
@@ -22,9 +38,19 @@ find-vertex-requires c κs = search needs
 
 share-vertex-requires : tie.Need-share-vertex-requires
 share-vertex-requires c κs =
-    let p = c .before .before .before .before .before .before .before .before .before .before .before .before .before .before .pre in
-    let a = c .before .before .before .before .before .before .before .before .before .before .before .before .before .before .args in
-    (p .0, p .1, p .2, p .3, found-in-room (c .before .before .before .before .find-vertex .result) (c .before .before .before .before .before .before .before .before .wide .result) (c .before .before .before .before .before .before .wide2 .result) _ (a .points .now) (c .before .before .before .before .find-vertex .ensures) (le-trans (le-of-eq (c .before .before .before .before .before .before .wide2 .ensures .0)) (p .4)), p .5)
+    let f = c .before .before .before .before in
+    let n = counted f in
+    let d = dimension-read n in
+    let p = start d .pre in
+    let few = le-trans (le-of-eq (n .wide2 .ensures .0)) (p .vertexRoom) in
+    record {
+      counts = p .counts;
+      points = p .points;
+      elements = p .elements;
+      room = p .room;
+      found = found-in-room (f .find-vertex .result) (d .wide .result) (n .wide2 .result) _ (start d .args .points .now) (f .find-vertex .ensures) few;
+      index = p .index;
+    }
 
 same-length : tie.Need-same-length
 same-length c = search needs
@@ -39,7 +65,11 @@ same-length-4 : tie.Need-same-length-4
 same-length-4 c = search needs
 
 returns : tie.Need-returns
-returns c = (vertex-added _ _ (c .before .before .before .before .before .before .before .before .before .before .before .before .before .before .before .before .before .wide .ensures .0) (c .before .before .before .before .before .before .before .before .before .before .before .before .before .before .before .wide2 .ensures .0) (c .before .before .before .before .before .before .before .before .before .before .before .before .before .find-vertex .ensures) (c .before .before .before .before .before .before .before .before .share-vertex .ensures .0), c .before .before .before .before .before .before .before .before .share-vertex .ensures .1)
+returns c =
+    let s = shared (c .before .before .before .before) in
+    let f = sought s in
+    let n = counted f in
+    (vertex-added _ _ (dimension-read n .wide .ensures .0) (n .wide2 .ensures .0) (f .find-vertex .ensures) (s .share-vertex .ensures .0), s .share-vertex .ensures .1)
 
 pub add-vertex-spec : {M : Type 1} → statement M
 add-vertex-spec =

@@ -2,7 +2,7 @@
 use native.Mathlib.Omega.{arith}
 use lib.Ieee.{nan}
 use lib.ListN.{getD, length-set}
-use Rattle.space.proofs.HyperplaneMemo.{stores}
+use Rattle.space.proofs.HyperplaneMemo.{five-stores}
 use borrow.Author.Needs.{needs}
 use Rattle.space.proofs.memo.put_hyperplane.Statement.{statement}
 use Rattle.space.proofs.memo.put_hyperplane.Tie as tie
@@ -70,7 +70,7 @@ same-length c = search needs
 returns : tie.Need-returns
 returns c =
     let a = c .args in
-    stores (a .planes .now) (a .at) (getD (a .t3) 0 nan) (getD (a .t3) 1 nan) (getD (a .t3) 2 nan) (getD (a .t3) 3 nan) (getD (a .t3) 4 nan)
+    five-stores (a .planes .now) (a .at) (getD (a .t3) 0 nan) (getD (a .t3) 1 nan) (getD (a .t3) 2 nan) (getD (a .t3) 3 nan) (getD (a .t3) 4 nan)
 
 pub put-hyperplane-spec : {M : Type 1} → statement M
 put-hyperplane-spec =

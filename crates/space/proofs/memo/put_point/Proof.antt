@@ -2,7 +2,7 @@
 use native.Mathlib.Omega.{arith}
 use lib.Ieee.{nan}
 use lib.ListN.{getD, length-set}
-use Rattle.space.proofs.VertexMemo.{stores}
+use Rattle.space.proofs.VertexMemo.{four-stores}
 use borrow.Author.Needs.{needs}
 use Rattle.space.proofs.memo.put_point.Statement.{statement}
 use Rattle.space.proofs.memo.put_point.Tie as tie
@@ -58,7 +58,7 @@ same-length c = search needs
 returns : tie.Need-returns
 returns c =
     let a = c .args in
-    stores (a .points .now) (a .at) (getD (a .t3) 0 nan) (getD (a .t3) 1 nan) (getD (a .t3) 2 nan) (getD (a .t3) 3 nan)
+    four-stores (a .points .now) (a .at) (getD (a .t3) 0 nan) (getD (a .t3) 1 nan) (getD (a .t3) 2 nan) (getD (a .t3) 3 nan)
 
 pub put-point-spec : {M : Type 1} → statement M
 put-point-spec =

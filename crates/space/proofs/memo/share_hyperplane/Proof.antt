@@ -44,7 +44,11 @@ same-length-2 : tie.Need-same-length-2
 same-length-2 c = search needs
 
 returns-3 : tie.Need-returns-3
-returns-3 c = shared-new _ (c .before .before .before .before .before .wide .ensures .0) (c .before .before .before .before .before .before .before .enum-told .given .1) (c .before .before .before .before .if1 .left) (c .before .before .put-hyperplane .ensures)
+returns-3 c =
+    let put = c .before .before in
+    let room = put .before .before in
+    let w = room .before in
+    shared-new _ (w .wide .ensures .0) (w .before .before .enum-told .given .1) (room .if1 .left) (put .put-hyperplane .ensures)
 
 pub share-hyperplane-spec : {M : Type 1} → statement M
 share-hyperplane-spec =

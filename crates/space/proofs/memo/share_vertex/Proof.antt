@@ -4,25 +4,47 @@ use mathlib.Core.Path.{sym, _∙_}
 use native.Mathlib.Omega.{arith}
 use lib.ListN.{length-set}
 use lib.Seq.{getD-set-other}
-use Rattle.space.proofs.VertexMemo.{in-room, add-ready, shared-full, shared-old, shared-new}
+use Rattle.space.proofs.VertexMemo.{in-room, row-long, shared-full, shared-old, shared-new}
 use Rattle.space.proofs.Indexing.{index-count}
 use borrow.Author.Needs.{needs}
 use Rattle.space.proofs.memo.share_vertex.Statement.{statement}
 use Rattle.space.proofs.memo.share_vertex.Tie as tie
 
+-- where the function began; where a found vertex's row was made and added; and where a new vertex was stored, and its row made and added
+abbrev start : tie.After-slice-known4 → tie.Start
+start c = c .before .before .before .before
+
+abbrev found : tie.After-corner-row → tie.After-slice-known4
+found c = c .before .before .before .before
+
+abbrev made : tie.After-add-row → tie.After-corner-row
+made c = c .before .before .before .before .before
+
+abbrev counted : tie.After-wide → tie.After-slice-known4
+counted c = c .before .before .before .before
+
+abbrev roomy : tie.After-put-point → tie.Else1
+roomy c = c .before .before
+
+abbrev stored : tie.After-corner-row2 → tie.After-put-point
+stored c = c .before .before .before
+
+abbrev made-new : tie.After-add-row2 → tie.After-corner-row2
+made-new c = c .before .before .before .before .before
+
 enum-known-m : tie.Need-enum-known-m
 enum-known-m c = search needs
 
 corner-row-requires : tie.Need-corner-row-requires
-corner-row-requires c κs = in-room _ _ (c .before .m .given .1) (c .before .before .before .before .before .before .before .pre .4)
+corner-row-requires c κs = in-room _ _ (c .before .m .given .1) (start (c .before .before .before) .pre .found)
 
 slice-aggregate-add-row : tie.Need-slice-aggregate-add-row
 slice-aggregate-add-row c = search needs
 
 add-row-requires : tie.Need-add-row-requires
 add-row-requires c κs =
-    let p = c .before .before .before .before .before .before .before .before .before .before .before .before .pre in
-    (p .0, p .2, p .3, search needs, p .5)
+    let p = start (found (c .before .before .before .before)) .pre in
+    record { counts = p .counts; elements = p .elements; room = p .room; row = search needs; index = p .index }
 
 enum-told : tie.Need-enum-told
 enum-told c = search needs
@@ -34,7 +56,9 @@ wide-requires : tie.Need-wide-requires
 wide-requires c κs = search needs
 
 returns : tie.Need-returns
-returns c = (shared-full _ (c .before .wide .ensures .0) (c .before .before .before .enum-told .given .1) (c .if1 .taken), c .before .before .before .before .before .before .before .before .before .pre .5)
+returns c =
+    let w = c .before in
+    (shared-full _ (w .wide .ensures .0) (w .before .before .enum-told .given .1) (c .if1 .taken), start (counted w) .pre .index)
 
 mul-put-point : tie.Need-mul-put-point
 mul-put-point c = search needs
@@ -59,11 +83,19 @@ slice-aggregate-add-row-2 c = search needs
 
 add-row-requires-2 : tie.Need-add-row-requires-2
 add-row-requires-2 c κs =
-    let a = c .before .before .before .before .before .before .before .before .before .before .before .before .before .before .before .before .before .before .args in
-    let n = c .before .before .before .before .before .before .before .before .before .before .wide .result in
-    let p = c .before .before .before .before .before .before .before .before .before .before .before .before .before .before .before .before .before .before .pre in
-    let r = add-ready (a .counts .now) (a .elements .now) n (n + 1) (p .0) (p .2) (p .3) (c .before .before .before .before .corner-row2 .ensures) in
-    (r .0, r .1, r .2, r .3, index-count _ _ _ _ (sym (getD-set-other (a .counts .now) 2 1 (n + 1) 0 (λ z. omega (arith, z)))) (p .5))
+    let m = c .before .before .before .before in
+    let w = roomy (stored m) .before in
+    let n = w .wide .result in
+    let cs = start (counted w) .args .counts .now in
+    let p = start (counted w) .pre in
+    let kept = getD-set-other cs 2 1 (n + 1) 0 (λ z. omega (arith, z)) in
+    record {
+      counts = length-set cs 2 (n + 1) ∙ p .counts;
+      elements = p .elements;
+      room = omega (arith, kept, p .room);
+      row = row-long n (m .corner-row2 .ensures);
+      index = index-count _ _ _ _ (sym kept) (p .index);
+    }
 
 same-length : tie.Need-same-length
 same-length c = search needs
@@ -75,7 +107,10 @@ same-length-3 : tie.Need-same-length-3
 same-length-3 c = search needs
 
 returns-2 : tie.Need-returns-2
-returns-2 c = (shared-old _ (c .before .before .before .before .before .before .before .before .before .before .before .before .before .m .given .1) (c .before .before .before .before .before .before .before .before .before .before .before .corner-row .ensures) (c .before .before .before .before .before .before .add-row .ensures .0), c .before .before .before .before .before .before .add-row .ensures .1)
+returns-2 c =
+    let r = c .before .before .before .before .before .before in
+    let m = made r in
+    (shared-old _ (m .before .before .m .given .1) (m .corner-row .ensures) (r .add-row .ensures .0), r .add-row .ensures .1)
 
 same-length-4 : tie.Need-same-length-4
 same-length-4 c = c .before .before .before .before .before .before .add-row2 .kept .0 ∙ simp length-set
@@ -90,7 +125,13 @@ same-length-7 : tie.Need-same-length-7
 same-length-7 c = search needs
 
 returns-3 : tie.Need-returns-3
-returns-3 c = (shared-new _ (c .before .before .before .before .before .before .before .before .before .before .before .before .before .before .before .before .before .wide .ensures .0) (c .before .before .before .before .before .before .before .before .before .before .before .before .before .before .before .before .before .before .before .enum-told .given .1) (c .before .before .before .before .before .before .before .before .before .before .before .before .before .before .before .before .if1 .left) (c .before .before .before .before .before .before .before .before .before .before .before .before .before .before .put-point .ensures) (c .before .before .before .before .before .before .before .before .before .before .before .corner-row2 .ensures) (c .before .before .before .before .before .before .add-row2 .ensures .0), c .before .before .before .before .before .before .add-row2 .ensures .1)
+returns-3 c =
+    let r = c .before .before .before .before .before .before in
+    let m = made-new r in
+    let s = stored m in
+    let e = roomy s in
+    let w = e .before in
+    (shared-new _ (w .wide .ensures .0) (w .before .before .enum-told .given .1) (e .if1 .left) (s .put-point .ensures) (m .corner-row2 .ensures) (r .add-row2 .ensures .0), r .add-row2 .ensures .1)
 
 pub share-vertex-spec : {M : Type 1} → statement M
 share-vertex-spec =

@@ -13,14 +13,19 @@ use borrow.Author.Needs.{needs}
 use Rattle.space.proofs.restore.clear_floats.Statement.{statement}
 use Rattle.space.proofs.restore.clear_floats.Tie as tie
 
+record Cleared (words₀ : List Float) (at n : ℕ) (words : List Float) (j : ℕ) : Type 0 where
+  pub most : j ≤ n
+  pub long : length words ≡ length words₀
+  pub zeros : words ≡ sets words₀ at (replicate j plusZero)
+
 abbrev Inv-loop : tie.InvT-loop
-Inv-loop words₀ at n j₀ words j = (j ≤ n) × (length words ≡ length words₀) × (words ≡ sets words₀ at (replicate j plusZero))
+Inv-loop words₀ at n j₀ words j = Cleared words₀ at n words j
 
 abbrev μ-loop : tie.MeasureT-loop
 μ-loop words₀ at n j₀ words j = n - j
 
 loop-holds : tie.Need-loop-holds Inv-loop μ-loop
-loop-holds c = (search needs, refl, refl)
+loop-holds c = record { most = search needs; long = refl; zeros = refl }
 
 add-words : tie.Need-add-words Inv-loop μ-loop
 add-words c = search needs
@@ -42,7 +47,11 @@ unfolding lib.Ieee.ofBits
 loop-again c =
     let a = c .before .before .args in
     let at = c .before .loop in
-    (search needs, simp length-set (omega arith), ap (λ (l : List Float). set l (a .at + at .j) plusZero) (at .inv .2) ∙ zeros-more plusZero (a .words .now) (a .at) (at .j) (omega arith))
+    record {
+      most = search needs;
+      long = simp length-set (omega arith);
+      zeros = ap (λ (l : List Float). set l (a .at + at .j) plusZero) (at .inv .zeros) ∙ zeros-more plusZero (a .words .now) (a .at) (at .j) (omega arith);
+    }
 
 same-length : tie.Need-same-length Inv-loop μ-loop
 same-length c = search needs
@@ -52,7 +61,7 @@ returns c =
     let a = c .before .before .args in
     let at = c .before .loop in
     let e : at .j ≡ a .n = omega arith in
-    at .inv .2 ∙ ap (λ (k : ℕ). sets (a .words .now) (a .at) (replicate k plusZero)) e
+    at .inv .zeros ∙ ap (λ (k : ℕ). sets (a .words .now) (a .at) (replicate k plusZero)) e
 
 pub clear-floats-spec : {M : Type 1} → statement M
 clear-floats-spec =

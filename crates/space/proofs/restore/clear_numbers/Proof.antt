@@ -10,14 +10,19 @@ use borrow.Author.Needs.{needs}
 use Rattle.space.proofs.restore.clear_numbers.Statement.{statement}
 use Rattle.space.proofs.restore.clear_numbers.Tie as tie
 
+record Cleared (words₀ : List ℕ) (at n : ℕ) (words : List ℕ) (j : ℕ) : Type 0 where
+  pub most : j ≤ n
+  pub long : length words ≡ length words₀
+  pub zeros : words ≡ sets words₀ at (replicate j 0)
+
 abbrev Inv-loop : tie.InvT-loop
-Inv-loop words₀ at n j₀ words j = (j ≤ n) × (length words ≡ length words₀) × (words ≡ sets words₀ at (replicate j 0))
+Inv-loop words₀ at n j₀ words j = Cleared words₀ at n words j
 
 abbrev μ-loop : tie.MeasureT-loop
 μ-loop words₀ at n j₀ words j = n - j
 
 loop-holds : tie.Need-loop-holds Inv-loop μ-loop
-loop-holds c = (search needs, refl, refl)
+loop-holds c = record { most = search needs; long = refl; zeros = refl }
 
 add-words : tie.Need-add-words Inv-loop μ-loop
 add-words c = search needs
@@ -38,7 +43,11 @@ loop-again : tie.Need-loop-again Inv-loop μ-loop
 loop-again c =
     let a = c .before .before .args in
     let at = c .before .loop in
-    (search needs, simp length-set (omega arith), ap (λ (l : List ℕ). set l (a .at + at .j) 0) (at .inv .2) ∙ zeros-more 0 (a .words .now) (a .at) (at .j) (omega arith))
+    record {
+      most = search needs;
+      long = simp length-set (omega arith);
+      zeros = ap (λ (l : List ℕ). set l (a .at + at .j) 0) (at .inv .zeros) ∙ zeros-more 0 (a .words .now) (a .at) (at .j) (omega arith);
+    }
 
 same-length : tie.Need-same-length Inv-loop μ-loop
 same-length c = search needs
@@ -48,7 +57,7 @@ returns c =
     let a = c .before .before .args in
     let at = c .before .loop in
     let e : at .j ≡ a .n = omega arith in
-    at .inv .2 ∙ ap (λ (k : ℕ). sets (a .words .now) (a .at) (replicate k 0)) e
+    at .inv .zeros ∙ ap (λ (k : ℕ). sets (a .words .now) (a .at) (replicate k 0)) e
 
 pub clear-numbers-spec : {M : Type 1} → statement M
 clear-numbers-spec =

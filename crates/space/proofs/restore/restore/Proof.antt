@@ -6,6 +6,25 @@ use borrow.Author.Needs.{needs}
 use Rattle.space.proofs.restore.restore.Statement.{statement}
 use Rattle.space.proofs.restore.restore.Tie as tie
 
+-- where the function began, where the three counts were read, and where each list was cleared
+abbrev start : tie.After-wide → tie.Start
+start c = c .before .before .before .before .before .before
+
+abbrev elements-counted : tie.After-wide3 → tie.After-wide
+elements-counted c = c .before .before .before .before
+
+abbrev counted : tie.After-clear-numbers → tie.After-wide3
+counted c = c .before .before
+
+abbrev elements-cleared : tie.After-clear-floats → tie.After-clear-numbers
+elements-cleared c = c .before .before .before .before
+
+abbrev points-cleared : tie.After-clear-floats2 → tie.After-clear-floats
+points-cleared c = c .before .before .before .before
+
+abbrev asked : tie.After-clear-floats2 → tie.Start
+asked c = start (elements-counted (counted (elements-cleared (points-cleared c))))
+
 slice-read-wide : tie.Need-slice-read-wide
 slice-read-wide c = search needs
 
@@ -64,10 +83,10 @@ slice-write-counts : tie.Need-slice-write-counts
 slice-write-counts c = search needs
 
 slice-write-counts-2 : tie.Need-slice-write-counts-2
-slice-write-counts-2 c = simp length-set (omega (arith, c .before .before .before .before .before .before .before .before .before .before .before .before .before .before .before .before .before .before .before .before .before .before .pre))
+slice-write-counts-2 c = simp length-set (omega (arith, asked (c .before .before) .pre .counts))
 
 slice-write-counts-3 : tie.Need-slice-write-counts-3
-slice-write-counts-3 c = simp length-set (omega (arith, c .before .before .before .before .before .before .before .before .before .before .before .before .before .before .before .before .before .before .before .before .before .before .pre))
+slice-write-counts-3 c = simp length-set (omega (arith, asked (c .before .before) .pre .counts))
 
 same-length : tie.Need-same-length
 same-length c = search needs
@@ -82,7 +101,16 @@ same-length-4 : tie.Need-same-length-4
 same-length-4 c = search needs
 
 returns : tie.Need-returns
-returns c = restored (c .before .before .before .before .before .before .before .before .before .before .before .before .before .before .before .before .before .before .before .before .before .before .args .e) (c .before .before .before .before .before .before .before .before .before .before .before .before .before .before .before .before .before .before .before .before .before .before .args .v) (c .before .before .before .before .before .before .before .before .before .before .before .before .before .before .before .before .before .before .before .before .before .before .args .h) (c .before .before .before .before .before .before .before .before .before .before .before .before .before .before .before .before .wide .result) (c .before .before .before .before .before .before .before .before .before .before .before .before .before .before .wide2 .result) (c .before .before .before .before .before .before .before .before .before .before .before .before .wide3 .result) (c .before .before .before .before .before .before .before .before .before .before .before .before .before .before .before .before .wide .ensures .0) (c .before .before .before .before .before .before .before .before .before .before .before .before .before .before .wide2 .ensures .0) (c .before .before .before .before .before .before .before .before .before .before .before .before .wide3 .ensures .0) (c .before .before .before .before .before .before .before .before .before .before .clear-numbers .ensures) (c .before .before .before .before .before .before .clear-floats .ensures) (c .before .before .clear-floats2 .ensures)
+returns c =
+    let h = c .before .before in
+    let v = points-cleared h in
+    let e = elements-cleared v in
+    let n₃ = counted e in
+    let n₂ = n₃ .before .before in
+    let n₁ = elements-counted n₃ in
+    let a = start n₁ .args in
+    restored (a .e) (a .v) (a .h) (n₁ .wide .result) (n₂ .wide2 .result) (n₃ .wide3 .result) (n₁ .wide .ensures .0) (n₂ .wide2 .ensures .0) (n₃ .wide3 .ensures .0) (e .clear-numbers .ensures)
+    (v .clear-floats .ensures) (h .clear-floats2 .ensures)
 
 pub restore-spec : {M : Type 1} → statement M
 restore-spec =

@@ -6,16 +6,23 @@ use Prim.Native.Nat.{ℕ, _+_, _≤_, _<_, _-_}
 use native.Mathlib.Omega.{arith}
 use lib.Seq.{sets}
 use lib.ListN.{length, getD, set, take, replicate}
+use Rattle.space.specs.Numbers.{rowWidth}
 use Rattle.space.proofs.RowWords.{sets-more}
 use Rattle.space.proofs.RowMade.{row-is}
 use Rattle.space.proofs.rows.polytope_row.Statement.{statement}
 use Rattle.space.proofs.rows.polytope_row.Tie as tie
 
+-- the four head words over zeros
 abbrev filled : ℕ → ℕ → ℕ → ℕ → List ℕ
-filled r m p n = set (set (set (set (replicate 36 0) 0 r) 1 m) 2 p) 3 n
+filled r m p n = set (set (set (set (replicate rowWidth 0) 0 r) 1 m) 2 p) 3 n
+
+record Filled (list : List ℕ) (n : ℕ) (row₀ row : List ℕ) (j : ℕ) : Type 0 where
+  pub most : j ≤ n
+  pub long : length row₀ ≡ rowWidth
+  pub words : row ≡ sets row₀ 4 (take j list)
 
 abbrev Inv-loop : tie.InvT-loop
-Inv-loop rank list n plane mark row₀ j₀ row j = (j ≤ n) × (length row₀ ≡ 36) × (row ≡ sets row₀ 4 (take j list))
+Inv-loop rank list n plane mark row₀ j₀ row j = Filled list n row₀ row j
 
 abbrev μ-loop : tie.MeasureT-loop
 μ-loop rank list n plane mark row₀ j₀ row j = n - j
@@ -42,7 +49,7 @@ array-write-row-4 : tie.Need-array-write-row-4 Inv-loop μ-loop
 array-write-row-4 c = search needs
 
 loop-holds : tie.Need-loop-holds Inv-loop μ-loop
-loop-holds c = (search needs, search needs, refl)
+loop-holds c = record { most = search needs; long = search needs; words = refl }
 
 mul-row : tie.Need-mul-row Inv-loop μ-loop
 mul-row c = search needs
@@ -69,17 +76,25 @@ loop-again : tie.Need-loop-again Inv-loop μ-loop
 loop-again c =
     let a = c .before .before .before .before .args in
     let at = c .before .before .loop in
+    let head = filled (a .rank) (c .before .before .before .bit .result) (a .plane) (a .n) in
     let h : at .j < length (a .list .now) = omega arith in
-    let k : 4 + at .j < 36 = omega arith in
-    (search needs, refl, ap (λ (l : List ℕ). set l (4 + at .j) (getD (a .list .now) (at .j) 0)) (at .inv .2) ∙ sets-more (filled (a .rank) (c .before .before .before .bit .result) (a .plane) (a .n)) 4 (a .list .now) (at .j) 0 k h)
+    let k : 4 + at .j < rowWidth = omega arith in
+    record {
+      most = search needs;
+      long = refl;
+      words = ap (λ (l : List ℕ). set l (4 + at .j) (getD (a .list .now) (at .j) 0)) (at .inv .words) ∙ sets-more head 4 (a .list .now) (at .j) 0 k h;
+    }
 
 returns : tie.Need-returns Inv-loop μ-loop
 returns c =
-    let a = c .before .before .before .args in
-    let p = c .before .before .before .pre in
+    let b = c .before .before in
+    let a = b .before .args in
+    let p = b .before .pre in
     let at = c .before .loop in
     let e : at .j ≡ a .n = omega arith in
-    row-is (a .list .now) (a .n) (p .0) (omega arith) (a .rank) (a .plane) (c .before .before .bit .result) (a .mark) (at .row) (filled (a .rank) (c .before .before .bit .result) (a .plane) (a .n)) (p .1) (c .before .before .bit .ensures) refl (at .inv .2 ∙ ap (λ (j : ℕ). sets (filled (a .rank) (c .before .before .bit .result) (a .plane) (a .n)) 4 (take j (a .list .now))) e)
+    let head = filled (a .rank) (b .bit .result) (a .plane) (a .n) in
+    let words = at .inv .words ∙ ap (λ (j : ℕ). sets head 4 (take j (a .list .now))) e in
+    row-is (a .list .now) (a .n) (p .0) (omega arith) (a .rank) (a .plane) (b .bit .result) (a .mark) (at .row) head (p .1) (b .bit .ensures) refl words
 
 pub polytope-row-spec : {M : Type 1} → statement M
 polytope-row-spec =

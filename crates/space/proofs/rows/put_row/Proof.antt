@@ -5,19 +5,26 @@ use mathlib.Core.List.{List}
 use native.Mathlib.Omega.{arith}
 use lib.ListN.{length, getD, set, take, length-set}
 use lib.Seq.{sets}
+use Rattle.space.specs.Numbers.{rowWidth}
 use Rattle.space.proofs.RowWords.{sets-more, sets-all}
 use borrow.Author.Needs.{needs}
 use Rattle.space.proofs.rows.put_row.Statement.{statement}
 use Rattle.space.proofs.rows.put_row.Tie as tie
 
+record Stored (elements₀ : List ℕ) (at : ℕ) (row elements : List ℕ) (j : ℕ) : Type 0 where
+  pub most : j ≤ rowWidth
+  pub whole : length row ≡ rowWidth
+  pub long : length elements ≡ length elements₀
+  pub words : elements ≡ sets elements₀ at (take j row)
+
 abbrev Inv-loop : tie.InvT-loop
-Inv-loop elements₀ at row j₀ elements j = (j ≤ 36) × (length row ≡ 36) × (length elements ≡ length elements₀) × (elements ≡ sets elements₀ at (take j row))
+Inv-loop elements₀ at row j₀ elements j = Stored elements₀ at row elements j
 
 abbrev μ-loop : tie.MeasureT-loop
-μ-loop elements₀ at row j₀ elements j = 36 - j
+μ-loop elements₀ at row j₀ elements j = rowWidth - j
 
 loop-holds : tie.Need-loop-holds Inv-loop μ-loop
-loop-holds c = (search needs, search needs, refl, refl)
+loop-holds c = record { most = search needs; whole = search needs; long = refl; words = refl }
 
 mul-elements : tie.Need-mul-elements Inv-loop μ-loop
 mul-elements c = search needs
@@ -42,20 +49,23 @@ loop-less c = search needs
 
 loop-again : tie.Need-loop-again Inv-loop μ-loop
 loop-again c =
-    let at = c .before .before .loop in (
-      search needs,
-      search needs,
-      simp length-set (omega arith),
-      ap (λ (l : List ℕ). set l (c .before .before .before .args .at + at .j) (getD (c .before .before .before .args .row .now) (at .j) 0)) (at .inv .3) ∙ sets-more _ _ _ (at .j) 0 (search needs) (search needs),
-    )
+    let at = c .before .before .loop in
+    let a = c .before .before .before .args in
+    record {
+      most = search needs;
+      whole = search needs;
+      long = simp length-set (omega arith);
+      words = ap (λ (l : List ℕ). set l (a .at + at .j) (getD (a .row .now) (at .j) 0)) (at .inv .words) ∙ sets-more _ _ _ (at .j) 0 (search needs) (search needs);
+    }
 
 same-length : tie.Need-same-length Inv-loop μ-loop
 same-length c = search needs
 
 returns : tie.Need-returns Inv-loop μ-loop
 returns c =
-    let e : c .before .loop .j ≡ 36 = omega arith in
-    c .before .loop .inv .3 ∙ sets-all _ _ _ _ (c .before .loop .inv .1 ∙ sym e)
+    let at = c .before .loop in
+    let e : at .j ≡ rowWidth = omega arith in
+    at .inv .words ∙ sets-all _ _ _ _ (at .inv .whole ∙ sym e)
 
 pub put-row-spec : {M : Type 1} → statement M
 put-row-spec =

@@ -7,7 +7,8 @@ use Rattle.tables_hard.proofs.cases.cube_cases.Statement.{statement}
 use Rattle.tables_hard.proofs.cases.cube_cases.Tie as tie
 
 abbrev Inv-loop : tie.InvT-loop
-Inv-loop words runs names counts₀ points₀ planes₀ elements₀ i₀ i-end counts points planes elements i = (i-end ≡ length words / 5) × (length counts ≡ length counts₀) × (length points ≡ length points₀) × (length planes ≡ length planes₀) × (length elements ≡ length elements₀)
+Inv-loop words runs names counts₀ points₀ planes₀ elements₀ i₀ i-end counts points planes elements i =
+    (i-end ≡ length words / 5) × (length counts ≡ length counts₀) × (length points ≡ length points₀) × (length planes ≡ length planes₀) × (length elements ≡ length elements₀)
 
 abbrev μ-loop : tie.MeasureT-loop
 μ-loop words runs names counts₀ points₀ planes₀ elements₀ i₀ i-end counts points planes elements i = i-end - i

@@ -7,7 +7,8 @@ use Rattle.tables_hard.proofs.memory.put_runs.Statement.{statement}
 use Rattle.tables_hard.proofs.memory.put_runs.Tie as tie
 
 abbrev Inv-loop : tie.InvT-loop
-Inv-loop runs first end counts₀ points₀ planes₀ elements₀ last k₀ counts points planes elements k = (last ≤ length runs / 2) × (length counts ≡ length counts₀) × (length points ≡ length points₀) × (length planes ≡ length planes₀) × (length elements ≡ length elements₀)
+Inv-loop runs first end counts₀ points₀ planes₀ elements₀ last k₀ counts points planes elements k =
+    (last ≤ length runs / 2) × (length counts ≡ length counts₀) × (length points ≡ length points₀) × (length planes ≡ length planes₀) × (length elements ≡ length elements₀)
 
 abbrev μ-loop : tie.MeasureT-loop
 μ-loop runs first end counts₀ points₀ planes₀ elements₀ last k₀ counts points planes elements k = last - k

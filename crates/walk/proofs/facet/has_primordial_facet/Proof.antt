@@ -8,6 +8,16 @@ use Rattle.walk.proofs.Facets.{unsound, unused, another-rank, facets-fi
 use Rattle.walk.proofs.facet.has_primordial_facet.Statement.{statement}
 use Rattle.walk.proofs.facet.has_primordial_facet.Tie as tie
 
+-- where the memory was sound, where the count was read, and where the rank was
+abbrev passed : tie.After-wide → tie.Else1
+passed c = c .before .before
+
+abbrev counted : tie.After-rank-of → tie.After-wide
+counted c = c .before .before .before
+
+abbrev ranked : tie.After-wide2 → tie.After-rank-of
+ranked c = c .before .before
+
 memory-sound-requires : tie.Need-memory-sound-requires
 memory-sound-requires c κs = search needs
 
@@ -15,53 +25,59 @@ returns : tie.Need-returns
 returns c = unsound _ _ _ _ _ (sym (c .before .memory-sound .ensures) ∙ not-true _ (c .if1 .taken))
 
 shared-slice-read-wide : tie.Need-shared-slice-read-wide
-shared-slice-read-wide c = omega (arith, counts-four _ _ _ _ (sym (c .before .before .memory-sound .ensures) ∙ not-false _ (c .before .if1 .left)))
+shared-slice-read-wide c =
+    let s = c .before in
+    omega (arith, counts-four _ _ _ _ (sym (s .before .memory-sound .ensures) ∙ not-false _ (s .if1 .left)))
 
 wide-requires : tie.Need-wide-requires
 wide-requires c κs = search needs
 
 returns-2 : tie.Need-returns-2
 returns-2 c =
-    unused _ _ _ _ _ (sym (c .before .before .before .before .before .memory-sound .ensures) ∙ not-false _ (c .before .before .before .before .if1 .left)) _
-    (c .before .before .wide .ensures .0) (c .if2 .taken)
+    let n = c .before .before in
+    let s = passed n in
+    unused _ _ _ _ _ (sym (s .before .memory-sound .ensures) ∙ not-false _ (s .if1 .left)) _ (n .wide .ensures .0) (c .if2 .taken)
 
 rank-of-requires : tie.Need-rank-of-requires
 rank-of-requires c κs =
-    rank-asked _ _ _ _ (sym (c .before .before .before .before .before .memory-sound .ensures) ∙ not-false _ (c .before .before .before .before .if1 .left)) _ _
-    (c .before .before .wide .ensures .0) (c .if2 .left)
+    let n = c .before .before in
+    let s = passed n in
+    rank-asked _ _ _ _ (sym (s .before .memory-sound .ensures) ∙ not-false _ (s .if1 .left)) _ _ (n .wide .ensures .0) (c .if2 .left)
 
 shared-slice-read-wide-2 : tie.Need-shared-slice-read-wide-2
 shared-slice-read-wide-2 c =
-    let at = c .before .before .before .before .before .before in
-    omega
-    (arith, counts-four _ _ _ _ (sym (at .before .memory-sound .ensures) ∙ not-false _ (at .if1 .left)))
+    let s = passed (counted (c .before)) in
+    omega (arith, counts-four _ _ _ _ (sym (s .before .memory-sound .ensures) ∙ not-false _ (s .if1 .left)))
 
 wide-requires-2 : tie.Need-wide-requires-2
 wide-requires-2 c κs = search needs
 
 returns-3 : tie.Need-returns-3
 returns-3 c =
-    let at = c .before .before .before .before .before .before .before .before in
-    another-rank _ _ _ _ _
-    (sym (at .before .memory-sound .ensures) ∙ not-false _ (at .if1 .left))
-    _ (c .before .before .before .before .before .before .wide .ensures .0) (c .before .before .before .before .if2 .left)
-    _ _ (c .before .before .before .rank-of .ensures) (c .before .wide2 .ensures .0) (c .if3 .taken)
+    let d = c .before in
+    let r = ranked d in
+    let n = counted r in
+    let s = passed n in
+    another-rank _ _ _ _ _ (sym (s .before .memory-sound .ensures) ∙ not-false _ (s .if1 .left)) _ (n .wide .ensures .0) (r .before .if2 .left)
+    _ _ (r .rank-of .ensures) (d .wide2 .ensures .0) (c .if3 .taken)
 
 any-primordial-requires : tie.Need-any-primordial-requires
 any-primordial-requires c κs =
-    let at = c .before .before .before .before .before .before .before .before in
-    facets-fit _ _ _ _ _
-    (sym (at .before .memory-sound .ensures) ∙ not-false _ (at .if1 .left))
-    _ (c .before .before .before .before .before .before .wide .ensures .0) (c .before .before .before .before .if2 .left)
-    _ _ (c .before .before .before .rank-of .ensures) (c .before .wide2 .ensures .0) (c .if3 .left)
+    let d = c .before in
+    let r = ranked d in
+    let n = counted r in
+    let s = passed n in
+    facets-fit _ _ _ _ _ (sym (s .before .memory-sound .ensures) ∙ not-false _ (s .if1 .left)) _ (n .wide .ensures .0) (r .before .if2 .left)
+    _ _ (r .rank-of .ensures) (d .wide2 .ensures .0) (c .if3 .left)
 
 returns-4 : tie.Need-returns-4
 returns-4 c =
-    let at = c .before .before .before .before .before .before .before .before .before in
-    has _ _ _ _ _
-    (sym (at .before .memory-sound .ensures) ∙ not-false _ (at .if1 .left))
-    _ (c .before .before .before .before .before .before .before .wide .ensures .0) (c .before .before .before .before .before .if2 .left)
-    _ _ (c .before .before .before .before .rank-of .ensures) (c .before .before .wide2 .ensures .0) (c .before .if3 .left) _ (c .any-primordial .ensures)
+    let d = c .before .before in
+    let r = ranked d in
+    let n = counted r in
+    let s = passed n in
+    has _ _ _ _ _ (sym (s .before .memory-sound .ensures) ∙ not-false _ (s .if1 .left)) _ (n .wide .ensures .0) (r .before .if2 .left)
+    _ _ (r .rank-of .ensures) (d .wide2 .ensures .0) (c .before .if3 .left) _ (c .any-primordial .ensures)
 
 pub has-primordial-facet-spec : {M : Type 1} → statement M
 has-primordial-facet-spec =

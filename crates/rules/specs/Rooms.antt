@@ -1,0 +1,48 @@
+-- What a room answers, a roomier one answers alike: said of tables, and of every public reply. Definitions only.
+use Prim.Native.Nat.{ℕ}
+use mathlib.Core.Path.{_≡_}
+use mathlib.Core.Bool.{Bool, true}
+use mathlib.Core.List.{List, [], _∷_}
+use lib.ListN.{length}
+use lib.Ieee.{Float}
+use Rattle.rules.specs.Limits.{Limits, Readable, Roomier}
+use Rattle.rules.specs.Lists.{member, pad}
+use Rattle.rules.specs.Floats.{plusZero}
+use Rattle.rules.specs.Table.{ElementNumber, Plane, Table}
+use Rattle.rules.specs.Sound.{sound}
+use Rattle.rules.specs.Memory.{Memory, encode, decode, rightSize, soundMemory}
+use Rattle.rules.specs.Cut.{refused, done, cut}
+use Rattle.rules.specs.Replies.{cutNumber, isSoundReply, cubeReply, cutReply, primordialFacetReply}
+use Rattle.rules.specs.Calls.{ListQuestion, listReply}
+use Rattle.rules.specs.declared.Hyperplane.{Hyperplane}
+use Rattle.rules.specs.declared.ElementCutOutput.{ElementCutOutput}
+
+-- what is done in the one room is done alike in the other, and so is refusal 7; what is sound in the one is sound in the other
+pub record TablesAlike (L M : Limits) : Type 0 where
+  pub cuts : (h : Plane) (i o : Bool) (root : ElementNumber) (t t′ : Table) (a : ElementCutOutput) → cut L h i o root t ≡ done a t′ → cut M h i o root t ≡ done a t′
+  pub refuses : (h : Plane) (i o : Bool) (root : ElementNumber) (t : Table) → cut L h i o root t ≡ refused 7 → cut M h i o root t ≡ refused 7
+  pub stays-sound : (t : Table) → sound L t ≡ true → sound M t ≡ true
+
+-- the same table, as the other room has it in memory
+abbrev pub moved : Limits → Limits → Memory → Memory
+moved L M m = encode M (decode L m)
+
+-- the same divider, with a component for each axis of the other room
+abbrev pub widened : Limits → Hyperplane → Hyperplane
+widened M h = record { normal = pad plusZero (M .dimensions) (h .normal); distance = h .distance }
+
+-- each public reply. A cut: done, and refusals 4, 5 and 7; 8 to 11 are the room's own. A cube: done, and refusal 2. A question: every reply of a sound memory
+pub record RepliesAlike (L M : Limits) : Type 0 where
+  pub is-sound : (m : Memory) → isSoundReply L m ≡ 0 → isSoundReply M (moved L M m) ≡ 0
+  pub cube-done : (d : ℕ) (radius : Float) (m n : Memory) → cubeReply L d radius m .0 ≡ 0 → rightSize M n ≡ true
+      → cubeReply M d radius n ≡ (0, moved L M (cubeReply L d radius m .1))
+  pub cube-refused : (d : ℕ) (radius : Float) (m n : Memory) → cubeReply L d radius m .0 ≡ 2 → cubeReply M d radius n ≡ (2, n)
+  pub cut-alike : (h : Hyperplane) (i o : Bool) (root : ElementNumber) (m : Memory) → length (h .normal) ≡ L .dimensions
+      → member (cutNumber (cutReply L h i o root m .0)) (0 ∷ 4 ∷ 5 ∷ 7 ∷ []) ≡ true
+      → cutReply M (widened M h) i o root (moved L M m) ≡ (cutReply L h i o root m .0, moved L M (cutReply L h i o root m .1))
+  pub list-alike : (q : ListQuestion) (m : Memory) (room : List ℕ) → soundMemory L m ≡ true → listReply M q (moved L M m) room ≡ listReply L q m room
+  pub facet-alike : (m : Memory) (e : ElementNumber) → soundMemory L m ≡ true → primordialFacetReply M (moved L M m) e ≡ primordialFacetReply L m e
+
+-- what a room does not refuse, a roomier one answers alike; in memory, where its rows can be read back
+abbrev pub RoomierAlike : Limits → Type 0
+RoomierAlike L = (M : Limits) → Roomier L M → TablesAlike L M × (Readable M → RepliesAlike L M)
