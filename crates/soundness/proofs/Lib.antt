@@ -14,3 +14,4 @@ pub mod ElementLoops
 pub mod Distinct
 pub mod RowsRead
 pub mod FaceLoops
+pub mod EdgesRead

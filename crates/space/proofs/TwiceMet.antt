@@ -20,7 +20,7 @@ use Rattle.rules.proofs.Counting.{getD-up}
 use Rattle.rules.proofs.FaceEdges.{Two, two}
 use Rattle.rules.proofs.Laws.{both-ways, eq-test, eqb-self, le-test, test-le, or-case, or-left, or-right}
 use Rattle.rules.proofs.RingWalked.{rule-ring, ring-rule, ring-along}
-use Rattle.space.specs.Closed.{Low, LowEnds, EndsLow, firstEnd, secondEnd, rawEnds, asEdges, EachEdge, Edges, Untwinned, few, metTwice, ringRaw, closedRaw}
+use Rattle.space.specs.Closed.{Low, LowEnds, EndsLow, EdgeReady, FaceReady, firstEnd, secondEnd, rawEnds, asEdges, EachEdge, Edges, Untwinned, few, metTwice, ringRaw, closedRaw}
 use Rattle.space.proofs.FewEdges.{few-ring}
 use Rattle.space.proofs.Room.{listOf, list-word}
 
@@ -35,13 +35,13 @@ module _ (list : List ℕ) (n : ℕ) (fit : n ≤ length list) where
 
   -- the edge that is read is an entry, a place, and so are its ends
   module _ (k x : ℕ) (h : k < n) (p : x ≡ getD list k 0) where
-    pub edge-at : x ≡ getD edges k 0
+    edge-at : x ≡ getD edges k 0
     edge-at = p ∙ sym (getD-take n list k 0 h)
 
-    pub edge-low : Low list n → x < 512
+    edge-low : Low list n → x < 512
     edge-low L = subst (λ (y : ℕ). y < 512) (sym p) (L .at k h)
 
-    pub ends-low : (es : List ℕ) → LowEnds es list n → EndsLow es x
+    ends-low : (es : List ℕ) → LowEnds es list n → EndsLow es x
     ends-low es E = subst (λ (y : ℕ). EndsLow es y) (sym p) (E .each k h)
 
   pub edges-fine : (es : List ℕ) → Low list n → LowEnds es list n → (j : ℕ) → j < length edges → (getD edges j 0 < 512) × EndsLow es (getD edges j 0)
@@ -49,6 +49,32 @@ module _ (list : List ℕ) (n : ℕ) (fit : n ≤ length list) where
       let l = edges-long in
       let i : j < n = omega (arith, l, h) in
       (edge-low j (getD edges j 0) i (getD-take n list j 0 i) L, ends-low j (getD edges j 0) i (getD-take n list j 0 i) es E)
+
+-- ---- the edge of a face that is taken up
+
+-- the face as it was asked for, and x as edge k of it
+pub record TakenUp (es list : List ℕ) (n k x : ℕ) : Type 0 where
+  pub ready : FaceReady es list n
+  pub more : k < n
+  pub read : x ≡ getD list k 0
+
+module _ {es list : List ℕ} {n k x : ℕ} (T : TakenUp es list n k x) where
+  pub taken-there : k < length (take n list)
+  taken-there = let l = edges-long list n (T .ready .long) in let h = T .more in omega (arith, l, h)
+
+  pub taken-here : x ≡ getD (take n list) k 0
+  taken-here = edge-at list n (T .ready .long) k x (T .more) (T .read)
+
+  pub taken-ends : EndsLow es x
+  taken-ends = ends-low list n (T .ready .long) k x (T .more) (T .read) es (T .ready .ends)
+
+  pub taken-ready : EdgeReady es x 1
+  taken-ready = record {
+    elements = T .ready .elements;
+    room = edge-low list n (T .ready .long) k x (T .more) (T .read) (T .ready .low);
+    ends = taken-ends;
+    stamp = omega arith;
+  }
 
 -- ---- the rows read as edges
 

@@ -1,29 +1,25 @@
 -- The numbers that are left fit exactly when all do, until one does not; the edges before have joined paths, and none closed one.
 use Prim.Native.Nat.{ℕ, _+_, _-_, _<_, _≤_}
-use mathlib.Core.Bool.{false≢true}
+use mathlib.Core.Bool.{true, false, false≢true}
 use mathlib.Core.List.{List}
 use mathlib.Core.Path.{_≡_, sym, ap, subst, _∙_}
 use native.Mathlib.Omega.{arith}
+use lib.Dec.{eqb}
 use lib.ListN.{drop, take}
 use borrow.Author.Needs.{needs}
 use Rattle.rules.specs.Limits.{desk}
 use Rattle.rules.proofs.Laws.{not-true, not-false}
 use Rattle.space.specs.Closed.{Stamped, Unmet, joining, joined}
 use Rattle.space.proofs.PathsJoined.{Paths, paths-start, paths-few, paths-stamped}
-use Rattle.soundness.specs.Words.{numbersFit, stampOf}
-use Rattle.soundness.proofs.BoundaryFits.{left, fits-start, fits-go, fits-no, fits-end}
-use Rattle.soundness.proofs.BoundaryLoops.{number-ends, number-low}
+use Rattle.soundness.specs.Words.{numberFits, faceWords, stampOf}
+use Rattle.soundness.proofs.EdgesRead.{Numbers, NumberRead, numbers-start, numbers-end, read-no, read-ends, read-edge, read-on}
 use Rattle.soundness.proofs.FaceLoops.{face-go, face-thrice, face-early, face-last, face-none, stamped-next}
-use Rattle.soundness.proofs.OnePass.{no-first}
 use Rattle.soundness.proofs.boundaries.face_fits.Statement.{statement}
 use Rattle.soundness.proofs.boundaries.face_fits.Tie as tie
 
 -- up to place i the numbers fit, and their edges have joined paths, of which none is closed
 record SoFar (es : List ℕ) (from to e : ℕ) (met : List ℕ) (stamp low twice i : ℕ) : Type 0 where
-  order : from ≤ i
-  bound : i ≤ to
-  same : stamp ≡ stampOf e
-  rest : numbersFit desk es e 2 (drop from (take to es)) ≡ left es to e 2 low i
+  numbers : Numbers es from to e stamp low i
   paths : Paths es (drop from (take to es)) (stampOf e) met twice (i - from)
 
 abbrev Inv-loop : tie.InvT-loop
@@ -32,15 +28,61 @@ Inv-loop elements from to e met₀ stamp low₀ twice₀ i₀ met low twice i = 
 abbrev μ-loop : tie.MeasureT-loop
 μ-loop elements from to e met₀ stamp low₀ twice₀ i₀ met low twice i = to - i
 
--- where the function began, where an edge is taken up, and where its number was found to fit
+-- ---- what the edge that is taken up answers
+
+module _ {es : List ℕ} {from to e : ℕ} {met₀ met : List ℕ} {stamp low twice i x : ℕ} (R : NumberRead es from to e met₀ stamp low i x) (S : SoFar es from to e met stamp low twice i) where
+  abbrev edges : List ℕ
+  edges = drop from (take to es)
+
+  stamped : Stamped (stampOf e) met
+  stamped = paths-stamped es edges (stampOf e) met twice (i - from) (S .paths)
+
+  few : twice ≤ i - from
+  few = paths-few es edges (stampOf e) met twice (i - from) (S .paths)
+
+  module _ {r : ℕ} (c : r ≡ joining stamp es met x) where
+    code : r ≡ joining (stampOf e) es met x
+    code = c ∙ ap (λ (s : ℕ). joining s es met x) (R .numbers .same)
+
+    thrice : r ≡ 4 → false ≡ faceWords desk es e edges
+    thrice = face-thrice es from to e (R .ready .part .end) (R .ready .inRoom) (R .ready .edges) met twice i (stampOf e) (S .paths) (R .numbers .order) (R .more) x r (R .read) code
+
+    early : r ≡ 3 → i + 1 < to → false ≡ faceWords desk es e edges
+    early = face-early es from to e (R .ready .part .end) (R .ready .inRoom) (R .ready .edges) met twice i (stampOf e) (S .paths) (R .numbers .order) (R .more) x r (R .read) code
+
+    module _ (fits : numberFits desk es e 2 low x ≡ true) where
+      last : r ≡ 3 → to ≤ i + 1 → eqb (twice + 2) (to - from) ≡ faceWords desk es e edges
+      last three h =
+          face-last es from to e (R .ready .part .end) (R .ready .inRoom) (R .ready .edges) met twice i (stampOf e) (S .paths) (R .numbers .order) (R .more) x r (R .read) code
+          three h (numbers-end (R .ready) (read-on R fits) h)
+
+      goes-on : r < 3 → (met′ : List ℕ) → met′ ≡ joined stamp es met x → SoFar es from to e met′ stamp (x + 1) (twice + r) (i + 1)
+      goes-on small met′ q = record {
+        numbers = read-on R fits;
+        paths = face-go es from to e (R .ready .part .end) met met′ twice i x r (stampOf e) (S .paths) (R .numbers .order) (R .more) (R .read) (read-ends R fits) code small
+            (q ∙ ap (λ (s : ℕ). joined s es met x) (R .numbers .same));
+      }
+
+-- ---- the places of the function
+
+-- where the function began, where a number is taken up, and where it was found to fit
 abbrev start : tie.At-loop Inv-loop μ-loop → tie.Start Inv-loop μ-loop
 start c = c .before .before .before
 
-abbrev taken-up : tie.Else1 Inv-loop μ-loop → tie.In-loop Inv-loop μ-loop
-taken-up c = c .before .before .before .before
-
 abbrev fitted : tie.After-join-ends Inv-loop μ-loop → tie.Else1 Inv-loop μ-loop
 fitted c = c .before .before
+
+-- the facts there
+abbrev number : (c : tie.After-wide Inv-loop μ-loop) → let l = c .before .before .before in let a = start l .args in let at = l .loop in
+    NumberRead (a .elements .now) (a .from) (a .to) (a .e .0) (a .met .now) (l .before .stamp-of .result) (at .low) (at .i) (c .wide .result)
+number c =
+    let f = c .before .before in
+    let l = f .before in
+    record { ready = start l .pre; numbers = l .loop .inv .numbers; room = l .before .stamp-of .ensures .1; more = f .loop-test .taken; read = c .wide .ensures .0 }
+
+abbrev fits : (c : tie.Else1 Inv-loop μ-loop) → let w = c .before .before in let l = w .before .before .before in let a = start l .args in
+    numberFits desk (a .elements .now) (a .e .0) 2 (l .loop .low) (w .wide .result) ≡ true
+fits c = sym (c .before .number-fits .ensures) ∙ not-false _ (c .if1 .left)
 
 stamp-of-requires : tie.Need-stamp-of-requires Inv-loop μ-loop
 stamp-of-requires c κs = c .before .pre .inRoom
@@ -51,10 +93,7 @@ loop-holds c =
     let p = c .before .before .pre in
     let edges = drop (a .from) (take (a .to) (a .elements .now)) in
     record {
-      order = search needs;
-      bound = p .part .order;
-      same = c .stamp-of .ensures .0;
-      rest = fits-start (a .elements .now) (a .to) (a .e .0) 2 (a .from);
+      numbers = numbers-start p (c .stamp-of .ensures .0);
       paths = subst (λ (k : ℕ). Paths (a .elements .now) edges (stampOf (a .e .0)) (a .met .now) 0 k) (let z : 0 ≡ a .from - a .from = omega arith in z)
           (paths-start (a .elements .now) edges (stampOf (a .e .0)) (a .met .now) (p .unmet));
     }
@@ -74,51 +113,21 @@ number-fits-requires c κs = (search needs, omega (arith, start (c .before .befo
 returns : tie.Need-returns Inv-loop μ-loop
 returns c =
     let n = c .before in
-    let f = n .before .before .before in
-    let at = f .before .loop in
-    let a = start (f .before) .args in
-    let p = start (f .before) .pre in
-    let no = sym (n .number-fits .ensures) ∙ not-true _ (c .if1 .taken) in
-    record {
-      told = no-first _ _ (fits-no (a .elements .now) (a .to) (a .e .0) 2 (p .part .end) (at .low) (at .i) _ (at .inv .rest) (n .before .wide .ensures .0) (f .loop-test .taken) no);
-      unmet = λ e. absurd (false≢true e);
-    }
+    record { told = read-no (number (n .before)) _ (sym (n .number-fits .ensures) ∙ not-true _ (c .if1 .taken)); unmet = λ t. absurd (false≢true t) }
 
 join-ends-requires : tie.Need-join-ends-requires Inv-loop μ-loop
 join-ends-requires c κs =
     let e = c .before in
-    let f = taken-up e in
-    let at = f .before .loop in
-    let a = start (f .before) .args in
-    let p = start (f .before) .pre in
-    let fits = sym (e .before .number-fits .ensures) ∙ not-false _ (e .if1 .left) in
-    let l = number-low (a .elements .now) (a .e .0) 2 (at .low) _ fits in
-    let edges = drop (a .from) (take (a .to) (a .elements .now)) in (
-      record {
-        elements = p .long;
-        room = omega (arith, l, p .inRoom);
-        ends = number-ends (a .elements .now) (a .e .0) (p .edges) (at .low) _ fits;
-        stamp = f .before .before .stamp-of .ensures .1;
-      },
-      subst (λ (s : ℕ). Stamped s (at .met)) (sym (at .inv .same)) (paths-stamped (a .elements .now) edges (stampOf (a .e .0)) (at .met) (at .twice) (at .i - a .from) (at .inv .paths)),
-    )
+    let w = e .before .before in
+    let R = number w in
+    let S = w .before .before .before .loop .inv in
+    (read-edge R (fits e), subst (λ (s : ℕ). Stamped s (w .before .before .before .loop .met)) (sym (R .numbers .same)) (stamped R S))
 
 returns-2 : tie.Need-returns-2 Inv-loop μ-loop
 returns-2 c =
     let j = c .before in
-    let e = fitted j in
-    let f = taken-up e in
-    let at = f .before .loop in
-    let a = start (f .before) .args in
-    let p = start (f .before) .pre in
-    let h = f .loop-test .taken in
-    let w = e .before .before .wide in
-    let r = j .join-ends .ensures .code ∙ ap (λ (s : ℕ). joining s (a .elements .now) (at .met) (w .result)) (at .inv .same) in
-    record {
-      told = face-thrice (a .elements .now) (a .from) (a .to) (a .e .0) (p .part .end) (p .inRoom) (p .edges) (at .met) (at .twice) (at .i) (stampOf (a .e .0)) (at .inv .paths) (at .inv .order)
-          h _ _ (w .ensures .0) r (c .if2 .taken);
-      unmet = λ t. absurd (false≢true t);
-    }
+    let w = fitted j .before .before in
+    record { told = thrice (number w) (w .before .before .before .loop .inv) (j .join-ends .ensures .code) (c .if2 .taken); unmet = λ t. absurd (false≢true t) }
 
 add-if4 : tie.Need-add-if4 Inv-loop μ-loop
 add-if4 c = search needs
@@ -126,64 +135,43 @@ add-if4 c = search needs
 returns-3 : tie.Need-returns-3 Inv-loop μ-loop
 returns-3 c =
     let j = c .before .before .before in
-    let e = fitted j in
-    let f = taken-up e in
-    let at = f .before .loop in
-    let a = start (f .before) .args in
-    let p = start (f .before) .pre in
-    let h = f .loop-test .taken in
-    let w = e .before .before .wide in
-    let r = j .join-ends .ensures .code ∙ ap (λ (s : ℕ). joining s (a .elements .now) (at .met) (w .result)) (at .inv .same) in
+    let w = fitted j .before .before in
     record {
-      told = face-early (a .elements .now) (a .from) (a .to) (a .e .0) (p .part .end) (p .inRoom) (p .edges) (at .met) (at .twice) (at .i) (stampOf (a .e .0)) (at .inv .paths) (at .inv .order)
-          h _ _ (w .ensures .0) r (c .before .if3 .taken) (c .if4 .taken);
+      told = early (number w) (w .before .before .before .loop .inv) (j .join-ends .ensures .code) (c .before .if3 .taken) (c .if4 .taken);
       unmet = λ t. absurd (false≢true t);
     }
 
 add-result : tie.Need-add-result Inv-loop μ-loop
 add-result c =
-    let e = fitted (c .before .before .before) in
-    let f = taken-up e in
-    let at = f .before .loop in
-    let p = start (f .before) .pre in
-    let few = paths-few _ _ _ _ _ _ (at .inv .paths) in
-    omega (arith, few, p .size, at .inv .order, at .inv .bound)
+    let w = fitted (c .before .before .before) .before .before in
+    let R = number w in
+    let most = few R (w .before .before .before .loop .inv) in
+    omega (arith, most, R .ready .size, R .numbers .order, R .numbers .bound)
 
 sub-result : tie.Need-sub-result Inv-loop μ-loop
-sub-result c = start (taken-up (fitted (c .before .before .before)) .before) .pre .part .order
+sub-result c = number (fitted (c .before .before .before) .before .before) .ready .part .order
 
 returns-4 : tie.Need-returns-4 Inv-loop μ-loop
 returns-4 c =
     let j = c .before .before .before in
     let e = fitted j in
-    let f = taken-up e in
-    let at = f .before .loop in
-    let a = start (f .before) .args in
-    let p = start (f .before) .pre in
-    let h = f .loop-test .taken in
-    let w = e .before .before .wide in
-    let r = j .join-ends .ensures .code ∙ ap (λ (s : ℕ). joining s (a .elements .now) (at .met) (w .result)) (at .inv .same) in
-    let fits = sym (e .before .number-fits .ensures) ∙ not-false _ (e .if1 .left) in
-    let last = c .if4 .left in
+    let w = e .before .before in
+    let l = w .before .before .before in
+    let R = number w in
     let three = c .before .if3 .taken in
     let same = j .join-ends .ensures .kept (let z : 3 ≤ j .join-ends .result = omega (arith, three) in z) in
-    let went = fits-go (a .elements .now) (a .to) (a .e .0) 2 (p .part .end) (at .low) (at .i) _ (at .inv .rest) (w .ensures .0) h fits in
     record {
-      told = face-last (a .elements .now) (a .from) (a .to) (a .e .0) (p .part .end) (p .inRoom) (p .edges) (at .met) (at .twice) (at .i) (stampOf (a .e .0)) (at .inv .paths) (at .inv .order) h _ _ (w .ensures .0) r
-          three last (fits-end (a .elements .now) (a .to) (a .e .0) 2 (p .part .end) _ _ went last);
-      unmet = λ t. subst (λ (ws : List ℕ). Unmet (stampOf (a .e .0 + 1)) ws) (sym same)
-          (stamped-next (a .e .0) (at .met) (paths-stamped (a .elements .now) (drop (a .from) (take (a .to) (a .elements .now))) (stampOf (a .e .0)) (at .met) (at .twice) (at .i - a .from) (at .inv .paths)));
+      told = last R (l .loop .inv) (j .join-ends .ensures .code) (fits e) three (c .if4 .left);
+      unmet = λ t. subst (λ (ws : List ℕ). Unmet (stampOf (start l .args .e .0 + 1)) ws) (sym same) (stamped-next (start l .args .e .0) (l .loop .met) (stamped R (l .loop .inv)));
     }
 
 add-twice : tie.Need-add-twice Inv-loop μ-loop
 add-twice c =
     let j = c .before .before in
-    let e = fitted j in
-    let f = taken-up e in
-    let at = f .before .loop in
-    let p = start (f .before) .pre in
-    let few = paths-few _ _ _ _ _ _ (at .inv .paths) in
-    omega (arith, few, j .join-ends .ensures .most, p .size, at .inv .order, at .inv .bound)
+    let w = fitted j .before .before in
+    let R = number w in
+    let most = few R (w .before .before .before .loop .inv) in
+    omega (arith, most, j .join-ends .ensures .most, R .ready .size, R .numbers .order, R .numbers .bound)
 
 add-low : tie.Need-add-low Inv-loop μ-loop
 add-low c = search needs
@@ -198,41 +186,26 @@ loop-again : tie.Need-loop-again Inv-loop μ-loop
 loop-again c =
     let j = c .before .before in
     let e = fitted j in
-    let f = taken-up e in
-    let at = f .before .loop in
-    let a = start (f .before) .args in
-    let p = start (f .before) .pre in
-    let h = f .loop-test .taken in
-    let w = e .before .before .wide in
-    let r = j .join-ends .ensures .code ∙ ap (λ (s : ℕ). joining s (a .elements .now) (at .met) (w .result)) (at .inv .same) in
-    let fits = sym (e .before .number-fits .ensures) ∙ not-false _ (e .if1 .left) in
+    let w = e .before .before in
     let most = j .join-ends .ensures .most in
     let not-four = c .before .if2 .left in
     let not-three = c .if3 .left in
     let small : j .join-ends .result < 3 = omega (arith, most, not-four, not-three) in
-    record {
-      order = search needs;
-      bound = search needs;
-      same = at .inv .same;
-      rest = fits-go (a .elements .now) (a .to) (a .e .0) 2 (p .part .end) (at .low) (at .i) _ (at .inv .rest) (w .ensures .0) h fits;
-      paths = face-go (a .elements .now) (a .from) (a .to) (a .e .0) (p .part .end) (at .met) _ (at .twice) (at .i) _ _ (stampOf (a .e .0)) (at .inv .paths) (at .inv .order) h (w .ensures .0)
-          (number-ends (a .elements .now) (a .e .0) (p .edges) (at .low) _ fits) r small
-          (j .join-ends .ensures .words small ∙ ap (λ (s : ℕ). joined s (a .elements .now) (at .met) (w .result)) (at .inv .same));
-    }
+    goes-on (number w) (w .before .before .before .loop .inv) (j .join-ends .ensures .code) (fits e) small _ (j .join-ends .ensures .words small)
 
 sub-result-2 : tie.Need-sub-result-2 Inv-loop μ-loop
-sub-result-2 c = c .before .before .before .before .pre .part .order
+sub-result-2 c = start (c .before) .pre .part .order
 
 returns-5 : tie.Need-returns-5 Inv-loop μ-loop
 returns-5 c =
-    let a = c .before .before .before .before .args in
-    let p = c .before .before .before .before .pre in
+    let a = start (c .before) .args in
+    let p = start (c .before) .pre in
     let at = c .before .loop in
-    let e : at .i ≡ a .to = omega (arith, at .inv .bound, c .loop-test .left) in
+    let e : at .i ≡ a .to = omega (arith, at .inv .numbers .bound, c .loop-test .left) in
     record {
-      told = face-none (a .elements .now) (a .from) (a .to) (a .e .0) (p .part .end) (p .inRoom) (p .edges) (at .met) (at .twice) (at .i) (stampOf (a .e .0)) (at .inv .paths) (at .inv .order) e
-          (fits-end (a .elements .now) (a .to) (a .e .0) 2 (p .part .end) (at .low) (at .i) (at .inv .rest) (c .loop-test .left));
-      unmet = λ t. stamped-next (a .e .0) (at .met) (paths-stamped (a .elements .now) (drop (a .from) (take (a .to) (a .elements .now))) (stampOf (a .e .0)) (at .met) (at .twice) (at .i - a .from) (at .inv .paths));
+      told = face-none (a .elements .now) (a .from) (a .to) (a .e .0) (p .part .end) (p .inRoom) (p .edges) (at .met) (at .twice) (at .i) (stampOf (a .e .0)) (at .inv .paths)
+          (at .inv .numbers .order) e (numbers-end p (at .inv .numbers) (c .loop-test .left));
+      unmet = λ t. stamped-next (a .e .0) (at .met) (paths-stamped _ _ (stampOf (a .e .0)) (at .met) (at .twice) (at .i - a .from) (at .inv .paths));
     }
 
 pub face-fits-spec : {M : Type 1} → statement M

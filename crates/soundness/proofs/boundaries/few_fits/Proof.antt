@@ -1,7 +1,7 @@
 -- The numbers that are left fit exactly when all do, until one does not; the ends of those before are met.
-use Prim.Native.Nat.{ℕ, _+_, _-_, _≤_}
+use Prim.Native.Nat.{ℕ, _+_, _-_}
+use mathlib.Core.Bool.{true, false≢true}
 use mathlib.Core.List.{List}
-use mathlib.Core.Bool.{false≢true}
 use mathlib.Core.Path.{_≡_, sym, subst, _∙_}
 use native.Mathlib.Omega.{arith}
 use lib.ListN.{drop, take}
@@ -9,20 +9,15 @@ use borrow.Author.Needs.{needs}
 use Rattle.rules.specs.Limits.{desk}
 use Rattle.rules.proofs.Laws.{not-true, not-false}
 use Rattle.space.proofs.EndsCounted.{Round, round-start, round-few, round-out}
-use Rattle.soundness.specs.Words.{numbersFit, stampOf}
-use Rattle.soundness.proofs.BoundaryFits.{left, fits-start, fits-go, fits-no, fits-end}
-use Rattle.soundness.proofs.BoundaryLoops.{number-ends, number-low}
+use Rattle.soundness.specs.Words.{numberFits, stampOf}
+use Rattle.soundness.proofs.EdgesRead.{Numbers, NumberRead, numbers-start, numbers-end, read-no, read-ends, read-edge, read-on}
 use Rattle.soundness.proofs.FaceLoops.{few-go, few-end, unmet-above}
-use Rattle.soundness.proofs.OnePass.{no-first}
 use Rattle.soundness.proofs.boundaries.few_fits.Statement.{statement}
 use Rattle.soundness.proofs.boundaries.few_fits.Tie as tie
 
 -- up to place i the numbers fit, and the ends of their edges are met
 record SoFar (es : List ℕ) (from to e : ℕ) (met : List ℕ) (stamp low twice i : ℕ) : Type 0 where
-  order : from ≤ i
-  bound : i ≤ to
-  same : stamp ≡ stampOf e
-  rest : numbersFit desk es e 2 (drop from (take to es)) ≡ left es to e 2 low i
+  numbers : Numbers es from to e stamp low i
   round : Round es (drop from (take to es)) (stampOf e) met twice (i - from)
 
 abbrev Inv-loop : tie.InvT-loop
@@ -31,18 +26,27 @@ Inv-loop elements from to e met₀ stamp low₀ twice₀ i₀ met low twice i = 
 abbrev μ-loop : tie.MeasureT-loop
 μ-loop elements from to e met₀ stamp low₀ twice₀ i₀ met low twice i = to - i
 
--- where the function began, where an edge is taken up, and where its number was found to fit
+-- where the function began, where a number is taken up, and where it was found to fit
 abbrev start : tie.At-loop Inv-loop μ-loop → tie.Start Inv-loop μ-loop
 start c = c .before .before .before
-
-abbrev taken-up : tie.Else1 Inv-loop μ-loop → tie.In-loop Inv-loop μ-loop
-taken-up c = c .before .before .before .before
 
 abbrev fitted : tie.After-meet-ends Inv-loop μ-loop → tie.Else1 Inv-loop μ-loop
 fitted c = c .before .before
 
+-- the facts there
+abbrev number : (c : tie.After-wide Inv-loop μ-loop) → let l = c .before .before .before in let a = start l .args in let at = l .loop in
+    NumberRead (a .elements .now) (a .from) (a .to) (a .e .0) (a .met .now) (l .before .stamp-of .result) (at .low) (at .i) (c .wide .result)
+number c =
+    let f = c .before .before in
+    let l = f .before in
+    record { ready = start l .pre; numbers = l .loop .inv .numbers; room = l .before .stamp-of .ensures .1; more = f .loop-test .taken; read = c .wide .ensures .0 }
+
+abbrev fits : (c : tie.Else1 Inv-loop μ-loop) → let w = c .before .before in let l = w .before .before .before in let a = start l .args in
+    numberFits desk (a .elements .now) (a .e .0) 2 (l .loop .low) (w .wide .result) ≡ true
+fits c = sym (c .before .number-fits .ensures) ∙ not-false _ (c .if1 .left)
+
 stamp-of-requires : tie.Need-stamp-of-requires Inv-loop μ-loop
-stamp-of-requires c κs = search needs
+stamp-of-requires c κs = c .before .pre .inRoom
 
 loop-holds : tie.Need-loop-holds Inv-loop μ-loop
 loop-holds c =
@@ -50,10 +54,7 @@ loop-holds c =
     let p = c .before .before .pre in
     let edges = drop (a .from) (take (a .to) (a .elements .now)) in
     record {
-      order = search needs;
-      bound = p .part .order;
-      same = c .stamp-of .ensures .0;
-      rest = fits-start (a .elements .now) (a .to) (a .e .0) 2 (a .from);
+      numbers = numbers-start p (c .stamp-of .ensures .0);
       round = subst (λ (k : ℕ). Round (a .elements .now) edges (stampOf (a .e .0)) (a .met .now) 0 k) (let z : 0 ≡ a .from - a .from = omega arith in z)
           (round-start (a .elements .now) edges (stampOf (a .e .0)) (a .met .now) (p .unmet));
     }
@@ -73,40 +74,17 @@ number-fits-requires c κs = (search needs, omega (arith, start (c .before .befo
 returns : tie.Need-returns Inv-loop μ-loop
 returns c =
     let n = c .before in
-    let f = n .before .before .before in
-    let at = f .before .loop in
-    let a = start (f .before) .args in
-    let p = start (f .before) .pre in
-    let no = sym (n .number-fits .ensures) ∙ not-true _ (c .if1 .taken) in
-    record {
-      told = no-first _ _ (fits-no (a .elements .now) (a .to) (a .e .0) 2 (p .part .end) (at .low) (at .i) _ (at .inv .rest) (n .before .wide .ensures .0) (f .loop-test .taken) no);
-      unmet = λ e. absurd (false≢true e);
-    }
+    record { told = read-no (number (n .before)) _ (sym (n .number-fits .ensures) ∙ not-true _ (c .if1 .taken)); unmet = λ t. absurd (false≢true t) }
 
 meet-ends-requires : tie.Need-meet-ends-requires Inv-loop μ-loop
-meet-ends-requires c κs =
-    let e = c .before in
-    let f = taken-up e in
-    let at = f .before .loop in
-    let a = start (f .before) .args in
-    let p = start (f .before) .pre in
-    let fits = sym (e .before .number-fits .ensures) ∙ not-false _ (e .if1 .left) in
-    let l = number-low (a .elements .now) (a .e .0) 2 (at .low) _ fits in
-    record {
-      elements = p .long;
-      room = omega (arith, l, p .inRoom);
-      ends = number-ends (a .elements .now) (a .e .0) (p .edges) (at .low) _ fits;
-      stamp = f .before .before .stamp-of .ensures .1;
-    }
+meet-ends-requires c κs = let e = c .before in read-edge (number (e .before .before)) (fits e)
 
 add-twice : tie.Need-add-twice Inv-loop μ-loop
 add-twice c =
-    let e = fitted c in
-    let f = taken-up e in
-    let at = f .before .loop in
-    let p = start (f .before) .pre in
-    let few = round-few _ _ _ _ _ _ (at .inv .round) in
-    omega (arith, few, c .meet-ends .ensures .most, p .size, at .inv .order, at .inv .bound)
+    let w = fitted c .before .before in
+    let R = number w in
+    let few = round-few _ _ _ _ _ _ (w .before .before .before .loop .inv .round) in
+    omega (arith, few, c .meet-ends .ensures .most, R .ready .size, R .numbers .order, R .numbers .bound)
 
 add-low : tie.Need-add-low Inv-loop μ-loop
 add-low c = search needs
@@ -120,34 +98,28 @@ loop-less c = search needs
 loop-again : tie.Need-loop-again Inv-loop μ-loop
 loop-again c =
     let e = fitted c in
-    let f = taken-up e in
-    let at = f .before .loop in
-    let a = start (f .before) .args in
-    let p = start (f .before) .pre in
-    let fits = sym (e .before .number-fits .ensures) ∙ not-false _ (e .if1 .left) in
-    let h = f .loop-test .taken in
-    let x = e .before .before .wide .ensures .0 in
+    let R = number (e .before .before) in
+    let l = e .before .before .before .before .before in
+    let a = start l .args in
+    let at = l .loop in
     record {
-      order = search needs;
-      bound = search needs;
-      same = at .inv .same;
-      rest = fits-go (a .elements .now) (a .to) (a .e .0) 2 (p .part .end) (at .low) (at .i) _ (at .inv .rest) x h fits;
-      round = few-go (a .elements .now) (a .from) (a .to) (a .e .0) (p .part .end) (at .met) _ (at .twice) (at .i) _ _ (stampOf (a .e .0)) _ (at .inv .round) (at .inv .order) h x
-          (number-ends (a .elements .now) (a .e .0) (p .edges) (at .low) _ fits) (at .inv .same) (c .meet-ends .ensures .count) (c .meet-ends .ensures .words);
+      numbers = read-on R (fits e);
+      round = few-go (a .elements .now) (a .from) (a .to) (a .e .0) (R .ready .part .end) (at .met) _ (at .twice) (at .i) _ _ (stampOf (a .e .0)) _
+          (at .inv .round) (R .numbers .order) (R .more) (R .read) (read-ends R (fits e)) (R .numbers .same) (c .meet-ends .ensures .count) (c .meet-ends .ensures .words);
     }
 
 sub-result : tie.Need-sub-result Inv-loop μ-loop
-sub-result c = c .before .before .before .before .pre .part .order
+sub-result c = start (c .before) .pre .part .order
 
 returns-2 : tie.Need-returns-2 Inv-loop μ-loop
 returns-2 c =
-    let a = c .before .before .before .before .args in
-    let p = c .before .before .before .before .pre in
+    let a = start (c .before) .args in
+    let p = start (c .before) .pre in
     let at = c .before .loop in
-    let e : at .i ≡ a .to = omega (arith, at .inv .bound, c .loop-test .left) in
+    let e : at .i ≡ a .to = omega (arith, at .inv .numbers .bound, c .loop-test .left) in
     record {
       told = few-end (a .elements .now) (a .from) (a .to) (a .e .0) (p .part .end) (at .met) (at .twice) (at .i) (stampOf (a .e .0)) (at .inv .round) e (p .edges)
-          (fits-end (a .elements .now) (a .to) (a .e .0) 2 (p .part .end) (at .low) (at .i) (at .inv .rest) (c .loop-test .left));
+          (numbers-end p (at .inv .numbers) (c .loop-test .left));
       unmet = λ t. unmet-above (stampOf (a .e .0) + 2) (stampOf (a .e .0 + 1)) (at .met) (omega arith) (round-out _ _ (stampOf (a .e .0)) (at .met) _ _ (at .inv .round));
     }
 

@@ -7,7 +7,7 @@ use lib.ListN.{take, replicate}
 use native.Mathlib.Omega.{arith}
 use borrow.Author.Needs.{needs}
 use Rattle.rules.specs.Limits.{desk}
-use Rattle.space.proofs.TwiceMet.{edges-long, edges-fine, edge-at, edge-low, ends-low}
+use Rattle.space.proofs.TwiceMet.{edges-long, edges-fine, TakenUp, taken-there, taken-here, taken-ends, taken-ready}
 use Rattle.space.proofs.EndsCounted.{Round, round-start, round-met, round-few, round-end}
 use Rattle.space.proofs.Meetings.{unmet-new}
 use Rattle.space.proofs.closed.each_twice.Statement.{statement}
@@ -24,12 +24,17 @@ Inv-loop elements list n met₀ twice₀ k₀ met twice k = SoFar elements list 
 abbrev μ-loop : tie.MeasureT-loop
 μ-loop elements list n met₀ twice₀ k₀ met twice k = n - k
 
--- where the function began, and where an edge is taken up
+-- where the function began, and where the edge whose ends were met was read
 abbrev start : tie.At-loop Inv-loop μ-loop → tie.Start Inv-loop μ-loop
 start c = c .before .before .before
 
-abbrev taken-up : tie.After-meet-ends Inv-loop μ-loop → tie.In-loop Inv-loop μ-loop
-taken-up c = c .before .before .before .before
+abbrev read-at : tie.After-meet-ends Inv-loop μ-loop → tie.After-wide Inv-loop μ-loop
+read-at c = c .before .before
+
+-- the facts there
+abbrev edge : (c : tie.After-wide Inv-loop μ-loop) → let f = c .before .before in let a = start (f .before) .args in
+    TakenUp (a .elements .now) (a .list .now) (a .n) (f .before .loop .k) (c .wide .result)
+edge c = let f = c .before .before in record { ready = start (f .before) .pre; more = f .loop-test .taken; read = c .wide .ensures .0 }
 
 loop-holds : tie.Need-loop-holds Inv-loop μ-loop
 loop-holds c =
@@ -46,28 +51,14 @@ wide-requires : tie.Need-wide-requires Inv-loop μ-loop
 wide-requires c κs = search needs
 
 meet-ends-requires : tie.Need-meet-ends-requires Inv-loop μ-loop
-meet-ends-requires c κs =
-    let f = c .before .before .before in
-    let a = start (f .before) .args in
-    let p = start (f .before) .pre in
-    let k = f .before .loop .k in
-    let h = f .loop-test .taken in
-    let e = c .before .wide .ensures .0 in
-    record {
-      elements = p .elements;
-      room = edge-low (a .list .now) (a .n) (p .long) k _ h e (p .low);
-      ends = ends-low (a .list .now) (a .n) (p .long) k _ h e (a .elements .now) (p .ends);
-      stamp = search needs;
-    }
+meet-ends-requires c κs = taken-ready (edge (c .before))
 
 add-twice : tie.Need-add-twice Inv-loop μ-loop
 add-twice c =
-    let f = taken-up c in
-    let at = f .before .loop in
-    let a = start (f .before) .args in
-    let p = start (f .before) .pre in
-    let few = round-few (a .elements .now) (take (a .n) (a .list .now)) 1 (at .met) (at .twice) (at .k) (at .inv .round) in
-    omega (arith, few, c .meet-ends .ensures .most, p .size, at .inv .bound)
+    let w = read-at c in
+    let at = w .before .before .before .loop in
+    let few = round-few _ _ 1 (at .met) (at .twice) (at .k) (at .inv .round) in
+    omega (arith, few, c .meet-ends .ensures .most, edge w .ready .size, at .inv .bound)
 
 add-k : tie.Need-add-k Inv-loop μ-loop
 add-k c = search needs
@@ -77,19 +68,12 @@ loop-less c = search needs
 
 loop-again : tie.Need-loop-again Inv-loop μ-loop
 loop-again c =
-    let f = taken-up c in
-    let at = f .before .loop in
-    let a = start (f .before) .args in
-    let p = start (f .before) .pre in
-    let h = f .loop-test .taken in
-    let w = c .before .before .wide in
-    let e = w .ensures .0 in
-    let l = edges-long (a .list .now) (a .n) (p .long) in
+    let w = read-at c in
+    let at = w .before .before .before .loop in
+    let T = edge w in
     record {
       bound = search needs;
-      round = round-met (a .elements .now) (take (a .n) (a .list .now)) 1 (at .met) _ (at .twice) (at .k) (w .result) _ (at .inv .round) (omega (arith, l, h))
-          (edge-at (a .list .now) (a .n) (p .long) (at .k) _ h e)
-          (ends-low (a .list .now) (a .n) (p .long) (at .k) _ h e (a .elements .now) (p .ends))
+      round = round-met _ _ 1 (at .met) _ (at .twice) (at .k) (w .wide .result) _ (at .inv .round) (taken-there T) (taken-here T) (taken-ends T)
           (c .meet-ends .ensures .count) (c .meet-ends .ensures .words);
     }
 

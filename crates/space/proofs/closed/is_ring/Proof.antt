@@ -1,13 +1,15 @@
--- The edges so far have joined paths, and none of them closed one.
+-- The edges so far have joined paths, and none of them closed one; what the next edge answers tells the ring, or goes on.
 use Prim.Native.Nat.{ℕ, _+_, _-_, _<_, _≤_}
+use mathlib.Core.Bool.{false}
 use mathlib.Core.List.{List}
 use mathlib.Core.Path.{_≡_, ap, sym, _∙_}
 use native.Mathlib.Omega.{arith}
 use lib.Dec.{eqb}
-use lib.ListN.{take, length, replicate}
+use lib.ListN.{take, length, getD, replicate}
 use borrow.Author.Needs.{needs}
 use Rattle.rules.specs.Limits.{desk}
-use Rattle.space.proofs.TwiceMet.{edges-long, edges-fine, edge-at, edge-low, ends-low}
+use Rattle.space.specs.Closed.{EndsLow, FaceReady, Stamped, joining, joined, ringRaw}
+use Rattle.space.proofs.TwiceMet.{edges-long, edges-fine, TakenUp, taken-there, taken-here, taken-ends, taken-ready}
 use Rattle.space.proofs.PathsJoined.{Paths, paths-start, paths-stamped, paths-few, paths-go}
 use Rattle.space.proofs.Meetings.{unmet-new}
 use Rattle.space.proofs.Rings.{no-edges, answers-thrice, answers-early, answers-last}
@@ -25,12 +27,71 @@ Inv-loop elements list n paths₀ twice₀ k₀ paths twice k = SoFar elements l
 abbrev μ-loop : tie.MeasureT-loop
 μ-loop elements list n paths₀ twice₀ k₀ paths twice k = n - k
 
--- where the function began, and where an edge is taken up
+-- ---- the edge that is taken up
+
+-- the paths so far, and x as edge k of the face
+record Taken (es list : List ℕ) (n : ℕ) (paths : List ℕ) (twice k x : ℕ) : Type 0 where
+  edge : TakenUp es list n k x
+  so : SoFar es list n paths twice k
+
+module _ {es list : List ℕ} {n : ℕ} {paths : List ℕ} {twice k x : ℕ} (T : Taken es list n paths twice k x) where
+  abbrev edges : List ℕ
+  edges = take n list
+
+  abbrev ready : FaceReady es list n
+  ready = T .edge .ready
+
+  long : length edges ≡ n
+  long = edges-long list n (ready .long)
+
+  stamped : Stamped 1 paths
+  stamped = paths-stamped es edges 1 paths twice k (T .so .paths-so)
+
+  few : twice ≤ k
+  few = paths-few es edges 1 paths twice k (T .so .paths-so)
+
+  fine : (j : ℕ) → j < length edges → (getD edges j 0 < desk .elements) × EndsLow es (getD edges j 0)
+  fine = edges-fine list n (ready .long) es (ready .low) (ready .ends)
+
+  module _ {r : ℕ} (c : r ≡ joining 1 es paths x) where
+    thrice : r ≡ 4 → false ≡ ringRaw es edges
+    thrice four = sym (answers-thrice es edges (ready .ends .rising) fine 1 paths twice k (T .so .paths-so) x (taken-there (T .edge)) (taken-here (T .edge)) r c four)
+
+    early : r ≡ 3 → k + 1 < n → false ≡ ringRaw es edges
+    early three h =
+        sym (answers-early es edges (ready .ends .rising) fine 1 paths twice k (T .so .paths-so) x (taken-there (T .edge)) (taken-here (T .edge)) r c three
+        (let l = long in omega (arith, l, h)))
+
+    last : r ≡ 3 → n ≤ k + 1 → eqb (twice + 2) n ≡ ringRaw es edges
+    last three h =
+        ap (eqb (twice + 2)) (sym long)
+        ∙ answers-last es edges (ready .ends .rising) fine 1 paths twice k (T .so .paths-so) x (taken-there (T .edge)) (taken-here (T .edge)) r c three
+        (let l = long in let m = T .edge .more in omega (arith, l, h, m))
+
+    goes-on : r < 3 → (paths′ : List ℕ) → paths′ ≡ joined 1 es paths x → SoFar es list n paths′ (twice + r) (k + 1)
+    goes-on small paths′ q = record {
+      bound = let m = T .edge .more in omega (arith, m);
+      paths-so = paths-go es edges 1 paths twice k (T .so .paths-so) x (taken-there (T .edge)) (taken-here (T .edge)) (taken-ends (T .edge)) r paths′ c small q;
+    }
+
+-- ---- the places of the function
+
+-- where it began, and where the edge that joined was read
 abbrev start : tie.At-loop Inv-loop μ-loop → tie.Start Inv-loop μ-loop
 start c = c .before .before .before
 
-abbrev taken-up : tie.After-join-ends Inv-loop μ-loop → tie.In-loop Inv-loop μ-loop
-taken-up c = c .before .before .before .before
+abbrev read-at : tie.After-join-ends Inv-loop μ-loop → tie.After-wide Inv-loop μ-loop
+read-at c = c .before .before
+
+-- the facts there
+abbrev taken : (c : tie.After-wide Inv-loop μ-loop) → let f = c .before .before in let a = start (f .before) .args in let at = f .before .loop in
+    Taken (a .elements .now) (a .list .now) (a .n) (at .paths) (at .twice) (at .k) (c .wide .result)
+taken c =
+    let f = c .before .before in
+    record {
+      edge = record { ready = start (f .before) .pre; more = f .loop-test .taken; read = c .wide .ensures .0 };
+      so = f .before .loop .inv;
+    }
 
 loop-holds : tie.Need-loop-holds Inv-loop μ-loop
 loop-holds c =
@@ -47,92 +108,32 @@ wide-requires : tie.Need-wide-requires Inv-loop μ-loop
 wide-requires c κs = search needs
 
 join-ends-requires : tie.Need-join-ends-requires Inv-loop μ-loop
-join-ends-requires c κs =
-    let f = c .before .before .before in
-    let at = f .before .loop in
-    let a = start (f .before) .args in
-    let p = start (f .before) .pre in
-    let h = f .loop-test .taken in
-    let e = c .before .wide .ensures .0 in (
-      record {
-        elements = p .elements;
-        room = edge-low (a .list .now) (a .n) (p .long) (at .k) _ h e (p .low);
-        ends = ends-low (a .list .now) (a .n) (p .long) (at .k) _ h e (a .elements .now) (p .ends);
-        stamp = search needs;
-      },
-      paths-stamped (a .elements .now) (take (a .n) (a .list .now)) 1 (at .paths) (at .twice) (at .k) (at .inv .paths-so),
-    )
+join-ends-requires c κs = (taken-ready (taken (c .before) .edge), stamped (taken (c .before)))
 
 returns : tie.Need-returns Inv-loop μ-loop
-returns c =
-    let j = c .before in
-    let f = taken-up j in
-    let at = f .before .loop in
-    let a = start (f .before) .args in
-    let p = start (f .before) .pre in
-    let h = f .loop-test .taken in
-    let e = j .before .before .wide .ensures .0 in
-    let l = edges-long (a .list .now) (a .n) (p .long) in
-    let h′ : at .k < length (take (a .n) (a .list .now)) = omega (arith, l, h) in
-    sym (answers-thrice (a .elements .now) (take (a .n) (a .list .now)) (p .ends .rising) (edges-fine (a .list .now) (a .n) (p .long) (a .elements .now) (p .low) (p .ends))
-    1 (at .paths) (at .twice) (at .k) (at .inv .paths-so) _ h′
-    (edge-at (a .list .now) (a .n) (p .long) (at .k) _ h e) _ (j .join-ends .ensures .code) (c .if1 .taken))
+returns c = let j = c .before in thrice (taken (read-at j)) (j .join-ends .ensures .code) (c .if1 .taken)
 
 add-if3 : tie.Need-add-if3 Inv-loop μ-loop
 add-if3 c = search needs
 
 returns-2 : tie.Need-returns-2 Inv-loop μ-loop
-returns-2 c =
-    let j = c .before .before .before in
-    let f = taken-up j in
-    let at = f .before .loop in
-    let a = start (f .before) .args in
-    let p = start (f .before) .pre in
-    let h = f .loop-test .taken in
-    let e = j .before .before .wide .ensures .0 in
-    let l = edges-long (a .list .now) (a .n) (p .long) in
-    let h′ : at .k < length (take (a .n) (a .list .now)) = omega (arith, l, h) in
-    let more-left = c .if3 .taken in
-    sym (answers-early (a .elements .now) (take (a .n) (a .list .now)) (p .ends .rising) (edges-fine (a .list .now) (a .n) (p .long) (a .elements .now) (p .low) (p .ends))
-    1 (at .paths) (at .twice) (at .k) (at .inv .paths-so) _ h′
-    (edge-at (a .list .now) (a .n) (p .long) (at .k) _ h e) _ (j .join-ends .ensures .code) (c .before .if2 .taken) (omega (arith, l, more-left)))
+returns-2 c = let j = c .before .before .before in early (taken (read-at j)) (j .join-ends .ensures .code) (c .before .if2 .taken) (c .if3 .taken)
 
 add-result : tie.Need-add-result Inv-loop μ-loop
 add-result c =
-    let j = c .before .before .before in
-    let f = taken-up j in
-    let at = f .before .loop in
-    let a = start (f .before) .args in
-    let p = start (f .before) .pre in
-    let few = paths-few (a .elements .now) (take (a .n) (a .list .now)) 1 (at .paths) (at .twice) (at .k) (at .inv .paths-so) in
-    omega (arith, few, p .size, at .inv .bound)
+    let T = taken (read-at (c .before .before .before)) in
+    let most = few T in
+    omega (arith, most, T .edge .ready .size, T .so .bound)
 
 returns-3 : tie.Need-returns-3 Inv-loop μ-loop
-returns-3 c =
-    let j = c .before .before .before in
-    let f = taken-up j in
-    let at = f .before .loop in
-    let a = start (f .before) .args in
-    let p = start (f .before) .pre in
-    let h = f .loop-test .taken in
-    let e = j .before .before .wide .ensures .0 in
-    let l = edges-long (a .list .now) (a .n) (p .long) in
-    let h′ : at .k < length (take (a .n) (a .list .now)) = omega (arith, l, h) in
-    let none-left = c .if3 .left in
-    ap (eqb (at .twice + 2)) (sym l)
-    ∙ answers-last (a .elements .now) (take (a .n) (a .list .now)) (p .ends .rising) (edges-fine (a .list .now) (a .n) (p .long) (a .elements .now) (p .low) (p .ends))
-    1 (at .paths) (at .twice) (at .k) (at .inv .paths-so) _ h′
-    (edge-at (a .list .now) (a .n) (p .long) (at .k) _ h e) _ (j .join-ends .ensures .code) (c .before .if2 .taken) (omega (arith, l, h, none-left))
+returns-3 c = let j = c .before .before .before in last (taken (read-at j)) (j .join-ends .ensures .code) (c .before .if2 .taken) (c .if3 .left)
 
 add-twice : tie.Need-add-twice Inv-loop μ-loop
 add-twice c =
     let j = c .before .before in
-    let f = taken-up j in
-    let at = f .before .loop in
-    let a = start (f .before) .args in
-    let p = start (f .before) .pre in
-    let few = paths-few (a .elements .now) (take (a .n) (a .list .now)) 1 (at .paths) (at .twice) (at .k) (at .inv .paths-so) in
-    omega (arith, few, j .join-ends .ensures .most, p .size, at .inv .bound)
+    let T = taken (read-at j) in
+    let most = few T in
+    omega (arith, most, j .join-ends .ensures .most, T .edge .ready .size, T .so .bound)
 
 add-k : tie.Need-add-k Inv-loop μ-loop
 add-k c = search needs
@@ -143,23 +144,11 @@ loop-less c = search needs
 loop-again : tie.Need-loop-again Inv-loop μ-loop
 loop-again c =
     let j = c .before .before in
-    let f = taken-up j in
-    let at = f .before .loop in
-    let a = start (f .before) .args in
-    let p = start (f .before) .pre in
-    let h = f .loop-test .taken in
-    let e = j .before .before .wide .ensures .0 in
-    let l = edges-long (a .list .now) (a .n) (p .long) in
-    let h′ : at .k < length (take (a .n) (a .list .now)) = omega (arith, l, h) in
     let most = j .join-ends .ensures .most in
     let not-four = c .before .if1 .left in
     let not-three = c .if2 .left in
     let small : j .join-ends .result < 3 = omega (arith, most, not-four, not-three) in
-    record {
-      bound = search needs;
-      paths-so = paths-go (a .elements .now) (take (a .n) (a .list .now)) 1 (at .paths) (at .twice) (at .k) (at .inv .paths-so) _ h′ (edge-at (a .list .now) (a .n) (p .long) (at .k) _ h e)
-          (ends-low (a .list .now) (a .n) (p .long) (at .k) _ h e (a .elements .now) (p .ends)) _ _ (j .join-ends .ensures .code) small (j .join-ends .ensures .words small);
-    }
+    goes-on (taken (read-at j)) (j .join-ends .ensures .code) small _ (j .join-ends .ensures .words small)
 
 returns-4 : tie.Need-returns-4 Inv-loop μ-loop
 returns-4 c =

@@ -11,20 +11,27 @@ use Rattle.space.specs.Closed.{firstEnd, secondEnd, farEnd, inside, join
 use Rattle.space.proofs.closed.join_ends.Statement.{statement}
 use Rattle.space.proofs.closed.join_ends.Tie as tie
 
-module _ (s : ℕ) (es paths : List ℕ) (e a b x y : ℕ) (p : a ≡ firstEnd es e) (q : b ≡ secondEnd es e) (f : x ≡ farEnd s paths a) (g : y ≡ farEnd s paths b) where
+-- a and b as the ends of edge e, x and y as the other ends of their paths
+record Ends (s : ℕ) (es paths : List ℕ) (e a b x y : ℕ) : Type 0 where
+  first : a ≡ firstEnd es e
+  second : b ≡ secondEnd es e
+  across : x ≡ farEnd s paths a
+  across-second : y ≡ farEnd s paths b
+
+module _ {s : ℕ} {es paths : List ℕ} {e a b x y : ℕ} (E : Ends s es paths e a b x y) where
   far-x : farEnd s paths (firstEnd es e) ≡ x
-  far-x = ap (farEnd s paths) (sym p) ∙ sym f
+  far-x = ap (farEnd s paths) (sym (E .first)) ∙ sym (E .across)
 
   far-y : farEnd s paths (secondEnd es e) ≡ y
-  far-y = ap (farEnd s paths) (sym q) ∙ sym g
+  far-y = ap (farEnd s paths) (sym (E .second)) ∙ sym (E .across-second)
 
   code-is : joinCode a b x y ≡ joining s es paths e
   unfolding joining
-  code-is = sym (λ i. joinCode (sym p i) (sym q i) (far-x i) (far-y i))
+  code-is = sym (λ i. joinCode (sym (E .first) i) (sym (E .second) i) (far-x i) (far-y i))
 
   words-are : joinWords s paths a b x y ≡ joined s es paths e
   unfolding joined
-  words-are = sym (λ i. joinWords s paths (sym p i) (sym q i) (far-x i) (far-y i))
+  words-are = sym (λ i. joinWords s paths (sym (E .first) i) (sym (E .second) i) (far-x i) (far-y i))
 
   first-thrice : x ≡ inside → 4 ≡ joining s es paths e
   first-thrice h = sym (ap (λ (t : Bool). cond t 4 (cond (eqb y inside) 4 (cond (eqb x b) 3 (cond (eqb x a) 0 1 + cond (eqb y b) 0 1)))) (test-eq x inside h)) ∙ code-is
@@ -47,15 +54,28 @@ module _ (s : ℕ) (es paths : List ℕ) (e a b x y : ℕ) (p : a ≡ firstEnd e
       counting : (x ≡ b → ⊥) → cond (eqb x a) 0 1 + cond (eqb y b) 0 1 ≡ joining s es paths e
       counting h = sym (not-thrice ∙ ap (λ (t : Bool). cond t 3 (cond (eqb x a) 0 1 + cond (eqb y b) 0 1)) (not-eq x b h)) ∙ code-is
 
--- where the function began, where the two ends were read, and where both paths' other ends were
+-- where the function began, where the first end was read, and where both were
 abbrev start : tie.After-wide → tie.Start
 start c = c .before .before .before
 
 abbrev first : tie.After-wide2 → tie.After-wide
 first c = c .before .before
 
-abbrev second : tie.After-far-end2 → tie.After-wide2
-second c = c .before .before .before .before
+abbrev both : tie.After-far-end2 → tie.After-wide2
+both c = c .before .before .before .before
+
+-- the facts there
+abbrev ends : (c : tie.After-far-end2) → let t = both c in let w = first t in let a = start w .args in
+    Ends (a .stamp) (a .elements .now) (a .paths .now) (a .e .0) (w .wide .result) (t .wide2 .result) (c .before .before .far-end .result) (c .far-end2 .result)
+ends c =
+    let t = both c in
+    let w = first t in
+    record {
+      first = w .wide .ensures .0 ∙ w .before .boundary-at .ensures;
+      second = t .wide2 .ensures .0 ∙ t .before .boundary-at2 .ensures;
+      across = c .before .before .far-end .ensures .0;
+      across-second = c .far-end2 .ensures .0;
+    }
 
 boundary-at-requires : tie.Need-boundary-at-requires
 boundary-at-requires c κs = search needs
@@ -76,50 +96,19 @@ far-end-requires-2 : tie.Need-far-end-requires-2
 far-end-requires-2 c κs = search needs
 
 returns : tie.Need-returns
-returns c =
-    let z = c .before in
-    let t = second z in
-    let w = first t in
-    let a = start w .args in
-    let p = w .wide .ensures .0 ∙ w .before .boundary-at .ensures in
-    let q = t .wide2 .ensures .0 ∙ t .before .boundary-at2 .ensures in
-    let f = z .before .before .far-end .ensures .0 in
-    let g = z .far-end2 .ensures .0 in
-    record { code = first-thrice (a .stamp) (a .elements .now) (a .paths .now) (a .e .0) _ _ _ _ p q f g (c .if1 .taken); words = λ l. absurd (omega (arith, l)); kept = λ l. refl; most = lit≤ tt }
+returns c = record { code = first-thrice (ends (c .before)) (c .if1 .taken); words = λ l. absurd (omega (arith, l)); kept = λ l. refl; most = lit≤ tt }
 
 returns-2 : tie.Need-returns-2
 returns-2 c =
-    let z = c .before .before in
-    let t = second z in
-    let w = first t in
-    let a = start w .args in
-    let p = w .wide .ensures .0 ∙ w .before .boundary-at .ensures in
-    let q = t .wide2 .ensures .0 ∙ t .before .boundary-at2 .ensures in
-    let f = z .before .before .far-end .ensures .0 in
-    let g = z .far-end2 .ensures .0 in
-    record {
-      code = second-thrice (a .stamp) (a .elements .now) (a .paths .now) (a .e .0) _ _ _ _ p q f g (c .before .if1 .left) (c .if2 .taken);
-      words = λ l. absurd (omega (arith, l));
-      kept = λ l. refl;
-      most = lit≤ tt;
-    }
+    record { code = second-thrice (ends (c .before .before)) (c .before .if1 .left) (c .if2 .taken); words = λ l. absurd (omega (arith, l)); kept = λ l. refl; most = lit≤ tt }
 
 returns-3 : tie.Need-returns-3
-returns-3 c =
-    let z = c .before .before .before in
-    let t = second z in
-    let w = first t in
-    let a = start w .args in
-    let p = w .wide .ensures .0 ∙ w .before .boundary-at .ensures in
-    let q = t .wide2 .ensures .0 ∙ t .before .boundary-at2 .ensures in
-    let f = z .before .before .far-end .ensures .0 in
-    let g = z .far-end2 .ensures .0 in
-    record {
-      code = closing (a .stamp) (a .elements .now) (a .paths .now) (a .e .0) _ _ _ _ p q f g (c .before .before .if1 .left) (c .before .if2 .left) (c .if3 .taken);
-      words = λ l. absurd (omega (arith, l));
-      kept = λ l. refl;
-      most = lit≤ tt;
-    }
+returns-3 c = record {
+  code = closing (ends (c .before .before .before)) (c .before .before .if1 .left) (c .before .if2 .left) (c .if3 .taken);
+  words = λ l. absurd (omega (arith, l));
+  kept = λ l. refl;
+  most = lit≤ tt;
+}
 
 cast-inside : tie.Need-cast-inside
 cast-inside c = search needs
@@ -175,24 +164,14 @@ add-result c = search needs
 returns-4 : tie.Need-returns-4
 returns-4 c =
     let j = c .before .before in
-    let z = j .before .before .before in
-    let t = second z in
-    let w = first t in
-    let a = start w .args in
-    let p = w .wide .ensures .0 ∙ w .before .boundary-at .ensures in
-    let q = t .wide2 .ensures .0 ∙ t .before .boundary-at2 .ensures in
-    let f = z .before .before .far-end .ensures .0 in
-    let g = z .far-end2 .ensures .0 in
-    let u = c .before .one-unless-same in
-    let v = c .one-unless-same2 in
-    let lu = u .ensures .1 in
-    let lv = v .ensures .1 in
+    let E = ends (j .before .before .before) in
+    let u = c .before .one-unless-same .ensures in
+    let v = c .one-unless-same2 .ensures in
     record {
-      code = ap₂ (λ (m n : ℕ). m + n) (u .ensures .0) (v .ensures .0)
-          ∙ counting (a .stamp) (a .elements .now) (a .paths .now) (a .e .0) _ _ _ _ p q f g (j .before .before .if1 .left) (j .before .if2 .left) (j .if3 .left);
-      words = λ l. words-are (a .stamp) (a .elements .now) (a .paths .now) (a .e .0) _ _ _ _ p q f g;
-      kept = λ l. absurd (omega (arith, l, lu, lv));
-      most = omega (arith, lu, lv);
+      code = ap₂ (λ (m n : ℕ). m + n) (u .0) (v .0) ∙ counting E (j .before .before .if1 .left) (j .before .if2 .left) (j .if3 .left);
+      words = λ l. words-are E;
+      kept = λ l. absurd (omega (arith, l, u .1, v .1));
+      most = omega (arith, u .1, v .1);
     }
 
 pub join-ends-spec : {M : Type 1} → statement M
