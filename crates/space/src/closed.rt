@@ -3,14 +3,14 @@ use crate::rows::boundary_at;
 use crate::words::ELEMENTS;
 use crate::words::wide;
 use rules::ElementId;
-ghost use Prim.Native.Nat.{_<_, _≤_};
+ghost use Prim.Native.Nat.{suc, _<_};
 ghost use mathlib.Core.Path.{_≡_};
 ghost use mathlib.Core.Bool.{cond};
 ghost use lib.Dec.{eqb};
 ghost use lib.ListN.{getD, take};
-ghost use Rattle.rules.specs.Limits.{desk};
-ghost use Rattle.space.specs.Closed.{few, metNext, meeting, isSecond, metTwice, Stamped, farEnd, inside, stampRoom, ringRaw, closedRaw};
-ghost use Rattle.space.specs.Closed.{EdgeReady, EndsMet, EndsJoined, FaceReady, BoundaryReady};
+ghost use Rattle.space.specs.Numbers.{Bounded};
+ghost use Rattle.space.specs.Closed.{few, metNext, metTwice, farEnd, inside, stampRoom, ringRaw, closedRaw};
+ghost use Rattle.space.specs.Closed.{MeetReady, CornerMet, EdgeReady, EndsMet, PathReady, JoinEndsReady, EndsJoined, FaceReady, BoundaryReady};
 
 // What a corner's word is above the stamp once it is met twice: no path ends there.
 pub const INSIDE: usize = ELEMENTS;
@@ -37,8 +37,8 @@ fn later(m: u32, stamp: u32) -> u32
 
 // A corner is met: 1 for the second time.
 fn meet(met: &mut [u32; ELEMENTS], v: usize, stamp: u32) -> usize
-    requires { ⌜ (v < desk .elements) × (stamp < stampRoom) ⌝ }
-    ensures { λ r. ⌜ (r ≡ isSecond stamp (now (met .entry)) v) × (now (met .exit) ≡ meeting stamp (now (met .entry)) v) ⌝ }
+    requires { ⌜ MeetReady v stamp ⌝ }
+    ensures { λ r. ⌜ CornerMet stamp (now (met .entry)) v r (now (met .exit)) ⌝ }
 {
     let m = met[v];
     met[v] = later(m, stamp);
@@ -73,8 +73,8 @@ fn each_twice(elements: &[u16], list: &[u16], n: usize) -> bool
 
 // The other end of the path that ends in v: v itself where it is not met yet, INSIDE where it is met twice.
 fn far_end(paths: &[u32; ELEMENTS], v: usize, stamp: u32) -> usize
-    requires { ⌜ (v < desk .elements) × Stamped stamp (now paths) ⌝ }
-    ensures { λ r. ⌜ (r ≡ farEnd stamp (now (paths .entry)) v) × (r ≤ inside) ⌝ }
+    requires { ⌜ PathReady stamp (now paths) v ⌝ }
+    ensures { λ r. ⌜ Bounded r (farEnd stamp (now (paths .entry)) v) (suc inside) ⌝ }
 {
     let m = paths[v];
     if m < stamp {
@@ -84,7 +84,7 @@ fn far_end(paths: &[u32; ELEMENTS], v: usize, stamp: u32) -> usize
 }
 
 fn one_unless_same(a: usize, b: usize) -> usize
-    ensures { λ r. ⌜ (r ≡ cond (eqb a b) 0 1) × (r ≤ 1) ⌝ }
+    ensures { λ r. ⌜ Bounded r (cond (eqb a b) 0 1) 2 ⌝ }
 {
     if a == b { 0 } else { 1 }
 }
@@ -92,7 +92,7 @@ fn one_unless_same(a: usize, b: usize) -> usize
 // An edge joins the two paths that end in its ends: how many of these were met before. CLOSES where they are the ends of one path, THRICE where one is
 // met for the third time; then nothing is written.
 pub fn join_ends(elements: &[u16], e: ElementId, paths: &mut [u32; ELEMENTS], stamp: u32) -> usize
-    requires { ⌜ EdgeReady (now elements) (e .0) stamp × Stamped stamp (now paths) ⌝ }
+    requires { ⌜ JoinEndsReady (now elements) (e .0) stamp (now paths) ⌝ }
     ensures { λ r. ⌜ EndsJoined stamp (now (elements .entry)) (now (paths .entry)) (e .0) r (now (paths .exit)) ⌝ }
 {
     let a = wide(boundary_at(elements, e, 0));

@@ -34,7 +34,7 @@ read-at c = c .before .before
 -- the facts there
 abbrev edge : (c : tie.After-wide Inv-loop μ-loop) → let f = c .before .before in let a = start (f .before) .args in
     TakenUp (a .elements .now) (a .list .now) (a .n) (f .before .loop .k) (c .wide .result)
-edge c = let f = c .before .before in record { ready = start (f .before) .pre; more = f .loop-test .taken; read = c .wide .ensures .0 }
+edge c = let f = c .before .before in record { ready = start (f .before) .pre; more = f .loop-test .taken; read = c .wide .ensures .value }
 
 loop-holds : tie.Need-loop-holds Inv-loop μ-loop
 loop-holds c =

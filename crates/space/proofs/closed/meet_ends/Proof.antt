@@ -66,7 +66,7 @@ add-result c =
     let r = met-first c in
     let a = start (first r) .args in
     let one = c .before .before .meet in
-    let few = both-few (a .stamp) (a .met .now) (one .last .0) (first r .wide .result) (r .wide2 .result) (one .ensures .0) (c .meet2 .ensures .0) in
+    let few = both-few (a .stamp) (a .met .now) (one .last .0) (first r .wide .result) (r .wide2 .result) (one .ensures .count) (c .meet2 .ensures .count) in
     omega arith
 
 returns : tie.Need-returns
@@ -74,14 +74,14 @@ returns c =
     let r = met-first c in
     let w = first r in
     let a = start w .args in
-    let p = w .wide .ensures .0 ∙ w .before .boundary-at .ensures in
-    let q = r .wide2 .ensures .0 ∙ r .before .boundary-at2 .ensures in
+    let p = w .wide .ensures .value ∙ w .before .boundary-at .ensures in
+    let q = r .wide2 .ensures .value ∙ r .before .boundary-at2 .ensures in
     let one = c .before .before .meet in
     let two = c .meet2 in
     record {
-      count = ap₂ (λ (x y : ℕ). x + y) (one .ensures .0) (two .ensures .0) ∙ both-count (a .stamp) (a .elements .now) (a .met .now) (one .last .0) (a .e .0) _ _ p q (one .ensures .1);
-      words = two .ensures .1 ∙ both-met (a .stamp) (a .elements .now) (a .met .now) (one .last .0) (a .e .0) _ _ p q (one .ensures .1);
-      most = both-few (a .stamp) (a .met .now) (one .last .0) (w .wide .result) (r .wide2 .result) (one .ensures .0) (two .ensures .0);
+      count = ap₂ (λ (x y : ℕ). x + y) (one .ensures .count) (two .ensures .count) ∙ both-count (a .stamp) (a .elements .now) (a .met .now) (one .last .0) (a .e .0) _ _ p q (one .ensures .words);
+      words = two .ensures .words ∙ both-met (a .stamp) (a .elements .now) (a .met .now) (one .last .0) (a .e .0) _ _ p q (one .ensures .words);
+      most = both-few (a .stamp) (a .met .now) (one .last .0) (w .wide .result) (r .wide2 .result) (one .ensures .count) (two .ensures .count);
     }
 
 pub meet-ends-spec : {M : Type 1} → statement M
