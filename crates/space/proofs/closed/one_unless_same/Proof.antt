@@ -1,5 +1,4 @@
 -- One case for each arm of the test.
-use Prim.Native.Nat.{_≤_}
 use mathlib.Core.Bool.{Bool, cond}
 use mathlib.Core.Path.{ap, sym}
 use lib.Dec.{lit≤}
