@@ -139,6 +139,11 @@ joined s es paths e = joinWords s paths (firstEnd es e) (secondEnd es e) (farEnd
 abbrev pub stampRoom : ℕ
 stampRoom = 1000000
 
+-- corner v is met: 1 where it is for the second time, and its word
+pub record CornerMet (s : ℕ) (met : List ℕ) (v reply : ℕ) (met′ : List ℕ) : Type 0 where
+  pub count : reply ≡ isSecond s met v
+  pub words : met′ ≡ meeting s met v
+
 -- the ends of edge e are taken up under a stamp
 pub record EdgeReady (es : List ℕ) (e s : ℕ) : Type 0 where
   pub elements : length es ≡ elementSlice
