@@ -8,6 +8,7 @@ ghost use mathlib.Core.Path.{_≡_};
 ghost use mathlib.Core.Bool.{cond};
 ghost use lib.Dec.{eqb};
 ghost use lib.ListN.{getD, take};
+ghost use Rattle.rules.specs.Limits.{desk};
 ghost use Rattle.space.specs.Numbers.{Bounded};
 ghost use Rattle.space.specs.Closed.{few, metNext, metTwice, farEnd, inside, stampRoom, ringRaw, closedRaw};
 ghost use Rattle.space.specs.Closed.{MeetReady, CornerMet, EdgeReady, EndsMet, PathReady, JoinEndsReady, EndsJoined, FaceReady, BoundaryReady};
@@ -57,16 +58,42 @@ pub fn meet_ends(elements: &[u16], e: ElementId, met: &mut [u32; ELEMENTS], stam
     first + second
 }
 
+// A corner is met, where one face alone is tested: a byte for each corner is cleared faster than a word. 0 is not yet, 1 once, 2 oftener; the answer as above.
+fn meet_in_face(met: &mut [u8; ELEMENTS], v: usize) -> usize
+    requires { ⌜ v < desk .elements ⌝ }
+    ensures { λ r. ⌜ CornerMet 1 (now (met .entry)) v r (now (met .exit)) ⌝ }
+{
+    let m = met[v];
+    if m == 0 {
+        met[v] = 1;
+        return 0;
+    }
+    met[v] = 2;
+    if m == 1 { 1 } else { 0 }
+}
+
+// Both ends of an edge are met there.
+fn meet_ends_in_face(elements: &[u16], e: ElementId, met: &mut [u8; ELEMENTS]) -> usize
+    requires { ⌜ EdgeReady (now elements) (e .0) 1 ⌝ }
+    ensures { λ r. ⌜ EndsMet 1 (now (elements .entry)) (now (met .entry)) (e .0) r (now (met .exit)) ⌝ }
+{
+    let a = wide(boundary_at(elements, e, 0));
+    let b = wide(boundary_at(elements, e, 1));
+    let first = meet_in_face(met, a);
+    let second = meet_in_face(met, b);
+    first + second
+}
+
 // Whether each corner met lies on exactly two of the edges: n edges have 2n ends, so it does exactly when n of them are met for the second time.
 fn each_twice(elements: &[u16], list: &[u16], n: usize) -> bool
     requires { ⌜ FaceReady (now elements) (now list) n ⌝ }
     ensures { λ r. ⌜ r ≡ metTwice (now (elements .entry)) (take n (now (list .entry))) ⌝ }
 {
-    let mut met = [0u32; ELEMENTS];
+    let mut met = [0u8; ELEMENTS];
     let mut twice = 0usize;
     for k in 0..n {
         let e = ElementId(wide(list[k]));
-        twice = twice + meet_ends(elements, e, &mut met, 1);
+        twice = twice + meet_ends_in_face(elements, e, &mut met);
     }
     twice == n
 }
