@@ -12,7 +12,8 @@ use Rattle.rules.specs.Cut.{addElement, addPolytope, addVertex, planeMat
 use Rattle.rules.specs.Questions.{reaches, subElements, withRank, vertexSet, commonWithRank, greatestFrom, greatestCommon, edgesInOrder, primordialFacet}
 use Rattle.rules.specs.Walk.{walk}
 use Rattle.rules.specs.Replies.{isSoundReply, cubeReply, dividerFits, cutReply, subElementsReply, withRankReply, vertexSetReply, greatestCommonReply, edgesInOrderReply, primordialFacetReply}
-use Rattle.rules.specs.Session.{decimal, blank, turn, cutlist}
+use Rattle.rules.specs.Bytes.{decimal}
+use Rattle.rules.specs.Session.{blank, turn, cutlist}
 use Rattle.rules.specs.Marked.{Shown}
 use Rattle.rules.specs.Examples.{smallQ, zigzag, pinched, square, triangles, besideTriangle, tetrahedra, doubled, triangle, line, bent, soundness, choices, refusals}
 use Rattle.rules.specs.Sessions.{sessions}

@@ -2,6 +2,7 @@
 -- A short definition that only names an expression is `abbrev`; one that a proof opens by name is `unfoldable`.
 pub mod Limits
 pub mod Lists
+pub mod Bytes
 pub mod Floats
 pub mod Table
 pub mod Walk

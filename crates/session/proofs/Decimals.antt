@@ -7,7 +7,7 @@ use native.Mathlib.Omega.{arith}
 use lib.Dec.{leb, eqb}
 use lib.ListN.{length, length-append}
 use Rattle.rules.specs.Lists.{if_then_else_}
-use Rattle.rules.specs.Session.{lowDigits, backwards, decimal}
+use Rattle.rules.specs.Bytes.{lowDigits, backwards, decimal}
 use Rattle.rules.proofs.Laws.{le-test, not-le, test-eq, not-eq, unlike-eq}
 
 -- ---- more digits of fuel than the number's size change nothing

@@ -13,7 +13,8 @@ use Rattle.rules.specs.Lists.{if_then_else_, alike, pad}
 use Rattle.rules.specs.Floats.{plusZero}
 use Rattle.rules.specs.Memory.{Memory}
 use Rattle.rules.specs.Replies.{cubeReply, cutReply}
-use Rattle.rules.specs.Session.{littleEndian, numberAt, floatAt, floatsAt, isCube, isCut, cutLength, cubeTurn, cutTurn, dividerAt, bad, turn}
+use Rattle.rules.specs.Bytes.{littleEndian, numberAt, floatAt, floatsAt}
+use Rattle.rules.specs.Session.{isCube, isCut, cutLength, cubeTurn, cutTurn, dividerAt, bad, turn}
 use Rattle.rules.proofs.Laws.{le-test, test-le, not-le, test-above}
 
 drop-front : {A : Type 0} (a n : ℕ) (xs : List A) → drop a (take (a + n) xs) ≡ take n (drop a xs)

@@ -5,7 +5,7 @@ use mathlib.Core.Path.{_≡_, refl, sym, ap, _∙_}
 use native.Mathlib.Omega.{arith}
 use lib.ListN.{length, getD, take}
 use lib.Seq.{drop-cons}
-use Rattle.rules.specs.Session.{littleEndian, numberAt}
+use Rattle.rules.specs.Bytes.{littleEndian, numberAt}
 
 module _ (bs : List ℕ) where
   -- the byte at p, and the number from q, the next place, on

@@ -6,7 +6,8 @@ use native.Mathlib.Omega.{arith}
 use lib.ListN.{length, set, getD, drop, length-append, drop-of-length-le}
 use lib.Seq.{sets, length-sets, drop-cons}
 use Rattle.rules.specs.Promises.{OneBelow}
-use Rattle.rules.specs.Session.{decimal, spaced, place}
+use Rattle.rules.specs.Bytes.{decimal}
+use Rattle.rules.specs.Session.{spaced, place}
 use Rattle.rules.specs.declared.ElementOrNone.{ElementOrNone}
 use Rattle.rules.specs.declared.ElementOrNone.the-variants.{None, Some}
 use Rattle.session.proofs.Decimals.{five-digits, twenty-digits}

@@ -13,7 +13,8 @@ use Rattle.rules.specs.Lists.{if_then_else_}
 use Rattle.rules.specs.Memory.{Memory, encode, decode, rightSize, soundMemory}
 use Rattle.rules.specs.Cube.{cube, radiusFits}
 use Rattle.rules.specs.Replies.{cubeReply, cutReply}
-use Rattle.rules.specs.Session.{numberAt, floatAt, text, cubeLine, refusedLine, badLine, cutText, cubeAsked, cutAsked, dividerAt, cubeTurn, cutTurn, isCube, isCut, cutLength, turn}
+use Rattle.rules.specs.Bytes.{numberAt, floatAt}
+use Rattle.rules.specs.Session.{text, cubeLine, refusedLine, badLine, cutText, cubeAsked, cutAsked, dividerAt, cubeTurn, cutTurn, isCube, isCut, cutLength, turn}
 use Rattle.rules.specs.declared.Hyperplane.{Hyperplane}
 use Rattle.rules.specs.declared.CutReply.{CutReply}
 use Rattle.rules.specs.declared.CutReply.the-variants.{Refused, Answered}

@@ -3,7 +3,7 @@ use hypermath::patterns::float_of;
 ghost use Prim.Native.Nat.{_+_, _<_, _≤_};
 ghost use mathlib.Core.Path.{_≡_};
 ghost use lib.ListN.{length};
-ghost use Rattle.rules.specs.Session.{numberAt, floatAt};
+ghost use Rattle.rules.specs.Bytes.{numberAt, floatAt};
 
 fn wide(byte: u8) -> u64
     ensures { λ r. ⌜ (r ≡ byte) × (r < 0x100) ⌝ }

@@ -20,7 +20,8 @@ ghost use Rattle.rules.specs.Floats.{plusZero};
 ghost use Rattle.rules.specs.Held.{memoryOf};
 ghost use Rattle.rules.specs.Promises.{NamesBelow};
 ghost use Rattle.rules.specs.Replies.{isKept};
-ghost use Rattle.rules.specs.Session.{floatAt, text, isCube, isCut, cutLength, cubeAsked, dividerAt, cutAsked, cubeTurn, cutText, cutTurn};
+ghost use Rattle.rules.specs.Bytes.{floatAt};
+ghost use Rattle.rules.specs.Session.{text, isCube, isCut, cutLength, cubeAsked, dividerAt, cutAsked, cubeTurn, cutText, cutTurn};
 ghost use Rattle.session.specs.Written.{Put, lineRoom, replyOf, LineFits};
 
 // Every mark's first byte is 43.

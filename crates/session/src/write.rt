@@ -6,7 +6,8 @@ ghost use mathlib.Core.Path.{_≡_};
 ghost use mathlib.Core.List.{[], _∷_, _++_};
 ghost use lib.ListN.{length, drop};
 ghost use Rattle.rules.specs.Promises.{OneBelow};
-ghost use Rattle.rules.specs.Session.{decimal, spaced, place};
+ghost use Rattle.rules.specs.Bytes.{decimal};
+ghost use Rattle.rules.specs.Session.{spaced, place};
 ghost use Rattle.session.specs.Written.{Put};
 
 pub fn word(bytes: &[u8], room: &mut [u8], at: usize) -> usize
