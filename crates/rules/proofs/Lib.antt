@@ -22,6 +22,7 @@ pub mod Extends
 pub mod FaceEdges
 pub mod Fewer
 pub mod FileRecords
+pub mod FileReplies
 pub mod Fine
 pub mod Good
 pub mod GoodAppends
