@@ -19,6 +19,7 @@ pub mod Session
 pub mod Marked
 pub mod Examples
 pub mod Sessions
+pub mod FileExamples
 pub mod Calls
 pub mod Rooms
 pub mod Promises
