@@ -22,15 +22,11 @@ use Rattle.rules.proofs.ByteLaws.{Front, front, fronts, got-value, got-
 use Rattle.rules.proofs.Corners.{corner-named}
 use Rattle.rules.proofs.FileRecords.{noNans, write-point, read-point, planeFloats, write-plane, read-plane, smallElement, write-element, read-element}
 use Rattle.rules.proofs.Good.{Good, sound-good, Whole, whole-at}
-use Rattle.rules.proofs.Growing.{all-get}
+use Rattle.rules.proofs.Growing.{all-get, all-map}
 use Rattle.rules.proofs.Laws.{and-left, and-right, and-true, le-test, test-le}
 use Rattle.rules.proofs.RoundTrip.{element-fits}
 
 -- ---- tests of a whole list
-
-pub all-map : {A : Type 0} (p q : A → Bool) → ((x : A) → p x ≡ true → q x ≡ true) → (xs : List A) → all p xs ≡ true → all q xs ≡ true
-all-map p q f [] h = refl
-all-map p q f (x ∷ xs) h = and-true (q x) (all q xs) (f x (and-left (p x) (all p xs) h)) (all-map p q f xs (and-right (p x) (all p xs) h))
 
 pub all-both : {A : Type 0} (p q r : A → Bool) → ((x : A) → p x ≡ true → q x ≡ true → r x ≡ true) → (xs : List A) → all p xs ≡ true → all q xs ≡ true → all r xs ≡ true
 all-both p q r f [] h k = refl
