@@ -56,13 +56,13 @@ module _ (L : Limits) (U : Readable L) where
       suc-ne n q = let z : ⊥ = omega (arith, q) in z
 
   -- a point and a hyperplane need only a coordinate for each dimension
-  axes-long : (d : ℕ) → d ≤ L .dimensions → (p : List Float) → eqb (length p) d ≡ true → length (pad plusZero (L .dimensions) p) ≡ L .dimensions
+  pub axes-long : (d : ℕ) → d ≤ L .dimensions → (p : List Float) → eqb (length p) d ≡ true → length (pad plusZero (L .dimensions) p) ≡ L .dimensions
   axes-long d l p h = length-pad plusZero (L .dimensions) p (le-trans (le-of-eq (eq-test (length p) d h)) l)
 
   axes-back : (d : ℕ) (p : List Float) → eqb (length p) d ≡ true → take d (pad plusZero (L .dimensions) p) ≡ p
   axes-back d p h = take-at p (replicate (L .dimensions - length p) plusZero) d (eq-test (length p) d h)
 
-  row-long : (d : ℕ) → d ≤ L .dimensions → (h : Plane) → eqb (length (h .normal)) d ≡ true → length (planeRow L h) ≡ planeWidth L
+  pub row-long : (d : ℕ) → d ≤ L .dimensions → (h : Plane) → eqb (length (h .normal)) d ≡ true → length (planeRow L h) ≡ planeWidth L
   unfolding planeRow
   row-long d l h k =
       let e = length-append (pad plusZero (L .dimensions) (h .normal)) (h .distance ∷ []) in
@@ -93,6 +93,9 @@ module _ (L : Limits) (U : Readable L) where
 
   pub plane-long : (d : ℕ) → d ≤ L .dimensions → (h : Plane) → soundPlane d h ≡ true → length (planeRow L h) ≡ planeWidth L
   plane-long d l h k = row-long d l h (plane-axes d h k)
+
+  pub plane-read : (d : ℕ) → d ≤ L .dimensions → (h : Plane) → soundPlane d h ≡ true → readPlane L d (planeRow L h) ≡ h
+  plane-read d l h k = row-read d l h (plane-axes d h k)
 
   -- ---- a whole table
 
