@@ -41,18 +41,21 @@ module _ (L : Limits) (U : Readable L) where
       go true g = absurd (false≢true g)
       go false g = refl
 
-  pub element-back : (e : Element) → fitting L e ≡ true → readElement (pad 0 (elementWidth L) (elementRow e)) ≡ e
+  -- whatever follows the row
+  pub row-back : (e : Element) (rest : List ℕ) → fitting L e ≡ true → readElement (elementRow e ++ rest) ≡ e
   unfolding elementRow readElement
-  element-back (corner v) k = refl
-  element-back (polytope zero b h m) k = absurd (false≢true k)
-  element-back (polytope (suc r) b h m) k =
-      ap (λ (c : Bool). if c then corner (getD (pad 0 (elementWidth L) (elementRow (polytope (suc r) b h m))) 4 0)
-      else polytope (suc r) (take (length b) (b ++ replicate (elementWidth L - suc (suc (suc (suc (length b))))) 0)) (planeNamed (planeNumber h)) (eqb (cond m 1 0) 1)) (not-eq (suc r) 0 (λ q. suc-ne r q))
-      ∙ ap₂ (λ (c : List ℕ) (x : Option ℕ). polytope (suc r) c x (eqb (cond m 1 0) 1)) (take-append-seam b _) (plane-back h (and-right (leb 1 (suc r) && leb (length b) (L .boundary)) _ k))
+  row-back (corner v) rest k = refl
+  row-back (polytope zero b h m) rest k = absurd (false≢true k)
+  row-back (polytope (suc r) b h m) rest k =
+      ap (λ (c : Bool). if c then corner (getD (b ++ rest) 0 0) else polytope (suc r) (take (length b) (b ++ rest)) (planeNamed (planeNumber h)) (eqb (cond m 1 0) 1)) (not-eq (suc r) 0 (λ q. suc-ne r q))
+      ∙ ap₂ (λ (c : List ℕ) (x : Option ℕ). polytope (suc r) c x (eqb (cond m 1 0) 1)) (take-append-seam b rest) (plane-back h (and-right (leb 1 (suc r) && leb (length b) (L .boundary)) _ k))
       ∙ ap (polytope (suc r) b h) (mark-back m)
     where
       suc-ne : (n : ℕ) → suc n ≡ zero → ⊥
       suc-ne n q = let z : ⊥ = omega (arith, q) in z
+
+  pub element-back : (e : Element) → fitting L e ≡ true → readElement (pad 0 (elementWidth L) (elementRow e)) ≡ e
+  element-back e k = row-back e (replicate (elementWidth L - length (elementRow e)) 0) k
 
   pub point-long : (d : ℕ) → d ≤ L .dimensions → (p : List Float) → soundPoint d p ≡ true → length (pad plusZero (L .dimensions) p) ≡ L .dimensions
   unfolding soundPoint
@@ -62,7 +65,7 @@ module _ (L : Limits) (U : Readable L) where
   unfolding soundPoint
   point-back d p h = take-at p (replicate (L .dimensions - length p) plusZero) d (eq-test (length p) d (and-left (eqb (length p) d) (all (within farthest) p) h))
 
-  normal-long : (d : ℕ) (h : Plane) → soundPlane d h ≡ true → length (h .normal) ≡ d
+  pub normal-long : (d : ℕ) (h : Plane) → soundPlane d h ≡ true → length (h .normal) ≡ d
   unfolding soundPlane
   normal-long d h k = eq-test (length (h .normal)) d (and-left (eqb (length (h .normal)) d) (unit (h .normal)) (and-left (eqb (length (h .normal)) d && unit (h .normal)) _ k))
 
