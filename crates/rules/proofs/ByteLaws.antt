@@ -1,12 +1,12 @@
 -- Numbers and floats as bytes, there and back: what was written is read, and what is read of bytes was written so.
 -- A float needs that its format holds it, one way, and that it is no NaN, the other; the kit's laws of bit patterns do the rest.
-use Prim.Native.Nat.{ℕ, zero, suc, _+_, _*_, _/_, _%_, _^_, _≤_, _<_, zero-le}
-use mathlib.Core.Bool.{Bool, true, false, not, _&&_, false≢true}
+use Prim.Native.Nat.{ℕ, zero, suc, _+_, _*_, _/_, _%_, _^_, _<_}
+use mathlib.Core.Bool.{Bool, true, false, false≢true}
 use mathlib.Core.List.{List, [], _∷_, _++_, append-assoc, map}
 use mathlib.Core.Path.{_≡_, refl, sym, ap, ap₂, subst, _∙_}
-use native.Mathlib.Nat.{mod-add-div, div-lt-iff-lt-mul, zero-lt-suc, pow-suc, add-mul-mod-self-left, add-mul-div-left, mod-eq-of-lt, mod-lt, suc-ne-zero}
+use native.Mathlib.Nat.{mod-add-div, div-lt-iff-lt-mul, zero-lt-suc, pow-suc, add-mul-mod-self-left, mod-eq-of-lt}
 use native.Mathlib.Omega.{arith}
-use lib.Dec.{T, leb, ltb, eqb}
+use lib.Dec.{leb, ltb, eqb}
 use lib.ListN.{length, take, drop, length-append, take-append-drop}
 use lib.Seq.{take-at, drop-at, length-take-le}
 use lib.Ieee.{Float, binary64, ofBits, toBits, fits, isNan, top}
@@ -14,7 +14,7 @@ use lib.Ieee.Bits.{ofBits-toBits, toBits-lt, toBits-ofBits}
 use Rattle.rules.specs.Lists.{if_then_else_, all, joined, alike}
 use Rattle.rules.specs.Bytes.{littleEndian, areBytes, bytesOf, floatByte8}
 use Rattle.rules.specs.Files.{Reading, broken, got, andThen, afterMark, many, number, float}
-use Rattle.rules.proofs.Laws.{and-left, and-right, and-true, le-test, test-le, truly, falsely, if-true, if-false}
+use Rattle.rules.proofs.Laws.{and-left, and-right, and-true, le-test, test-le, truly, falsely, if-true}
 use Rattle.rules.proofs.Selves.{alike-eq, eq-alike}
 
 -- ---- lists of bytes

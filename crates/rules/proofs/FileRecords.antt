@@ -1,26 +1,24 @@
 -- The three kinds of records, there and back: a record that was written is read, and a record that is read was written so.
-use Prim.Native.Nat.{ℕ, zero, suc, _+_, _≤_, _<_}
-use mathlib.Core.Bool.{Bool, true, false, not, _&&_, cond, false≢true, true≢false}
-use mathlib.Core.List.{List, [], _∷_, _++_, map, append-assoc}
-use mathlib.Core.Option.{Option, none, some}
-use mathlib.Core.Path.{_≡_, refl, sym, ap, ap₂, subst, _∙_}
-use native.Mathlib.Nat.{not-suc-le-zero, le-of-suc-le-suc, le-trans}
+use Prim.Native.Nat.{ℕ, suc, _≤_, _<_}
+use mathlib.Core.Bool.{Bool, true, false, not, _&&_, cond, true≢false}
+use mathlib.Core.List.{List, [], _∷_, _++_, append-assoc, append-nil}
+use mathlib.Core.Option.{none, some}
+use mathlib.Core.Path.{_≡_, refl, sym, ap, subst, _∙_}
 use native.Mathlib.Omega.{arith}
 use lib.Dec.{leb, ltb, eqb}
-use lib.ListN.{length, getD, take, drop, length-append}
-use lib.Seq.{take-length, take-all}
+use lib.ListN.{length, getD, take, drop}
+use lib.Seq.{take-all}
 use lib.Ieee.{Float, binary64, fits, isNan}
 use Rattle.rules.specs.Limits.{Limits, Readable, noPlane}
-use Rattle.rules.specs.Lists.{if_then_else_, all, joined}
+use Rattle.rules.specs.Lists.{if_then_else_, all}
 use Rattle.rules.specs.Bytes.{areBytes, bytesOf, numberBytes, floatByte8, floatBytes}
 use Rattle.rules.specs.Table.{Element, corner, polytope, Plane}
-use Rattle.rules.specs.Sound.{namesNone}
 use Rattle.rules.specs.Memory.{planeNumber, planeNamed, elementRow, readElement}
 use Rattle.rules.specs.Held.{fitting}
-use Rattle.rules.specs.Files.{Reading, broken, got, andThen, afterMark, many, number, float, pointRecord, planeRecord, elementRecord, pointIn, planeAfter, planeIn, elementFits, elementAfter, elementIn, areFloats}
-use Rattle.rules.proofs.ByteLaws.{Front, front, fronts, got-value, got-rest, before, and-then, chosen, write-number, read-number, write-float, read-float, write-mark, read-mark, write-many, read-many, many-long}
-use Rattle.rules.proofs.Laws.{and-left, and-right, and-true, le-test, test-le, eq-test, test-eq, not-true, not-eq, if-true, if-false}
-use Rattle.rules.proofs.RoundTrip.{plane-back}
+use Rattle.rules.specs.Files.{broken, got, andThen, many, number, float, pointRecord, planeRecord, elementRecord, pointIn, planeAfter, planeIn, elementFits, elementAfter, elementIn, areFloats}
+use Rattle.rules.proofs.ByteLaws.{Front, fronts, got-value, got-rest, before, and-then, chosen, write-number, read-number, write-float, read-float, write-mark, read-mark, write-many, read-many, many-long}
+use Rattle.rules.proofs.Laws.{and-left, and-right, and-true, le-test, eq-test, test-eq, not-true, not-eq, if-true, if-false}
+use Rattle.rules.proofs.RoundTrip.{row-back}
 
 -- ---- floats one after another
 
@@ -125,19 +123,6 @@ smallElement (corner v) = ltb v 65536
 smallElement (polytope r b h m) = ltb r 256 && (ltb (planeNumber h) 65536 && (ltb (length b) 65536 && all (λ x. ltb x 65536) b))
 
 module _ (L : Limits) (U : Readable L) where
-  row-back : (e : Element) → fitting L e ≡ true → readElement (elementRow e) ≡ e
-  unfolding elementRow readElement
-  row-back (corner v) k = refl
-  row-back (polytope zero b h m) k = absurd (false≢true k)
-  row-back (polytope (suc r) b h m) k =
-      if-false (eqb (suc r) 0) _ _ (not-eq (suc r) 0 (λ q. (let z : ⊥ = omega (arith, q) in z)))
-      ∙ ap₂ (λ (c : List ℕ) (x : Option ℕ). polytope (suc r) c x (eqb (cond m 1 0) 1)) (take-length b) (plane-back L U h (and-right (leb 1 (suc r) && leb (length b) (L .boundary)) _ k))
-      ∙ ap (polytope (suc r) b h) (mark m)
-    where
-      mark : (c : Bool) → eqb (cond c 1 0) 1 ≡ c
-      mark true = refl
-      mark false = refl
-
   -- the row's words, and then what is made of them
   write-row : (r m h : ℕ) (b rest : List ℕ) → r < 256 → m < 256 → h < 65536 → length b < 65536 → all (λ x. ltb x 65536) b ≡ true → elementFits r m h (length b) ≡ true
       → elementAfter (bytesOf 1 r ++ (bytesOf 1 m ++ (bytesOf 2 h ++ (bytesOf 2 (length b) ++ (numberBytes 2 b ++ rest))))) ≡ got (readElement (r ∷ m ∷ h ∷ length b ∷ b)) rest
@@ -177,7 +162,7 @@ module _ (L : Limits) (U : Readable L) where
       let f = and-left (fitting L e) (smallElement e) k in
       write-mark 0x45 0x4C elementAfter ((numberBytes 1 (take 2 (elementRow e)) ++ numberBytes 2 (drop 2 (elementRow e))) ++ rest)
       ∙ row-there e rest f (and-right (fitting L e) (smallElement e) k)
-      ∙ ap (λ (x : Element). got x rest) (row-back e f)
+      ∙ ap (λ (x : Element). got x rest) (ap readElement (sym (append-nil (elementRow e))) ∙ row-back L U e [] f)
 
 -- the parts of an element's record, put together
 element-parts : (bs b₀ b₁ b₂ b₃ b₄ b₅ rest : List ℕ) (r m h c : ℕ) (b : List ℕ) (e : Element) → Front (0x45 ∷ 0x4C ∷ []) bs b₀

@@ -1,31 +1,31 @@
 -- Saving and opening at their replies: each reply is a chain of tests over `layout`, so each promise goes by cases on them and cites the laws of a table's one file.
-use Prim.Native.Nat.{ℕ, zero, suc, _≤_, _<_}
+use Prim.Native.Nat.{ℕ, _<_}
 use mathlib.Core.Bool.{Bool, true, false, not, _&&_, false≢true}
-use mathlib.Core.List.{List, [], _∷_, _++_, map, append-nil}
+use mathlib.Core.List.{List, [], _∷_, _++_, append-nil}
 use mathlib.Core.Option.{some}
 use mathlib.Core.Path.{_≡_, refl, sym, ap, ap₂, subst, _∙_}
 use native.Mathlib.Nat.{lt-irrefl, suc-ne-zero}
 use native.Mathlib.Omega.{arith}
-use lib.Dec.{leb, eqb, ltb}
+use lib.Dec.{leb, eqb}
 use lib.ListN.{length, getD, take, drop}
 use lib.Seq.{take-at}
-use lib.Ieee.{Float, binary64, fits}
-use Rattle.rules.specs.Limits.{Limits, Readable, Fileable, Roomier}
-use Rattle.rules.specs.Lists.{if_then_else_, all, allFrom, distinct, rows, member}
+use lib.Ieee.{binary64, fits}
+use Rattle.rules.specs.Limits.{Limits, Readable, Fileable}
+use Rattle.rules.specs.Lists.{if_then_else_, all, allFrom, distinct, member}
 use Rattle.rules.specs.Bytes.{areBytes}
 use Rattle.rules.specs.Floats.{plusZero}
-use Rattle.rules.specs.Table.{Plane, Table, sameElement, primordials}
+use Rattle.rules.specs.Table.{Table, sameElement, primordials}
 use Rattle.rules.specs.Sound.{sound, roomFits, soundPoint, soundPlane, cornersInOrder, soundElement}
 use Rattle.rules.specs.Memory.{Memory, planeWidth, readPlane, encode, decode, rightSize, soundMemory}
 use Rattle.rules.specs.Questions.{Asked, no-answer, answer}
-use Rattle.rules.specs.Replies.{asked, listed, listSize}
+use Rattle.rules.specs.Replies.{listed, listSize}
 use Rattle.rules.specs.Files.{Reading, broken, got, fileOf, layout, judged, tableIn, saveReply, opened, openReply, areFloats, tableFloats}
 use Rattle.rules.specs.Saving.{RefusedOpenLeaves, OpenNumbers, OpenIsSound, SavedOpens, OpenedSaves, OpensRoomier, LayoutAlone}
 use Rattle.rules.specs.declared.ListReply.{ListReply}
 use Rattle.rules.specs.declared.ListReply.the-variants.{Refused as ListRefused, Listed}
-use Rattle.rules.proofs.ByteLaws.{Front}
+use Rattle.rules.proofs.Each.{all-take, all-getD, all-rows}
 use Rattle.rules.proofs.Good.{sound-good}
-use Rattle.rules.proofs.Laws.{and-left, and-right, and-true, or-right, test-le, if-true, if-false, none-some}
+use Rattle.rules.proofs.Laws.{and-true, or-right, test-le, if-true, if-false, none-some}
 use Rattle.rules.proofs.OneCall.{sound-table}
 use Rattle.rules.proofs.OneFile.{write-file, sound-no-nan, read-file}
 use Rattle.rules.proofs.Refusals.{listedBy}
@@ -215,27 +215,6 @@ saved L m room n e = go (soundMemory L m) refl
     go false s = none-some n (subst (λ (x : ListReply × List ℕ). listSize (x .0) ≡ some n) (refused-save s) e)
 
 -- ---- the floats of a memory are those of its table
-
-module _ {A : Type 0} (p : A → Bool) where
-  all-take : (n : ℕ) (xs : List A) → all p xs ≡ true → all p (take n xs) ≡ true
-  all-take zero xs h = refl
-  all-take (suc n) [] h = refl
-  all-take (suc n) (x ∷ xs) h = and-true (p x) (all p (take n xs)) (and-left (p x) (all p xs) h) (all-take n xs (and-right (p x) (all p xs) h))
-
-  all-drop : (n : ℕ) (xs : List A) → all p xs ≡ true → all p (drop n xs) ≡ true
-  all-drop zero xs h = h
-  all-drop (suc n) [] h = refl
-  all-drop (suc n) (x ∷ xs) h = all-drop n xs (and-right (p x) (all p xs) h)
-
-  all-getD : (xs : List A) (i : ℕ) (d : A) → p d ≡ true → all p xs ≡ true → p (getD xs i d) ≡ true
-  all-getD [] i d k h = k
-  all-getD (x ∷ xs) zero d k h = and-left (p x) (all p xs) h
-  all-getD (x ∷ xs) (suc i) d k h = all-getD xs i d k (and-right (p x) (all p xs) h)
-
-  -- what holds of every entry holds of every row, and of what is read of it
-  all-rows : {B : Type 0} (f : List A → B) (q : B → Bool) → ((r : List A) → all p r ≡ true → q (f r) ≡ true) → (n w : ℕ) (xs : List A) → all p xs ≡ true → all q (map f (rows n w xs)) ≡ true
-  all-rows f q g zero w xs h = refl
-  all-rows f q g (suc n) w xs h = and-true (q (f (take w xs))) _ (g (take w xs) (all-take w xs h)) (all-rows f q g n w (drop w xs) (all-drop w xs h))
 
 pub decoded-floats : (L : Limits) (m : Memory) → areFloats (m .points) ≡ true → areFloats (m .planes) ≡ true → tableFloats (decode L m) ≡ true
 unfolding decode readPlane

@@ -75,10 +75,6 @@ module _ {A : Type 0} where
       let e : suc n + i ≡ n + suc i = omega arith in
       subst (λ (m : ℕ). q m (getD xs i d) ≡ true) e (all-at q (suc n) xs i d (le-of-suc-le-suc l) (and-right (q n x) (allFrom (suc n) q xs) h))
 
-  pub all-map : (p q : A → Bool) → ((x : A) → p x ≡ true → q x ≡ true) → (xs : List A) → all p xs ≡ true → all q xs ≡ true
-  all-map p q f [] h = refl
-  all-map p q f (x ∷ xs) h = and-true (q x) (all q xs) (f x (and-left (p x) (all p xs) h)) (all-map p q f xs (and-right (p x) (all p xs) h))
-
   pub all-get : (p : A → Bool) (xs : List A) (i : ℕ) (d : A) → i < length xs → all p xs ≡ true → p (getD xs i d) ≡ true
   all-get p [] i d l h = absurd (not-suc-le-zero l)
   all-get p (x ∷ xs) zero d l h = and-left (p x) (all p xs) h

@@ -18,6 +18,7 @@ pub mod CubeElements
 pub mod CubeFaces
 pub mod CubeSound
 pub mod CubeSquares
+pub mod Each
 pub mod Extends
 pub mod FaceEdges
 pub mod Fewer

@@ -1,63 +1,45 @@
 -- A table has one file: what was written of a sound table is read back, and a file that is read as a sound table is the one that is written of it.
-use Prim.Native.Nat.{ℕ, zero, suc, _≤_, _<_}
+use Prim.Native.Nat.{ℕ, suc, _≤_, _<_}
 use mathlib.Core.Bool.{Bool, true, false, not, _&&_, false≢true}
 use mathlib.Core.List.{List, [], _∷_, _++_, map, append-nil}
 use mathlib.Core.Option.{Option, none, some}
-use mathlib.Core.Path.{_≡_, refl, sym, ap, ap₂, subst, _∙_}
-use native.Mathlib.Nat.{le-trans, not-suc-le-zero, le-of-suc-le-suc, zero-lt-suc}
+use mathlib.Core.Path.{_≡_, refl, sym, ap, subst, _∙_}
+use native.Mathlib.Nat.{le-trans}
 use native.Mathlib.Omega.{arith}
 use lib.Dec.{leb, ltb, eqb}
-use lib.ListN.{length, getD, take, drop}
-use lib.Ieee.{Float, nan, inf, fin, binary64, fits, isNan, le, lt, eq, neg}
-use Rattle.rules.specs.Limits.{Limits, Readable, Fileable, noPlane}
+use lib.ListN.{length, drop}
+use lib.Ieee.{Float, binary64, fits, isNan}
+use Rattle.rules.specs.Limits.{Limits, Readable, Fileable}
 use Rattle.rules.specs.Lists.{if_then_else_, all, joined}
-use Rattle.rules.specs.Floats.{within, farthest, farthestPlane, unit, dot, one, tolerance}
-use Rattle.rules.specs.Bytes.{areBytes, bytesOf, numberBytes}
+use Rattle.rules.specs.Floats.{within, farthestPlane, unit, one}
+use Rattle.rules.specs.Bytes.{areBytes, bytesOf}
 use Rattle.rules.specs.Table.{Element, corner, polytope, Plane, Table, boundaryOf, element, elementCount}
 use Rattle.rules.specs.Sound.{sound, soundPoint, soundPlane, soundFacet, namesPlane, namesNone}
 use Rattle.rules.specs.Memory.{planeNumber}
 use Rattle.rules.specs.Held.{fitting}
-use Rattle.rules.specs.Files.{Reading, broken, got, andThen, afterMark, many, number, header, pointRecord, planeRecord, elementRecord, fileOf, pointIn, planeIn, elementIn, recordsIn, tableAfter, layout, areFloats, tableFloats}
-use Rattle.rules.proofs.ByteLaws.{Front, front, fronts, got-value, got-rest, before, and-then, write-number, read-number, write-mark, read-mark, write-many, read-many, many-long}
+use Rattle.rules.specs.Files.{got, many, number, header, pointRecord, planeRecord, elementRecord, fileOf, pointIn, planeIn, elementIn, recordsIn, tableAfter, layout, areFloats, tableFloats}
+use Rattle.rules.proofs.ByteLaws.{Front, fronts, got-value, got-rest, before, and-then, write-number, read-number, write-mark, read-mark, write-many, read-many, many-long}
+use Rattle.rules.proofs.Boxes.{in-range, all-numbers, point-long, point-numbers}
 use Rattle.rules.proofs.Corners.{corner-named}
+use Rattle.rules.proofs.Each.{all-map, all-both, all-each}
 use Rattle.rules.proofs.FileRecords.{noNans, write-point, read-point, planeFloats, write-plane, read-plane, smallElement, write-element, read-element}
-use Rattle.rules.proofs.Good.{Good, sound-good, Whole, whole-at}
-use Rattle.rules.proofs.Growing.{all-get, all-map}
-use Rattle.rules.proofs.Laws.{and-left, and-right, and-true, le-test, test-le}
-use Rattle.rules.proofs.RoundTrip.{element-fits}
-
--- ---- tests of a whole list
-
-pub all-both : {A : Type 0} (p q r : A → Bool) → ((x : A) → p x ≡ true → q x ≡ true → r x ≡ true) → (xs : List A) → all p xs ≡ true → all q xs ≡ true → all r xs ≡ true
-all-both p q r f [] h k = refl
-all-both p q r f (x ∷ xs) h k =
-    and-true (r x) (all r xs) (f x (and-left (p x) (all p xs) h) (and-left (q x) (all q xs) k))
-    (all-both p q r f xs (and-right (p x) (all p xs) h) (and-right (q x) (all q xs) k))
-
--- by its entries
-all-each : {A : Type 0} (p : A → Bool) (d : A) (xs : List A) → ((i : ℕ) → i < length xs → p (getD xs i d) ≡ true) → all p xs ≡ true
-all-each p d [] f = refl
-all-each p d (x ∷ xs) f = and-true (p x) (all p xs) (f 0 (zero-lt-suc (length xs))) (all-each p d xs (λ i h. f (suc i) (let z : suc i < suc (length xs) = omega (arith, h) in z)))
+use Rattle.rules.proofs.Good.{Good, sound-good, whole-at}
+use Rattle.rules.proofs.Growing.{all-get}
+use Rattle.rules.proofs.Laws.{and-left, and-right, and-true, le-test, test-le, test-eq}
+use Rattle.rules.proofs.RoundTrip.{element-fits, normal-long}
 
 -- ---- a sound table has no NaN
 
-no-nan : (b x : Float) → within b x ≡ true → not (isNan x) ≡ true
-unfolding within isNan le lt eq
-no-nan b nan h = absurd (false≢true (and-right (le (neg b) nan) false h))
-no-nan b (inf s) h = refl
-no-nan b (fin s m e) h = refl
+abbrev noNanPlane : Plane → Bool
+noNanPlane h = noNans (h .normal) && not (isNan (h .distance))
 
-point-no-nan : (d : ℕ) (p : List Float) → soundPoint d p ≡ true → noNans p ≡ true
-unfolding soundPoint
-point-no-nan d p h = all-map (within farthest) (λ x. not (isNan x)) (no-nan farthest) p (and-right (eqb (length p) d) (all (within farthest) p) h)
-
-plane-no-nan : (d : ℕ) (h : Plane) → soundPlane d h ≡ true → (noNans (h .normal) && not (isNan (h .distance))) ≡ true
+plane-no-nan : (d : ℕ) (h : Plane) → soundPlane d h ≡ true → noNanPlane h ≡ true
 unfolding soundPlane
 plane-no-nan d h k =
     let u = and-right (eqb (length (h .normal)) d) (unit (h .normal)) (and-left (eqb (length (h .normal)) d && unit (h .normal)) _ k) in
     and-true (noNans (h .normal)) (not (isNan (h .distance)))
-    (all-map (within one) (λ x. not (isNan x)) (no-nan one) (h .normal) (components (h .normal) u))
-    (no-nan farthestPlane (h .distance) (and-right (eqb (length (h .normal)) d && unit (h .normal)) (within farthestPlane (h .distance)) k))
+    (all-numbers one (h .normal) (components (h .normal) u))
+    (in-range farthestPlane (h .distance) (and-right (eqb (length (h .normal)) d && unit (h .normal)) (within farthestPlane (h .distance)) k))
   where
     components : (n : List Float) → unit n ≡ true → all (within one) n ≡ true
     components n q = unfold unit in and-left (all (within one) n) _ (and-left (all (within one) n && _) _ q)
@@ -94,7 +76,8 @@ module _ (L : Limits) (W : Fileable L) (t : Table) (g : Good L t) where
           let r₁ = le-test r (t .dimension) (w .low-rank) in
           let r₂ = le-test (t .dimension) (L .dimensions) (g .high) in
           let r₃ = W .dimensions in
-          let c₁ = le-test (length b) (L .boundary) (subst (λ (y : Element). leb (length (boundaryOf y)) (L .boundary) ≡ true) q (all-get (λ y. leb (length (boundaryOf y)) (L .boundary)) (t .elements) e (corner 0) l (g .boundaryRoom))) in
+          let b₁ = all-get (λ y. leb (length (boundaryOf y)) (L .boundary)) (t .elements) e (corner 0) l (g .boundaryRoom) in
+          let c₁ = le-test (length b) (L .boundary) (subst (λ (y : Element). leb (length (boundaryOf y)) (L .boundary) ≡ true) q b₁) in
           let c₂ = W .boundary in
           and-true (ltb r 256) _ (test-le (suc r) 256 (let z : suc r ≤ 256 = omega (arith, r₁, r₂, r₃) in z))
           (and-true (ltb (planeNumber h) 65536) _ (plane-small r h m (w .facet))
@@ -131,7 +114,7 @@ module _ (L : Limits) (W : Fileable L) (t : Table) (g : Good L t) where
         points-there =
             write-many pointRecord (pointIn (t .dimension)) (λ p. eqb (length p) (t .dimension) && areFloats p) (write-point (t .dimension)) (t .points) _
             (all-both (soundPoint (t .dimension)) areFloats (λ p. eqb (length p) (t .dimension) && areFloats p)
-            (λ p h k. and-true (eqb (length p) (t .dimension)) (areFloats p) (unfold soundPoint in and-left (eqb (length p) (t .dimension)) (all (within farthest) p) h) k)
+            (λ p h k. and-true (eqb (length p) (t .dimension)) (areFloats p) (test-eq (length p) (t .dimension) (point-long (t .dimension) p h)) k)
             (t .points) (g .points) (and-left (all areFloats (t .points)) _ f))
 
         planes-there : many (length (t .planes)) (planeIn (t .dimension)) (joined (map planeRecord (t .planes)) ++ joined (map elementRecord (t .elements)))
@@ -139,7 +122,7 @@ module _ (L : Limits) (W : Fileable L) (t : Table) (g : Good L t) where
         planes-there =
             write-many planeRecord (planeIn (t .dimension)) (planeFloats (t .dimension)) (write-plane (t .dimension)) (t .planes) _
             (all-both (soundPlane (t .dimension)) (λ h. areFloats (h .normal) && fits binary64 (h .distance)) (planeFloats (t .dimension))
-            (λ h k q. and-true (eqb (length (h .normal)) (t .dimension)) _ (unfold soundPlane in and-left (eqb (length (h .normal)) (t .dimension)) (unit (h .normal)) (and-left (eqb (length (h .normal)) (t .dimension) && unit (h .normal)) _ k)) q)
+            (λ h k q. and-true (eqb (length (h .normal)) (t .dimension)) _ (test-eq (length (h .normal)) (t .dimension) (normal-long L U (t .dimension) h k)) q)
             (t .planes) (g .planes) (and-right (all areFloats (t .points)) _ f))
 
         elements-there : many (elementCount t) elementIn (joined (map elementRecord (t .elements))) ≡ got (t .elements) []
@@ -154,14 +137,14 @@ module _ (L : Limits) (W : Fileable L) (t : Table) (g : Good L t) where
 -- no float of a table is a NaN
 pub record NoNan (t : Table) : Type 0 where
   pub points : all noNans (t .points) ≡ true
-  pub planes : all (λ h. noNans (h .normal) && not (isNan (h .distance))) (t .planes) ≡ true
+  pub planes : all noNanPlane (t .planes) ≡ true
 
 pub sound-no-nan : (L : Limits) (t : Table) → sound L t ≡ true → NoNan t
 sound-no-nan L t s =
     let g = sound-good L t s in
     record {
-      points = all-map (soundPoint (t .dimension)) noNans (point-no-nan (t .dimension)) (t .points) (g .points);
-      planes = all-map (soundPlane (t .dimension)) (λ h. noNans (h .normal) && not (isNan (h .distance))) (plane-no-nan (t .dimension)) (t .planes) (g .planes);
+      points = all-map (soundPoint (t .dimension)) noNans (point-numbers (t .dimension)) (t .points) (g .points);
+      planes = all-map (soundPlane (t .dimension)) noNanPlane (plane-no-nan (t .dimension)) (t .planes) (g .planes);
     }
 
 any-element : (xs : List Element) → all (λ x. true) xs ≡ true
@@ -189,7 +172,7 @@ records-only d ne nv nh bs t rest s n q =
         let u₂ : hs ≡ t .planes = ap (λ (x : Table). x .planes) v in
         let u₃ : es ≡ t .elements = ap (λ (x : Table). x .elements) v in
         let f₁ = read-many pointRecord (pointIn d) noNans (read-point d) nv bs ps b₁ s e₁ (ap (all noNans) u₁ ∙ n .points) in
-        let f₂ = read-many planeRecord (planeIn d) (λ h. noNans (h .normal) && not (isNan (h .distance))) (read-plane d) nh b₁ hs b₂ (f₁ .bytes) e₂ (ap (all (λ h. noNans (h .normal) && not (isNan (h .distance)))) u₂ ∙ n .planes) in
+        let f₂ = read-many planeRecord (planeIn d) noNanPlane (read-plane d) nh b₁ hs b₂ (f₁ .bytes) e₂ (ap (all noNanPlane) u₂ ∙ n .planes) in
         let f₃ = read-many elementRecord elementIn (λ x. true) (λ cs x ds k l m. read-element cs x ds k l) ne b₂ es b₃ (f₂ .bytes) e₃ (any-element es) in (
           subst (λ (x : Table). Front (joined (map pointRecord (x .points)) ++ (joined (map planeRecord (x .planes)) ++ joined (map elementRecord (x .elements)))) bs rest) v
               (subst (λ (l : List ℕ). Front (joined (map pointRecord ps) ++ (joined (map planeRecord hs) ++ joined (map elementRecord es))) bs l) w
