@@ -29,8 +29,8 @@ use Rattle.rules.proofs.Laws.{le-test}
 use Rattle.rules.proofs.OneCall.{sound-table, memory-sound, names-in-use}
 use Rattle.rules.proofs.Promises.{desk-keeps}
 use Rattle.rules.proofs.RoundTrip.{memory-back}
+use Rattle.lent_bytes.proofs.Decimals.{five-digits}
 use Rattle.session.specs.Written.{lineRoom}
-use Rattle.session.proofs.Decimals.{five-digits}
 
 -- ---- numbers below 65,536
 

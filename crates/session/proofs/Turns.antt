@@ -23,7 +23,8 @@ use Rattle.rules.proofs.Good.{sound-good}
 use Rattle.rules.proofs.OneCall.{sound-table}
 use Rattle.cut.proofs.Names.{names-low, four-counts}
 use Rattle.session.proofs.Records.{Marked}
-use Rattle.session.specs.Written.{Put, lineRoom, LineFits, replyOf, turnReply, badReply}
+use Rattle.lent_bytes.specs.Lent.{Put}
+use Rattle.session.specs.Written.{lineRoom, LineFits, replyOf, turnReply, badReply}
 use Rattle.session.specs.declared.TurnReply.the-variants.{NoRoom, Bad, Taken}
 
 -- a line begins at the front of the room

@@ -3,9 +3,9 @@ use Prim.Native.Nat.{ℕ, _+_, _*_}
 use mathlib.Core.Path.{ap₂, _∙_}
 use native.Mathlib.Omega.{arith}
 use borrow.Author.Needs.{needs}
-use Rattle.session.proofs.Numbers.{four-is}
-use Rattle.session.proofs.read.four.Statement.{statement}
-use Rattle.session.proofs.read.four.Tie as tie
+use Rattle.lent_bytes.proofs.Numbers.{four-is}
+use Rattle.lent_bytes.proofs.read.four.Statement.{statement}
+use Rattle.lent_bytes.proofs.read.four.Tie as tie
 
 two-requires : tie.Need-two-requires
 two-requires c κs = search needs
@@ -27,7 +27,10 @@ returns c =
     let low = c .before .two .ensures in
     let high = c .two2 .ensures in
     let a = c .before .before .before .args in
-    (ap₂ (λ (x y : ℕ). x + 0x10000 * y) (low .0) (high .0) ∙ four-is (a .bytes .now) (a .at) (search needs), omega (arith, low .1, high .1))
+    record {
+      value = ap₂ (λ (x y : ℕ). x + 0x10000 * y) (low .value) (high .value) ∙ four-is (a .bytes .now) (a .at) (search needs);
+      below = omega (arith, low .below, high .below);
+    }
 
 pub four-spec : {M : Type 1} → statement M
 four-spec = tie.close (tie.spec two-requires add-two two-requires-2 mul-result add-result returns)

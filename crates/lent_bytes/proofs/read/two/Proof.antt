@@ -3,9 +3,9 @@ use Prim.Native.Nat.{ℕ, _+_, _*_}
 use mathlib.Core.Path.{ap₂, _∙_}
 use native.Mathlib.Omega.{arith}
 use borrow.Author.Needs.{needs}
-use Rattle.session.proofs.Numbers.{two-is}
-use Rattle.session.proofs.read.two.Statement.{statement}
-use Rattle.session.proofs.read.two.Tie as tie
+use Rattle.lent_bytes.proofs.Numbers.{two-is}
+use Rattle.lent_bytes.proofs.read.two.Statement.{statement}
+use Rattle.lent_bytes.proofs.read.two.Tie as tie
 
 one-requires : tie.Need-one-requires
 one-requires c κs = search needs
@@ -27,7 +27,10 @@ returns c =
     let low = c .before .one .ensures in
     let high = c .one2 .ensures in
     let a = c .before .before .before .args in
-    (ap₂ (λ (x y : ℕ). x + 0x100 * y) (low .0) (high .0) ∙ two-is (a .bytes .now) (a .at) (search needs), omega (arith, low .1, high .1))
+    record {
+      value = ap₂ (λ (x y : ℕ). x + 0x100 * y) (low .value) (high .value) ∙ two-is (a .bytes .now) (a .at) (search needs);
+      below = omega (arith, low .below, high .below);
+    }
 
 pub two-spec : {M : Type 1} → statement M
 two-spec = tie.close (tie.spec one-requires add-one one-requires-2 mul-result add-result returns)

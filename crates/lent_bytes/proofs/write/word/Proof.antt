@@ -1,20 +1,19 @@
--- The invariant: the bytes so far are stored.
+-- The invariant: the bytes that are left, put behind those that stand there, make all of them.
 use Prim.Native.Nat.{ℕ, _+_, _-_, _≤_}
 use mathlib.Core.List.{List}
-use mathlib.Core.Path.{_≡_, refl, ap, _∙_}
+use mathlib.Core.Path.{_≡_, refl}
 use native.Mathlib.Omega.{arith}
-use lib.ListN.{length, getD, set, take, length-set}
-use lib.Seq.{sets}
+use lib.ListN.{length, drop, length-set}
 use borrow.Author.Needs.{needs}
-use Rattle.space.proofs.RowWords.{sets-more, sets-all}
-use Rattle.session.proofs.write.word.Statement.{statement}
-use Rattle.session.proofs.write.word.Tie as tie
+use Rattle.lent_bytes.proofs.Rests.{Rest, bytes-left, next-byte, no-byte}
+use Rattle.lent_bytes.proofs.write.word.Statement.{statement}
+use Rattle.lent_bytes.proofs.write.word.Tie as tie
 
 record SoFar (bytes before : List ℕ) (at end : ℕ) (room : List ℕ) (i : ℕ) : Type 0 where
   pub within : i ≤ length bytes
   pub ends : end ≡ length bytes
   pub long : length room ≡ length before
-  pub stored : room ≡ sets before at (take i bytes)
+  pub rest : Rest before at bytes room (at + i) (drop i bytes)
 
 abbrev Inv-loop : tie.InvT-loop
 Inv-loop bytes room₀ at i₀ i-end room i = SoFar bytes room₀ at i-end room i
@@ -23,7 +22,7 @@ abbrev μ-loop : tie.MeasureT-loop
 μ-loop bytes room₀ at i₀ i-end room i = i-end - i
 
 loop-holds : tie.Need-loop-holds Inv-loop μ-loop
-loop-holds c = record { within = search needs; ends = refl; long = refl; stored = refl }
+loop-holds c = record { within = search needs; ends = refl; long = refl; rest = bytes-left _ _ _ }
 
 shared-slice-read-room : tie.Need-shared-slice-read-room Inv-loop μ-loop
 shared-slice-read-room c = search needs
@@ -42,13 +41,12 @@ loop-less c = search needs
 
 loop-again : tie.Need-loop-again Inv-loop μ-loop
 loop-again c =
-    let at = c .before .before .loop in
-    let a = c .before .before .before .args in
+    let l = c .before .before .loop in
     record {
       within = search needs;
       ends = refl;
       long = simp length-set (omega arith);
-      stored = ap (λ (l : List ℕ). set l (a .at + at .i) (getD (a .bytes .now) (at .i) 0)) (at .inv .stored) ∙ sets-more _ _ _ (at .i) 0 (search needs) (search needs);
+      rest = next-byte (c .before .before .before .args .bytes .now) (l .i) (l .inv .rest) (search needs);
     }
 
 add-result : tie.Need-add-result Inv-loop μ-loop
@@ -58,9 +56,7 @@ same-length : tie.Need-same-length Inv-loop μ-loop
 same-length c = search needs
 
 returns : tie.Need-returns Inv-loop μ-loop
-returns c =
-    let at = c .before .loop in
-    record { place = refl; room = at .inv .stored ∙ sets-all _ _ _ (at .i) (omega arith) }
+returns c = let l = c .before .loop in no-byte (c .before .before .args .bytes .now) (l .i) (l .inv .rest) (omega arith)
 
 pub word-spec : {M : Type 1} → statement M
 word-spec =

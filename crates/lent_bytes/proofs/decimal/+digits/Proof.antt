@@ -6,13 +6,13 @@ use lib.ListN.{length}
 use borrow.Author.Needs.{needs}
 use borrow.Fn.Kinds.{In}
 use borrow.Fn.PlainCycle.{Measures, is, falls, and}
-use Rattle.session.proofs.Decimals.{below-ten, from-ten, one-more}
-use Rattle.session.proofs.Puts.{put-one, put-as, put-length, then}
-use Rattle.session.proofs.write.digits.Reads as digits
-use Rattle.session.proofs.write.digits.Kinds as digits-kinds
-use Rattle.session.proofs.write.+digits.Lts-digits as digits-lts
-use Rattle.session.proofs.write.+digits.{statement}
-use Rattle.session.proofs.write.+digits.Tie.{close}
+use Rattle.lent_bytes.proofs.Decimals.{below-ten, from-ten, one-more}
+use Rattle.lent_bytes.proofs.Puts.{put-one, put-as, put-length, then}
+use Rattle.lent_bytes.proofs.decimal.digits.Reads as digits
+use Rattle.lent_bytes.proofs.decimal.digits.Kinds as digits-kinds
+use Rattle.lent_bytes.proofs.decimal.+digits.Lts-digits as digits-lts
+use Rattle.lent_bytes.proofs.decimal.+digits.{statement}
+use Rattle.lent_bytes.proofs.decimal.+digits.Tie.{close}
 
 abbrev μ-digits : Measures 1 digits-kinds.ps ℕ
 μ-digits κs a = a .0

@@ -1,10 +1,11 @@
 -- Two numbers of half the bytes.
 use Prim.Native.Nat.{ℕ, _+_, _*_}
 use mathlib.Core.Path.{ap₂, _∙_}
+use native.Mathlib.Omega.{arith}
 use borrow.Author.Needs.{needs}
-use Rattle.session.proofs.Numbers.{eight-is}
-use Rattle.session.proofs.read.eight.Statement.{statement}
-use Rattle.session.proofs.read.eight.Tie as tie
+use Rattle.lent_bytes.proofs.Numbers.{eight-is}
+use Rattle.lent_bytes.proofs.read.eight.Statement.{statement}
+use Rattle.lent_bytes.proofs.read.eight.Tie as tie
 
 four-requires : tie.Need-four-requires
 four-requires c κs = search needs
@@ -22,7 +23,14 @@ add-result : tie.Need-add-result
 add-result c = search needs
 
 returns : tie.Need-returns
-returns c = ap₂ (λ (x y : ℕ). x + 0x100000000 * y) (c .before .four .ensures .0) (c .four2 .ensures .0) ∙ eight-is (c .before .before .before .args .bytes .now) (c .before .before .before .args .at) (search needs)
+returns c =
+    let low = c .before .four .ensures in
+    let high = c .four2 .ensures in
+    let a = c .before .before .before .args in
+    record {
+      value = ap₂ (λ (x y : ℕ). x + 0x100000000 * y) (low .value) (high .value) ∙ eight-is (a .bytes .now) (a .at) (search needs);
+      below = omega (arith, low .below, high .below);
+    }
 
 pub eight-spec : {M : Type 1} → statement M
 eight-spec =
