@@ -13,7 +13,8 @@ use Rattle.rules.specs.Lists.{if_then_else_}
 use Rattle.rules.specs.Memory.{Memory, encode, decode, rightSize, soundMemory}
 use Rattle.rules.specs.Cube.{cube, radiusFits}
 use Rattle.rules.specs.Replies.{cubeReply, cutReply}
-use Rattle.rules.specs.Session.{numberAt, floatAt, text, cubeLine, refusedLine, badLine, cutText, cubeAsked, cutAsked, dividerAt, cubeTurn, cutTurn, isCube, isCut, cutLength, turn}
+use Rattle.rules.specs.Bytes.{numberAt, floatAt}
+use Rattle.rules.specs.Session.{text, cubeLine, refusedLine, badLine, cutText, cubeAsked, cutAsked, dividerAt, cubeTurn, cutTurn, isCube, isCut, cutLength, turn}
 use Rattle.rules.specs.declared.Hyperplane.{Hyperplane}
 use Rattle.rules.specs.declared.CutReply.{CutReply}
 use Rattle.rules.specs.declared.CutReply.the-variants.{Refused, Answered}
@@ -22,7 +23,8 @@ use Rattle.rules.proofs.Good.{sound-good}
 use Rattle.rules.proofs.OneCall.{sound-table}
 use Rattle.cut.proofs.Names.{names-low, four-counts}
 use Rattle.session.proofs.Records.{Marked}
-use Rattle.session.specs.Written.{Put, lineRoom, LineFits, replyOf, turnReply, badReply}
+use Rattle.lent_bytes.specs.Lent.{Put}
+use Rattle.session.specs.Written.{lineRoom, LineFits, replyOf, turnReply, badReply}
 use Rattle.session.specs.declared.TurnReply.the-variants.{NoRoom, Bad, Taken}
 
 -- a line begins at the front of the room

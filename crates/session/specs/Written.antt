@@ -1,5 +1,5 @@
--- What is written into the lent room: bytes one after another, and the line of a record. Definitions only.
-use Prim.Native.Nat.{ℕ, _+_}
+-- What is written into the lent room: the line of a record. Definitions only.
+use Prim.Native.Nat.{ℕ}
 use mathlib.Core.Bool.{Bool}
 use mathlib.Core.Path.{_≡_}
 use mathlib.Core.Option.{Option, none, some}
@@ -16,11 +16,6 @@ use Rattle.rules.specs.declared.CutReply.{CutReply}
 use Rattle.rules.specs.declared.CutReply.the-variants.{Refused, Answered}
 use Rattle.session.specs.declared.TurnReply.{TurnReply}
 use Rattle.session.specs.declared.TurnReply.the-variants.{NoRoom, Bad, Taken}
-
--- the bytes stand in the room from `at` on, and `end` is where they end
-pub record Put (before : List ℕ) (at : ℕ) (bytes : List ℕ) (end : ℕ) (after : List ℕ) : Type 0 where
-  pub place : end ≡ at + length bytes
-  pub room : after ≡ sets before at bytes
 
 -- room that is enough for every line
 abbrev pub lineRoom : ℕ

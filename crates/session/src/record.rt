@@ -1,7 +1,7 @@
 // What a record asks for: a cube or a cut, its call, and the line of its reply.
 use crate::TurnReply;
 use crate::line;
-use crate::read;
+use lent_bytes::read;
 use rules::CutReply;
 use rules::ElementCutOutput;
 use rules::ElementId;
@@ -20,8 +20,10 @@ ghost use Rattle.rules.specs.Floats.{plusZero};
 ghost use Rattle.rules.specs.Held.{memoryOf};
 ghost use Rattle.rules.specs.Promises.{NamesBelow};
 ghost use Rattle.rules.specs.Replies.{isKept};
-ghost use Rattle.rules.specs.Session.{floatAt, text, isCube, isCut, cutLength, cubeAsked, dividerAt, cutAsked, cubeTurn, cutText, cutTurn};
-ghost use Rattle.session.specs.Written.{Put, lineRoom, replyOf, LineFits};
+ghost use Rattle.rules.specs.Bytes.{floatAt};
+ghost use Rattle.rules.specs.Session.{text, isCube, isCut, cutLength, cubeAsked, dividerAt, cutAsked, cubeTurn, cutText, cutTurn};
+ghost use Rattle.lent_bytes.specs.Lent.{Put};
+ghost use Rattle.session.specs.Written.{lineRoom, replyOf, LineFits};
 
 // Every mark's first byte is 43.
 fn is_marked(input: &[u8], second: u8) -> bool

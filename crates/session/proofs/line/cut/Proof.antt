@@ -2,7 +2,8 @@
 use native.Mathlib.Omega.{arith}
 use lib.ListN.{drop}
 use borrow.Author.Needs.{needs}
-use Rattle.session.proofs.Puts.{put-length, then, then-line, element-short}
+use Rattle.lent_bytes.proofs.Puts.{put-length, then}
+use Rattle.session.proofs.Puts.{then-line, element-short}
 use Rattle.session.proofs.line.cut.Statement.{statement}
 use Rattle.session.proofs.line.cut.Tie as tie
 

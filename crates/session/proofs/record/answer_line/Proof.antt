@@ -8,7 +8,7 @@ use Rattle.rules.specs.declared.CutReply.the-variants.{Answered}
 use Rattle.rules.specs.declared.ElementCutOutput.{ElementCutOutput}
 use Rattle.rules.specs.Session.{text, cutText}
 use Rattle.rules.specs.Promises.{NamesBelow}
-use Rattle.session.proofs.Puts.{put-as}
+use Rattle.lent_bytes.proofs.Puts.{put-as}
 use Rattle.session.proofs.record.answer_line.Statement.{statement}
 use Rattle.session.proofs.record.answer_line.Tie as tie
 

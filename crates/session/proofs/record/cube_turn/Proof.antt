@@ -65,7 +65,7 @@ returns c =
     let call = called (made .before) in
     let radius = read call in
     let first = start (radius .before .before) .args in
-    cube-made (first .input .now) _ _ (first .stands) _ _ _ _ _ (radius .before .one .ensures .0) (radius .float .ensures) (call .with-primordial-cube-radius .ensures) _
+    cube-made (first .input .now) _ _ (first .stands) _ _ _ _ _ (radius .before .one .ensures .value) (radius .float .ensures) (call .with-primordial-cube-radius .ensures) _
     (made .if1 .taken) (put .counted .ensures)
 
 slice-aggregate-numbered : tie.Need-slice-aggregate-numbered
@@ -99,7 +99,7 @@ returns-2 c =
     let call = called (refused .before) in
     let radius = read call in
     let first = start (radius .before .before) .args in
-    cube-refused (first .input .now) _ _ (first .stands) _ _ _ _ _ (radius .before .one .ensures .0) (radius .float .ensures) (call .with-primordial-cube-radius .ensures) _
+    cube-refused (first .input .now) _ _ (first .stands) _ _ _ _ _ (radius .before .one .ensures .value) (radius .float .ensures) (call .with-primordial-cube-radius .ensures) _
     (refused .if1 .left) (put .numbered .ensures)
 
 pub cube-turn-spec : {M : Type 1} → statement M

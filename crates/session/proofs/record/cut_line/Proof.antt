@@ -5,7 +5,7 @@ use borrow.Author.Needs.{needs}
 use Rattle.rules.specs.declared.CutReply.{CutReply}
 use Rattle.rules.specs.Session.{text, cutText}
 use Rattle.session.specs.Written.{LineFits}
-use Rattle.session.proofs.Puts.{put-as}
+use Rattle.lent_bytes.proofs.Puts.{put-as}
 use Rattle.session.proofs.record.cut_line.Statement.{statement}
 use Rattle.session.proofs.record.cut_line.Tie as tie
 

@@ -94,8 +94,8 @@ returns c =
     let inside = outside .before in
     let kept = inside .before in
     let divider = kept .before in
-    cut-taken _ _ _ _ _ _ _ _ _ _ _ _ _ (done .cut .ensures) (divider .before .dimension-of .ensures .0) (divider .divider-at .ensures) (kept .one .ensures .0)
-    (inside .fate .ensures) (outside .fate2 .ensures) (two .two .ensures .0) (put .cut-line .ensures)
+    cut-taken _ _ _ _ _ _ _ _ _ _ _ _ _ (done .cut .ensures) (divider .before .dimension-of .ensures .0) (divider .divider-at .ensures) (kept .one .ensures .value)
+    (inside .fate .ensures) (outside .fate2 .ensures) (two .two .ensures .value) (put .cut-line .ensures)
 
 pub cut-turn-spec : {M : Type 1} → statement M
 cut-turn-spec =
