@@ -2,12 +2,11 @@
 use rules::ElementOrNone;
 use space::words::wide;
 ghost use Prim.Native.Nat.{_+_, _≤_};
-ghost use mathlib.Core.Path.{_≡_};
 ghost use mathlib.Core.List.{[], _∷_, _++_};
 ghost use lib.ListN.{length, drop};
-ghost use Rattle.rules.specs.Promises.{OneBelow};
 ghost use Rattle.rules.specs.Session.{decimal, spaced, place};
 ghost use Rattle.session.specs.Written.{Put};
+ghost use Rattle.session.specs.Ready.{PlaceReady, CountsEndReady};
 
 pub fn word(bytes: &[u8], room: &mut [u8], at: usize) -> usize
     requires { ⌜ at + length (now bytes) ≤ length (now room) ⌝ }
@@ -45,8 +44,7 @@ pub fn number(n: u64, room: &mut [u8], at: usize) -> usize
 
 // A space, and the element's number or -.
 pub fn element(e: ElementOrNone, room: &mut [u8], at: usize) -> usize
-    requires { ⌜ OneBelow 512 e ⌝ }
-    requires { ⌜ at + 21 ≤ length (now room) ⌝ }
+    requires { ⌜ PlaceReady e (now room) at ⌝ }
     ensures { λ r. ⌜ Put (now (room .entry)) at (place e) r (now (room .exit)) ⌝ }
 {
     match e {
@@ -57,8 +55,7 @@ pub fn element(e: ElementOrNone, room: &mut [u8], at: usize) -> usize
 
 // How many elements, vertices and hyperplanes there are, and the end of the line.
 pub fn counts_end(counts: &[u16], room: &mut [u8], at: usize) -> usize
-    requires { ⌜ length (now counts) ≡ 4 ⌝ }
-    requires { ⌜ at + 34 ≤ length (now room) ⌝ }
+    requires { ⌜ CountsEndReady (now counts) (now room) at ⌝ }
     ensures { λ r. ⌜ Put (now (room .entry)) at (spaced (drop 1 (now (counts .entry))) ++ 10 ∷ []) r (now (room .exit)) ⌝ }
 {
     let elements = number(wide(counts[1]) as u64, room, at);

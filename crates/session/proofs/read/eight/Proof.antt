@@ -22,7 +22,7 @@ add-result : tie.Need-add-result
 add-result c = search needs
 
 returns : tie.Need-returns
-returns c = ap₂ (λ (x y : ℕ). x + 0x100000000 * y) (c .before .four .ensures .0) (c .four2 .ensures .0) ∙ eight-is (c .before .before .before .args .bytes .now) (c .before .before .before .args .at) (search needs)
+returns c = ap₂ (λ (x y : ℕ). x + 0x100000000 * y) (c .before .four .ensures .value) (c .four2 .ensures .value) ∙ eight-is (c .before .before .before .args .bytes .now) (c .before .before .before .args .at) (search needs)
 
 pub eight-spec : {M : Type 1} → statement M
 eight-spec =

@@ -27,7 +27,10 @@ returns c =
     let low = c .before .two .ensures in
     let high = c .two2 .ensures in
     let a = c .before .before .before .args in
-    (ap₂ (λ (x y : ℕ). x + 0x10000 * y) (low .0) (high .0) ∙ four-is (a .bytes .now) (a .at) (search needs), omega (arith, low .1, high .1))
+    record {
+      value = ap₂ (λ (x y : ℕ). x + 0x10000 * y) (low .value) (high .value) ∙ four-is (a .bytes .now) (a .at) (search needs);
+      bound = omega (arith, low .bound, high .bound);
+    }
 
 pub four-spec : {M : Type 1} → statement M
 four-spec = tie.close (tie.spec two-requires add-two two-requires-2 mul-result add-result returns)

@@ -12,7 +12,9 @@ wide-requires : tie.Need-wide-requires
 wide-requires c κs = search needs
 
 returns : tie.Need-returns
-returns c = (c .wide .ensures .0 ∙ one-is (c .before .before .before .args .bytes .now) (c .before .before .before .args .at) (search needs), c .wide .ensures .1)
+returns c =
+    let a = c .before .before .before .args in
+    record { value = c .wide .ensures .value ∙ one-is (a .bytes .now) (a .at) (search needs); bound = c .wide .ensures .bound }
 
 pub one-spec : {M : Type 1} → statement M
 one-spec = tie.close (tie.spec shared-slice-read-wide wide-requires returns)

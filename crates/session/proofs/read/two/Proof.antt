@@ -27,7 +27,10 @@ returns c =
     let low = c .before .one .ensures in
     let high = c .one2 .ensures in
     let a = c .before .before .before .args in
-    (ap₂ (λ (x y : ℕ). x + 0x100 * y) (low .0) (high .0) ∙ two-is (a .bytes .now) (a .at) (search needs), omega (arith, low .1, high .1))
+    record {
+      value = ap₂ (λ (x y : ℕ). x + 0x100 * y) (low .value) (high .value) ∙ two-is (a .bytes .now) (a .at) (search needs);
+      bound = omega (arith, low .bound, high .bound);
+    }
 
 pub two-spec : {M : Type 1} → statement M
 two-spec = tie.close (tie.spec one-requires add-one one-requires-2 mul-result add-result returns)
