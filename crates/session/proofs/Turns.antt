@@ -72,7 +72,7 @@ cut-long bs d h = le-test (cutLength d) (length bs) (and-right (Marked bs 0x54) 
 
 pub line-fits : (h : Hyperplane) (i o : Bool) (root : ℕ) (m m′ : Memory) (r : CutReply) → (r, m′) ≡ cutReply desk h i o root m → LineFits r (m′ .counts)
 line-fits h i o root m m′ (Refused n) e = tt
-line-fits h i o root m m′ (Answered a) e = (names-low h i o root m m′ e a refl, four-counts h i o root m m′ e a refl)
+line-fits h i o root m m′ (Answered a) e = record { names = names-low h i o root m m′ e a refl; counts = four-counts h i o root m m′ e a refl }
 
 -- more than four dimensions are refused, whatever the divider
 unsound : (m : Memory) → 4 < getD (m .counts) 0 0 → soundMemory desk m ≡ false

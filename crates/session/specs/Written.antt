@@ -12,6 +12,7 @@ use Rattle.rules.specs.Lists.{if_then_else_}
 use Rattle.rules.specs.Memory.{Memory}
 use Rattle.rules.specs.Session.{badLine, text, Turn, bad, taken, turn}
 use Rattle.rules.specs.Promises.{NamesBelow}
+use Rattle.rules.specs.declared.ElementCutOutput.{ElementCutOutput}
 use Rattle.rules.specs.declared.CutReply.{CutReply}
 use Rattle.rules.specs.declared.CutReply.the-variants.{Refused, Answered}
 use Rattle.session.specs.declared.TurnReply.{TurnReply}
@@ -22,9 +23,13 @@ abbrev pub lineRoom : ℕ
 lineRoom = 64
 
 -- an answer names elements of the room, and comes with four counts
+pub record AnswerFits (a : ElementCutOutput) (cs : List ℕ) : Type 0 where
+  pub names : NamesBelow (desk .elements) a
+  pub counts : length cs ≡ 4
+
 abbrev pub LineFits : CutReply → List ℕ → Type 0
-LineFits (Refused n) counts = Unit {0}
-LineFits (Answered a) counts = NamesBelow 512 a × (length counts ≡ 4)
+LineFits (Refused n) cs = Unit {0}
+LineFits (Answered a) cs = AnswerFits a cs
 
 -- the reply, the memory and the room after a turn
 abbrev pub replyOf : Memory → List ℕ → Turn → TurnReply × Memory × List ℕ

@@ -2,19 +2,15 @@
 use crate::write;
 use lent_bytes::write::word;
 use rules::ElementOrNone;
-ghost use Prim.Native.Nat.{_≤_};
-ghost use mathlib.Core.Path.{_≡_};
 ghost use mathlib.Core.List.{[], _∷_, _++_};
-ghost use lib.ListN.{length, drop};
-ghost use Rattle.rules.specs.Promises.{OneBelow};
+ghost use lib.ListN.{drop};
 ghost use Rattle.rules.specs.Session.{cutLine, spaced, text};
 ghost use Rattle.lent_bytes.specs.Lent.{Put};
-ghost use Rattle.session.specs.Written.{lineRoom};
+ghost use Rattle.session.specs.Ready.{NumberedReady, CountedReady, SidesLineReady};
 
 // A name and a number: `refused` and `bad`.
 pub fn numbered(name: &[u8], n: u64, room: &mut [u8]) -> usize
-    requires { ⌜ length (now name) ≤ 7 ⌝ }
-    requires { ⌜ lineRoom ≤ length (now room) ⌝ }
+    requires { ⌜ NumberedReady (now name) (now room) ⌝ }
     ensures { λ r. ⌜ Put (now (room .entry)) 0 (now (name .entry) ++ spaced (n ∷ []) ++ 10 ∷ []) r (now (room .exit)) ⌝ }
 {
     let at = word(name, room, 0);
@@ -24,9 +20,7 @@ pub fn numbered(name: &[u8], n: u64, room: &mut [u8]) -> usize
 
 // A name and the counts: `cube` and `flush`.
 pub fn counted(name: &[u8], counts: &[u16], room: &mut [u8]) -> usize
-    requires { ⌜ length (now name) ≤ 7 ⌝ }
-    requires { ⌜ length (now counts) ≡ 4 ⌝ }
-    requires { ⌜ lineRoom ≤ length (now room) ⌝ }
+    requires { ⌜ CountedReady (now name) (now counts) (now room) ⌝ }
     ensures { λ r. ⌜ Put (now (room .entry)) 0 (now (name .entry) ++ spaced (drop 1 (now (counts .entry))) ++ 10 ∷ []) r (now (room .exit)) ⌝ }
 {
     let at = word(name, room, 0);
@@ -41,9 +35,7 @@ pub fn cut(
     counts: &[u16],
     room: &mut [u8],
 ) -> usize
-    requires { ⌜ OneBelow 512 inside × OneBelow 512 outside × OneBelow 512 intersection ⌝ }
-    requires { ⌜ length (now counts) ≡ 4 ⌝ }
-    requires { ⌜ lineRoom ≤ length (now room) ⌝ }
+    requires { ⌜ SidesLineReady inside outside intersection (now counts) (now room) ⌝ }
     ensures { λ r. ⌜ Put (now (room .entry)) 0 (text (cutLine inside outside intersection (drop 1 (now (counts .entry))))) r (now (room .exit)) ⌝ }
 {
     let at = word(b"cut", room, 0);

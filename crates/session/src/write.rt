@@ -4,13 +4,12 @@ use lent_bytes::write::word;
 use rules::ElementOrNone;
 use space::words::wide;
 ghost use Prim.Native.Nat.{_+_, _≤_};
-ghost use mathlib.Core.Path.{_≡_};
 ghost use mathlib.Core.List.{[], _∷_, _++_};
 ghost use lib.ListN.{length, drop};
-ghost use Rattle.rules.specs.Promises.{OneBelow};
 ghost use Rattle.rules.specs.Bytes.{decimal};
 ghost use Rattle.rules.specs.Session.{spaced, place};
 ghost use Rattle.lent_bytes.specs.Lent.{Put};
+ghost use Rattle.session.specs.Ready.{PlaceReady, CountsEndReady};
 
 // A space and the number; a u64 has 20 digits at most.
 pub fn spaced_number(n: u64, room: &mut [u8], at: usize) -> usize
@@ -23,8 +22,7 @@ pub fn spaced_number(n: u64, room: &mut [u8], at: usize) -> usize
 
 // A space, and the element's number or -.
 pub fn element(e: ElementOrNone, room: &mut [u8], at: usize) -> usize
-    requires { ⌜ OneBelow 512 e ⌝ }
-    requires { ⌜ at + 21 ≤ length (now room) ⌝ }
+    requires { ⌜ PlaceReady e (now room) at ⌝ }
     ensures { λ r. ⌜ Put (now (room .entry)) at (place e) r (now (room .exit)) ⌝ }
 {
     match e {
@@ -35,8 +33,7 @@ pub fn element(e: ElementOrNone, room: &mut [u8], at: usize) -> usize
 
 // How many elements, vertices and hyperplanes there are, and the end of the line.
 pub fn counts_end(counts: &[u16], room: &mut [u8], at: usize) -> usize
-    requires { ⌜ length (now counts) ≡ 4 ⌝ }
-    requires { ⌜ at + 34 ≤ length (now room) ⌝ }
+    requires { ⌜ CountsEndReady (now counts) (now room) at ⌝ }
     ensures { λ r. ⌜ Put (now (room .entry)) at (spaced (drop 1 (now (counts .entry))) ++ 10 ∷ []) r (now (room .exit)) ⌝ }
 {
     let elements = spaced_number(wide(counts[1]) as u64, room, at);

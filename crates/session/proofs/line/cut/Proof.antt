@@ -34,14 +34,14 @@ element-requires-2 c κs =
     let inside = c .before .before .before in
     let word = name inside in
     let first = start word in
-    let claims = first .pre .0 in
+    let claims = first .pre in
     let a = word .word .ensures in
     let i = inside .element .ensures in
     let l = put-length a in
     let m = put-length i in
     let e = a .place in
-    let q = element-short (first .args .inside) (claims .0) i in
-    (claims .1, omega (arith, l, m, e, q))
+    let q = element-short (first .args .inside) (claims .inside) i in
+    record { element = claims .outside; room = omega (arith, l, m, e, q) }
 
 element-requires-3 : tie.Need-element-requires-3
 element-requires-3 c κs =
@@ -49,7 +49,7 @@ element-requires-3 c κs =
     let inside = before-outside outside in
     let word = name inside in
     let first = start word in
-    let claims = first .pre .0 in
+    let claims = first .pre in
     let a = word .word .ensures in
     let i = inside .element .ensures in
     let o = outside .element2 .ensures in
@@ -57,9 +57,9 @@ element-requires-3 c κs =
     let m = put-length i in
     let n = put-length o in
     let e = a .place in
-    let q = element-short (first .args .inside) (claims .0) i in
-    let r = element-short (first .args .outside) (claims .1) o in
-    (claims .2, omega (arith, l, m, n, e, q, r))
+    let q = element-short (first .args .inside) (claims .inside) i in
+    let r = element-short (first .args .outside) (claims .outside) o in
+    record { element = claims .intersection; room = omega (arith, l, m, n, e, q, r) }
 
 counts-end-requires : tie.Need-counts-end-requires
 counts-end-requires c κs =
@@ -68,7 +68,7 @@ counts-end-requires c κs =
     let inside = before-outside outside in
     let word = name inside in
     let first = start word in
-    let claims = first .pre .0 in
+    let claims = first .pre in
     let a = word .word .ensures in
     let i = inside .element .ensures in
     let o = outside .element2 .ensures in
@@ -78,10 +78,10 @@ counts-end-requires c κs =
     let n = put-length o in
     let k = put-length x in
     let e = a .place in
-    let q = element-short (first .args .inside) (claims .0) i in
-    let r = element-short (first .args .outside) (claims .1) o in
-    let s = element-short (first .args .intersection) (claims .2) x in
-    omega (arith, l, m, n, k, e, q, r, s)
+    let q = element-short (first .args .inside) (claims .inside) i in
+    let r = element-short (first .args .outside) (claims .outside) o in
+    let s = element-short (first .args .intersection) (claims .intersection) x in
+    record { counts = claims .counts; room = omega (arith, l, m, n, k, e, q, r, s) }
 
 same-length : tie.Need-same-length
 same-length c = search needs

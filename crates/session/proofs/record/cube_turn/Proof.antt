@@ -22,13 +22,13 @@ called c = planes-back c .before .before .before .before .before
 one-requires : tie.Need-one-requires
 one-requires c κs =
     let first = start c in
-    let l = cube-long (first .args .input .now) (first .pre .0) in
+    let l = cube-long (first .args .input .now) (first .pre .asked) in
     omega (arith, l)
 
 float-requires : tie.Need-float-requires
 float-requires c κs =
     let first = start (c .before) in
-    cube-long (first .args .input .now) (first .pre .0)
+    cube-long (first .args .input .now) (first .pre .asked)
 
 with-primordial-cube-radius-requires : tie.Need-with-primordial-cube-radius-requires
 with-primordial-cube-radius-requires c κs = search needs
@@ -41,7 +41,7 @@ counted-requires c κs =
     let made = c .before .before .before in
     let call = called (made .before) in
     let first = start (read call .before .before) in
-    (lit≤ tt, (cube-counts _ _ _ _ _ (call .with-primordial-cube-radius .ensures) (made .if1 .taken), first .pre .1))
+    record { name = lit≤ tt; counts = cube-counts _ _ _ _ _ (call .with-primordial-cube-radius .ensures) (made .if1 .taken); room = first .pre .room }
 
 same-length : tie.Need-same-length
 same-length c = search needs

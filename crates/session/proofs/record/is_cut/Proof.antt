@@ -26,7 +26,7 @@ returns : tie.Need-returns
 returns c =
     let read = c .before in
     let bytes = start read .args .input .now in
-    subst (λ (d : ℕ). false ≡ isCut d bytes) (read .dimension-of .ensures .0) (cut-short bytes (read .dimension-of .result) (omega arith))
+    subst (λ (d : ℕ). false ≡ isCut d bytes) (read .dimension-of .ensures .value) (cut-short bytes (read .dimension-of .result) (omega arith))
 
 one-requires : tie.Need-one-requires
 one-requires c κs = search needs
@@ -45,7 +45,7 @@ returns-3 c =
     let kept = c .before .before in
     let read = kept .before .before in
     let bytes = start read .args .input .now in
-    subst (λ (d : ℕ). c .is-marked .result ≡ isCut d bytes) (read .dimension-of .ensures .0)
+    subst (λ (d : ℕ). c .is-marked .result ≡ isCut d bytes) (read .dimension-of .ensures .value)
     (cut-marked bytes (read .dimension-of .result) (omega arith) (subst (λ (k : ℕ). k ≤ 3) (kept .one .ensures .value) (omega arith)) (c .is-marked .ensures))
 
 pub is-cut-spec : {M : Type 1} → statement M

@@ -77,7 +77,7 @@ word-requires c κs =
     let q = number-short _ (search needs) a in
     let r = number-short _ (search needs) b in
     let s = number-short _ (search needs) d in
-    omega (arith, l, m, n, q, r, s, claims .1)
+    omega (arith, l, m, n, q, r, s, claims .room)
 
 same-length : tie.Need-same-length
 same-length c = search needs
@@ -94,7 +94,7 @@ returns c =
     let began = start first-count in
     put-as
     (ap (λ (ns : List ℕ). spaced ns ++ 10 ∷ [])
-    (three-counts (began .args .counts .now) (began .pre .0) _ _ _ (first-count .wide .ensures .0) (second-count .wide2 .ensures .0) (third-count .wide3 .ensures .0)))
+    (three-counts (began .args .counts .now) (began .pre .counts) _ _ _ (first-count .wide .ensures .value) (second-count .wide2 .ensures .value) (third-count .wide3 .ensures .value)))
     (then-number _ (_ ∷ _ ∷ []) (10 ∷ []) (elements .spaced-number .ensures)
     (then-number _ (_ ∷ []) (10 ∷ []) (vertices .spaced-number2 .ensures) (then-number _ [] (10 ∷ []) (hyperplanes .spaced-number3 .ensures) (end .word .ensures))))
 
