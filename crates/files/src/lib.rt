@@ -1,0 +1,1 @@
+// A table as the bytes of its one file, and back.
