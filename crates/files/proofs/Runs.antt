@@ -17,6 +17,9 @@ same-end bs i j h k e =
     let c = ap length e in
     omega (arith, a, b, c)
 
+pub broken-then : {A B : Type 0} (r : Reading A) (g : A → List ℕ → Reading B) → r ≡ broken → andThen r g ≡ broken
+broken-then r g e = ap (λ q. andThen q g) e
+
 module _ {A : Type 0} (f : List ℕ → Reading A) (bs : List ℕ) where
   -- ---- one record: what it says, and where it ends
 
@@ -56,10 +59,10 @@ module _ {A : Type 0} (f : List ℕ → Reading A) (bs : List ℕ) where
   -- what breaks behind a run breaks the reading of more
   pub run-breaks : (at : ℕ) (xs : List A) (mid n : ℕ) → Run f bs at xs mid → f (drop mid bs) ≡ broken → length xs < n → many n f (drop at bs) ≡ broken
   run-breaks at xs mid zero r b h = absurd (not-suc-le-zero h)
-  run-breaks at [] mid (suc n) r b h = ap (λ q. andThen q _) (ap (λ (i : ℕ). f (drop i bs)) (r .0) ∙ b)
+  run-breaks at [] mid (suc n) r b h = broken-then (f (drop at bs)) _ (ap (λ (i : ℕ). f (drop i bs)) (r .0) ∙ b)
   run-breaks at (x ∷ xs) mid (suc n) r b h =
       and-then (f (drop at bs)) _ x (drop (r .0) bs) (r .1 .says)
-      ∙ ap (λ q. andThen q _) (run-breaks (r .0) xs mid n (r .2) b (le-of-suc-le-suc h))
+      ∙ broken-then (many n f (drop (r .0) bs)) _ (run-breaks (r .0) xs mid n (r .2) b (le-of-suc-le-suc h))
 
   -- ---- what stands in a run
 

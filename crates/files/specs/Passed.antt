@@ -41,7 +41,12 @@ module _ {A : Type 0} where
     breaks : f (drop at bs) ≡ broken → p ≡ Broken → Ends f bs at p
     ends : (x : A) (end : ℕ) → Read f bs at x end → p ≡ At end → Ends f bs at p
 
-  -- n records, one after another
+  -- n records stand one after another, up to an end
+  pub record Together (f : List ℕ → Reading A) (bs : List ℕ) (at n end : ℕ) : Type 0 where
+    pub list : List A
+    pub counted : length list ≡ n
+    pub run : Run f bs at list end
+
   pub data AllEnd (f : List ℕ → Reading A) (bs : List ℕ) (at n : ℕ) (p : Pass) : Type 0 where
-    breaks : many n f (drop at bs) ≡ broken → p ≡ Broken → AllEnd f bs at n p
-    ends : (xs : List A) (end : ℕ) → length xs ≡ n → Run f bs at xs end → p ≡ At end → AllEnd f bs at n p
+    all-break : many n f (drop at bs) ≡ broken → p ≡ Broken → AllEnd f bs at n p
+    all-end : (end : ℕ) → Together f bs at n end → p ≡ At end → AllEnd f bs at n p
