@@ -105,10 +105,10 @@ plane-takes d =
       value = λ bs. record { normal = t .value bs; distance = float-takes .value (drop (8 * d) bs) };
       there =
           λ bs h.
-            let l = length-drop (8 * d) bs in
-            and-then (many d float bs) _ (t .value bs) (drop (8 * d) bs) (t .there bs (omega (arith, h)))
-            ∙ and-then (float (drop (8 * d) bs)) _ (float-takes .value (drop (8 * d) bs)) (drop 8 (drop (8 * d) bs)) (float-takes .there (drop (8 * d) bs) (omega (arith, l, h)))
-            ∙ ap (got (record { normal = t .value bs; distance = float-takes .value (drop (8 * d) bs) })) (drop-drop 8 (8 * d) bs);
+          let l = length-drop (8 * d) bs in
+          and-then (many d float bs) _ (t .value bs) (drop (8 * d) bs) (t .there bs (omega (arith, h)))
+          ∙ and-then (float (drop (8 * d) bs)) _ (float-takes .value (drop (8 * d) bs)) (drop 8 (drop (8 * d) bs)) (float-takes .there (drop (8 * d) bs) (omega (arith, l, h)))
+          ∙ ap (got (record { normal = t .value bs; distance = float-takes .value (drop (8 * d) bs) })) (drop-drop 8 (8 * d) bs);
     }
 
 -- ---- a number where it stands, and the next place
