@@ -18,7 +18,7 @@ pub fn numbered(name: &[u8], n: u64, room: &mut [u8]) -> usize
     ensures { λ r. ⌜ Put (now (room .entry)) 0 (now (name .entry) ++ spaced (n ∷ []) ++ 10 ∷ []) r (now (room .exit)) ⌝ }
 {
     let at = word(name, room, 0);
-    let end = write::spaced(n, room, at);
+    let end = write::spaced_number(n, room, at);
     word(b"\n", room, end)
 }
 

@@ -13,7 +13,7 @@ ghost use Rattle.rules.specs.Session.{spaced, place};
 ghost use Rattle.lent_bytes.specs.Lent.{Put};
 
 // A space and the number; a u64 has 20 digits at most.
-pub fn spaced(n: u64, room: &mut [u8], at: usize) -> usize
+pub fn spaced_number(n: u64, room: &mut [u8], at: usize) -> usize
     requires { ⌜ at + 21 ≤ length (now room) ⌝ }
     ensures { λ r. ⌜ Put (now (room .entry)) at (32 ∷ decimal n) r (now (room .exit)) ⌝ }
 {
@@ -29,7 +29,7 @@ pub fn element(e: ElementOrNone, room: &mut [u8], at: usize) -> usize
 {
     match e {
         ElementOrNone::None => word(b" -", room, at),
-        ElementOrNone::Some(id) => spaced(id.0 as u64, room, at),
+        ElementOrNone::Some(id) => spaced_number(id.0 as u64, room, at),
     }
 }
 
@@ -39,8 +39,8 @@ pub fn counts_end(counts: &[u16], room: &mut [u8], at: usize) -> usize
     requires { ⌜ at + 34 ≤ length (now room) ⌝ }
     ensures { λ r. ⌜ Put (now (room .entry)) at (spaced (drop 1 (now (counts .entry))) ++ 10 ∷ []) r (now (room .exit)) ⌝ }
 {
-    let elements = spaced(wide(counts[1]) as u64, room, at);
-    let vertices = spaced(wide(counts[2]) as u64, room, elements);
-    let hyperplanes = spaced(wide(counts[3]) as u64, room, vertices);
+    let elements = spaced_number(wide(counts[1]) as u64, room, at);
+    let vertices = spaced_number(wide(counts[2]) as u64, room, elements);
+    let hyperplanes = spaced_number(wide(counts[3]) as u64, room, vertices);
     word(b"\n", room, hyperplanes)
 }

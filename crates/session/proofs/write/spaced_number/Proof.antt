@@ -5,8 +5,8 @@ use lib.ListN.{length-set}
 use borrow.Author.Needs.{needs}
 use Rattle.lent_bytes.proofs.Decimals.{twenty-digits}
 use Rattle.lent_bytes.proofs.Puts.{put-one, put-length, then}
-use Rattle.session.proofs.write.spaced.Statement.{statement}
-use Rattle.session.proofs.write.spaced.Tie as tie
+use Rattle.session.proofs.write.spaced_number.Statement.{statement}
+use Rattle.session.proofs.write.spaced_number.Tie as tie
 
 slice-write-room : tie.Need-slice-write-room
 slice-write-room c = search needs
@@ -23,5 +23,5 @@ same-length c = put-length (c .before .before .digits .ensures) ∙ length-set (
 returns : tie.Need-returns
 returns c = then (put-one _ _ 32) (c .before .before .digits .ensures)
 
-pub spaced-spec : {M : Type 1} → statement M
-spaced-spec = tie.close (tie.spec slice-write-room add-digits digits-requires same-length returns)
+pub spaced-number-spec : {M : Type 1} → statement M
+spaced-number-spec = tie.close (tie.spec slice-write-room add-digits digits-requires same-length returns)
