@@ -9,10 +9,9 @@ use native.Mathlib.Omega.{arith}
 use lib.Dec.{leb, eqb}
 use lib.ListN.{length, getD, take, drop, length-take, length-drop}
 use lib.Seq.{drop-drop, drop-cons}
-use lib.Ieee.{Float, binary64, ofBits}
+use lib.Ieee.{binary64, ofBits}
 use Rattle.rules.specs.Lists.{if_then_else_, alike}
 use Rattle.rules.specs.Bytes.{littleEndian, numberAt}
-use Rattle.rules.specs.Table.{Plane}
 use Rattle.rules.specs.Files.{Reading, broken, got, andThen, afterMark, many, number, float, planeAfter}
 use Rattle.rules.proofs.ByteLaws.{and-then}
 use Rattle.rules.proofs.Laws.{and-left, and-right, le-test, test-le, not-le, test-above, if-true, if-false}
