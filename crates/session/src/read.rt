@@ -4,24 +4,24 @@ ghost use Prim.Native.Nat.{_+_, _≤_};
 ghost use mathlib.Core.Path.{_≡_};
 ghost use lib.ListN.{length};
 ghost use Rattle.rules.specs.Session.{numberAt, floatAt};
-ghost use Rattle.space.specs.Numbers.{Bounded};
+ghost use Rattle.space.specs.Numbers.{NumberBelow};
 
 fn wide(byte: u8) -> u64
-    ensures { λ r. ⌜ Bounded r byte 0x100 ⌝ }
+    ensures { λ r. ⌜ NumberBelow r byte 0x100 ⌝ }
 {
     byte as u64
 }
 
 pub fn one(bytes: &[u8], at: usize) -> u64
     requires { ⌜ at + 1 ≤ length (now bytes) ⌝ }
-    ensures { λ r. ⌜ Bounded r (numberAt 1 at (now (bytes .entry))) 0x100 ⌝ }
+    ensures { λ r. ⌜ NumberBelow r (numberAt 1 at (now (bytes .entry))) 0x100 ⌝ }
 {
     wide(bytes[at])
 }
 
 pub fn two(bytes: &[u8], at: usize) -> u64
     requires { ⌜ at + 2 ≤ length (now bytes) ⌝ }
-    ensures { λ r. ⌜ Bounded r (numberAt 2 at (now (bytes .entry))) 0x10000 ⌝ }
+    ensures { λ r. ⌜ NumberBelow r (numberAt 2 at (now (bytes .entry))) 0x10000 ⌝ }
 {
     let low = one(bytes, at);
     let high = one(bytes, at + 1);
@@ -30,7 +30,7 @@ pub fn two(bytes: &[u8], at: usize) -> u64
 
 fn four(bytes: &[u8], at: usize) -> u64
     requires { ⌜ at + 4 ≤ length (now bytes) ⌝ }
-    ensures { λ r. ⌜ Bounded r (numberAt 4 at (now (bytes .entry))) 0x100000000 ⌝ }
+    ensures { λ r. ⌜ NumberBelow r (numberAt 4 at (now (bytes .entry))) 0x100000000 ⌝ }
 {
     let low = two(bytes, at);
     let high = two(bytes, at + 2);
