@@ -24,7 +24,7 @@ pub record InOrder (at : Place) (room : ℕ) : Type 0 where
   pub output : at .line ≤ room
 
 -- a block is filled: no line is written
-pub record Filled (at : Place) (n : ℕ) (r : Place) : Type 0 where
+pub record BlockFilled (at : Place) (n : ℕ) (r : Place) : Type 0 where
   pub input : InBlock r n
   pub line : r .line ≡ at .line
 
@@ -41,6 +41,6 @@ pub record Flushed (at r : Place) : Type 0 where
   pub line : r .line ≡ 0
 
 -- between blocks no line waits
-pub record Between (at : Place) (n : ℕ) : Type 0 where
+pub record BetweenBlocks (at : Place) (n : ℕ) : Type 0 where
   pub input : InBlock at n
   pub line : at .line ≡ 0

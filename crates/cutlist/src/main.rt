@@ -9,7 +9,7 @@ use space::words::PLANE_FLOATS;
 use space::words::POINT_FLOATS;
 ghost use Prim.Native.Nat.{_+_, _≤_};
 ghost use lib.ListN.{length};
-ghost use Rattle.cutlist.specs.Places.{AboveNeither, InBlock, InBlocks, InOrder, Filled, LineWritten, Flushed, Between};
+ghost use Rattle.cutlist.specs.Places.{AboveNeither, InBlock, InBlocks, InOrder, BlockFilled, LineWritten, Flushed, BetweenBlocks};
 
 // How many bytes are read or written at a time.
 const BLOCK: usize = 65536;
@@ -48,7 +48,7 @@ fn to_front(input: &mut [u8], from: usize, n: usize)
 // Behind the rest of the block goes what there is to read; nothing is the end of the session.
 fn fill(at: Place, input: &mut [u8]) -> Place
     requires { ⌜ InBlock at (length (now input)) ⌝ }
-    ensures { λ r. ⌜ Filled at (length (now (input .exit))) r ⌝ }
+    ensures { λ r. ⌜ BlockFilled at (length (now (input .exit))) r ⌝ }
 {
     let from = at.from;
     let rest = at.end - from;
@@ -213,8 +213,8 @@ fn block(
     planes: &mut [f64],
     elements: &mut [u16],
 ) -> Place
-    requires { ⌜ Between at (length (now input)) ⌝ }
-    ensures { λ r. ⌜ Between r (length (now (input .exit))) ⌝ }
+    requires { ⌜ BetweenBlocks at (length (now input)) ⌝ }
+    ensures { λ r. ⌜ BetweenBlocks r (length (now (input .exit))) ⌝ }
 {
     let filled = fill(at, input);
     let gone = records(filled, input, output, counts, points, planes, elements);

@@ -17,15 +17,15 @@ use Rattle.rules.specs.declared.ElementCutOutput.the-variants.{Flush, NonFlush}
 use Rattle.rules.specs.declared.CutReply.{CutReply}
 use Rattle.rules.specs.declared.CutReply.the-variants.{Refused, Answered}
 use Rattle.rules.proofs.Laws.{test-eq, not-eq}
-use Rattle.space.specs.Numbers.{Bounded}
+use Rattle.space.specs.Numbers.{NumberBelow}
 use Rattle.desk.specs.Words.{elementWord, outputWord, cutWord, keptBy}
 
 -- ---- one number
 
-pub word-none : (e : ElementOrNone) → e ≡ None → Bounded 0xffff (elementWord e) 65536
+pub word-none : (e : ElementOrNone) → e ≡ None → NumberBelow 0xffff (elementWord e) 65536
 word-none e q = record { value = sym (ap elementWord q); bound = lit≤ tt }
 
-pub word-some : (e : ElementOrNone) (id : ElementId) → e ≡ Some id → OneBelow (desk .elements) e → Bounded (id .0) (elementWord e) 65536
+pub word-some : (e : ElementOrNone) (id : ElementId) → e ≡ Some id → OneBelow (desk .elements) e → NumberBelow (id .0) (elementWord e) 65536
 word-some e id q h = record {
   value = sym (ap elementWord q);
   bound = (let l : id .0 < desk .elements = subst (OneBelow (desk .elements)) q h in let z : id .0 < 65536 = omega (arith, l) in z);

@@ -21,7 +21,7 @@ ghost use Rattle.rules.specs.Replies.{isKept};
 ghost use Rattle.rules.specs.Bytes.{floatAt};
 ghost use Rattle.rules.specs.Session.{text, isCube, isCut, cubeAsked, dividerAt, cutAsked, cubeTurn, cutText, cutTurn};
 ghost use Rattle.lent_bytes.specs.Lent.{Put};
-ghost use Rattle.space.specs.Numbers.{Bounded};
+ghost use Rattle.space.specs.Numbers.{NumberBelow};
 ghost use Rattle.session.specs.Written.{replyOf};
 ghost use Rattle.session.specs.Ready.{ComponentReady, DividerReady, CubeTurnReady, AnswerLineReady, CutLineReady, CutTurnReady};
 
@@ -47,7 +47,7 @@ pub fn is_cube(input: &[u8]) -> bool
 
 // The dimension of the table that stands.
 fn dimension_of(counts: &[u16]) -> usize
-    ensures { λ r. ⌜ Bounded r (getD (now (counts .entry)) 0 0) 65536 ⌝ }
+    ensures { λ r. ⌜ NumberBelow r (getD (now (counts .entry)) 0 0) 65536 ⌝ }
 {
     if counts.len() == 0 {
         return 0;

@@ -28,7 +28,7 @@ pub record PointThere (ps : List Float) (at d : ℕ) : Type 0 where
   pub row : at + desk .dimensions ≤ length ps
 
 -- the points of the first v vertices
-pub record PointsReady (ps : List Float) (d v : ℕ) : Type 0 where
+pub record PointsThere (ps : List Float) (d v : ℕ) : Type 0 where
   pub dimension : d ≤ desk .dimensions
   pub fits : v ≤ desk .vertices
   pub long : length ps ≡ pointSlice
@@ -40,7 +40,7 @@ pub record PlaneThere (hs : List Float) (k d : ℕ) : Type 0 where
   pub long : length hs ≡ planeSlice
 
 -- the rows of the first h hyperplanes
-pub record PlanesReady (hs : List Float) (d h : ℕ) : Type 0 where
+pub record PlanesThere (hs : List Float) (d h : ℕ) : Type 0 where
   pub dimension : d ≤ desk .dimensions
   pub fits : h ≤ desk .hyperplanes
   pub long : length hs ≡ planeSlice

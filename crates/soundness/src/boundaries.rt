@@ -13,7 +13,7 @@ ghost use Prim.Native.Nat.{_+_, _<_};
 ghost use mathlib.Core.Path.{_≡_};
 ghost use lib.ListN.{take, drop};
 ghost use Rattle.rules.specs.Limits.{desk};
-ghost use Rattle.space.specs.Numbers.{Bounded};
+ghost use Rattle.space.specs.Numbers.{NumberBelow};
 ghost use Rattle.space.specs.Closed.{stampRoom};
 ghost use Rattle.soundness.specs.Words.{numberFits, numbersFit, fewWords, faceWords, stampOf, boundarySound};
 ghost use Rattle.soundness.specs.Tests.{NumberReady, NumbersReady, EdgesReady, NumbersThere, BoundaryTested};
@@ -21,7 +21,7 @@ ghost use Rattle.soundness.specs.Tests.{NumberReady, NumbersReady, Edges
 // An element's stamp is above every word that was written for the elements before it: a word of a face is at most INSIDE above the face's own.
 fn stamp_of(e: ElementId) -> u32
     requires { ⌜ e .0 < desk .elements ⌝ }
-    ensures { λ r. ⌜ Bounded r (stampOf (e .0)) stampRoom ⌝ }
+    ensures { λ r. ⌜ NumberBelow r (stampOf (e .0)) stampRoom ⌝ }
 {
     ((INSIDE + 1) * e.0 + 1) as u32
 }

@@ -15,7 +15,7 @@ ghost use Rattle.rules.specs.Limits.{desk};
 ghost use Rattle.rules.specs.Lists.{all};
 ghost use Rattle.rules.specs.Floats.{sameBits, plusZero, within, farthest};
 ghost use Rattle.rules.specs.Memory.{planeWidth};
-ghost use Rattle.soundness.specs.Tests.{PartOf, PointThere, PointsReady, PlaneThere, PlanesReady, FloatsReady};
+ghost use Rattle.soundness.specs.Tests.{PartOf, PointThere, PointsThere, PlaneThere, PlanesThere, FloatsReady};
 ghost use Rattle.soundness.specs.Words.{blankFloats, pointWords, pointsSound, planeWords, planesSound, floatsSound};
 
 // The farthest a coordinate and a hyperplane may lie.
@@ -71,7 +71,7 @@ fn point_sound(points: &[f64], at: usize, d: usize) -> bool
 
 // The vertices in use, and zero bits past them.
 fn points_sound(points: &[f64], d: usize, v: usize) -> bool
-    requires { ⌜ PointsReady (now points) d v ⌝ }
+    requires { ⌜ PointsThere (now points) d v ⌝ }
     ensures { λ r. ⌜ r ≡ pointsSound desk d v (now (points .entry)) ⌝ }
 {
     for i in 0..v {
@@ -97,7 +97,7 @@ fn plane_sound(planes: &[f64], k: HyperplaneId, d: usize) -> bool
 
 // The hyperplanes in use, and zero bits past them.
 fn planes_sound(planes: &[f64], d: usize, h: usize) -> bool
-    requires { ⌜ PlanesReady (now planes) d h ⌝ }
+    requires { ⌜ PlanesThere (now planes) d h ⌝ }
     ensures { λ r. ⌜ r ≡ planesSound desk d h (now (planes .entry)) ⌝ }
 {
     for i in 0..h {

@@ -19,6 +19,6 @@ abbrev pub elementSlice : ℕ
 elementSlice = desk .elements * rowWidth
 
 -- a number that a function answers: which it is, and below what it lies
-pub record Bounded (reply x top : ℕ) : Type 0 where
+pub record NumberBelow (reply x top : ℕ) : Type 0 where
   pub value : reply ≡ x
   pub bound : reply < top

@@ -10,7 +10,7 @@ ghost use lib.ListN.{length, take, drop};
 ghost use Rattle.rules.specs.Lists.{alike, find, rows};
 ghost use Rattle.space.specs.Chains.{keyOf, keys, numberOf, newStart};
 ghost use Rattle.space.specs.Found.{elementNumber};
-ghost use Rattle.space.specs.Numbers.{rowWidth, Bounded};
+ghost use Rattle.space.specs.Numbers.{rowWidth, NumberBelow};
 ghost use Rattle.space.specs.Ready.{SearchReady, SameRowReady, JoinReady};
 
 // Room for a chain's start for each key, and for a link for each row behind them.
@@ -31,7 +31,7 @@ pub enum FoundElement {
 // The row's first two boundary numbers, mixed: equal rows share it. A remainder, so that any words are a place in the index.
 pub fn key_of(words: &[u16], at: usize) -> usize
     requires { ⌜ at + rowWidth ≤ length (now words) ⌝ }
-    ensures { λ r. ⌜ Bounded r (keyOf (take rowWidth (drop at (now (words .entry))))) keys ⌝ }
+    ensures { λ r. ⌜ NumberBelow r (keyOf (take rowWidth (drop at (now (words .entry))))) keys ⌝ }
 {
     let first = wide(words[at + 4]);
     let second = wide(words[at + 5]);

@@ -9,7 +9,7 @@ ghost use mathlib.Core.Bool.{cond};
 ghost use lib.Dec.{eqb};
 ghost use lib.ListN.{getD, take};
 ghost use Rattle.rules.specs.Limits.{desk};
-ghost use Rattle.space.specs.Numbers.{Bounded};
+ghost use Rattle.space.specs.Numbers.{NumberBelow};
 ghost use Rattle.space.specs.Closed.{few, metNext, metTwice, farEnd, inside, stampRoom, ringRaw, closedRaw};
 ghost use Rattle.space.specs.Closed.{MeetReady, CornerMet, EdgeReady, EndsMet, PathReady, JoinEndsReady, EndsJoined, FaceReady, BoundaryReady};
 
@@ -101,7 +101,7 @@ fn each_twice(elements: &[u16], list: &[u16], n: usize) -> bool
 // The other end of the path that ends in v: v itself where it is not met yet, INSIDE where it is met twice.
 fn far_end(paths: &[u32; ELEMENTS], v: usize, stamp: u32) -> usize
     requires { ⌜ PathReady stamp (now paths) v ⌝ }
-    ensures { λ r. ⌜ Bounded r (farEnd stamp (now (paths .entry)) v) (suc inside) ⌝ }
+    ensures { λ r. ⌜ NumberBelow r (farEnd stamp (now (paths .entry)) v) (suc inside) ⌝ }
 {
     let m = paths[v];
     if m < stamp {
@@ -111,7 +111,7 @@ fn far_end(paths: &[u32; ELEMENTS], v: usize, stamp: u32) -> usize
 }
 
 fn one_unless_same(a: usize, b: usize) -> usize
-    ensures { λ r. ⌜ Bounded r (cond (eqb a b) 0 1) 2 ⌝ }
+    ensures { λ r. ⌜ NumberBelow r (cond (eqb a b) 0 1) 2 ⌝ }
 {
     if a == b { 0 } else { 1 }
 }

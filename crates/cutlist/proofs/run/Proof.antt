@@ -2,14 +2,14 @@
 use mathlib.Core.Path.{_≡_}
 use lib.ListN.{length}
 use borrow.Author.Needs.{needs}
-use Rattle.cutlist.specs.Places.{Between}
+use Rattle.cutlist.specs.Places.{BetweenBlocks}
 use Rattle.cutlist.proofs.run.Statement.{statement}
 use Rattle.cutlist.proofs.run.Tie as tie
 
 abbrev Inv-loop : tie.InvT-loop
 Inv-loop input₀ output₀ counts₀ points₀ planes₀ elements₀ at₀ turns₀ input output counts points planes elements at turns =
     record {
-      between : Between at (length input);
+      between : BetweenBlocks at (length input);
       input-long : length input ≡ length input₀;
       output-long : length output ≡ length output₀;
       counts-long : length counts ≡ length counts₀;
