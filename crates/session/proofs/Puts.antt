@@ -12,7 +12,8 @@ use Rattle.rules.specs.declared.ElementOrNone.{ElementOrNone}
 use Rattle.rules.specs.declared.ElementOrNone.the-variants.{None, Some}
 use Rattle.lent_bytes.specs.Lent.{Put}
 use Rattle.lent_bytes.proofs.Decimals.{five-digits, twenty-digits}
-use Rattle.lent_bytes.proofs.Puts.{put-as, then}
+use Rattle.lent_bytes.proofs.Puts.{put-as, put-length, then}
+use Rattle.session.specs.Written.{lineRoom}
 
 -- ---- numbers one after another
 
@@ -43,3 +44,23 @@ number-fits n l p = let q = twenty-digits n l in let e = p .place in omega (arit
 pub element-short : {room after : List ℕ} {at end : ℕ} (e : ElementOrNone) → OneBelow 512 e → Put room at (place e) end after → end ≤ at + 6
 element-short None l p = let e = p .place in omega (arith, e)
 element-short (Some id) l p = number-short (id .0) (let z : id .0 < 0x10000 = omega (arith, l) in z) p
+
+-- ---- how far a line has come
+
+-- it ends no later than `most`, in room that is enough for every line
+pub record Far (room : List ℕ) (end most : ℕ) : Type 0 where
+  pub place : end ≤ most
+  pub enough : lineRoom ≤ length room
+
+pub far-word : {room after : List ℕ} {end : ℕ} {xs : List ℕ} → lineRoom ≤ length room → Put room 0 xs end after → Far after end (length xs)
+far-word l p = record { place = (let e = p .place in omega (arith, e)); enough = (let k = put-length p in omega (arith, k, l)) }
+
+pub far-element : {room after : List ℕ} {at end most : ℕ} (e : ElementOrNone) → OneBelow 512 e → Far room at most → Put room at (place e) end after → Far after end (most + 6)
+far-element e l f p = record {
+  place = (let q = element-short e l p in let m = f .place in omega (arith, q, m));
+  enough = (let k = put-length p in let m = f .enough in omega (arith, k, m));
+}
+
+-- what is left of the room
+pub far-left : {room : List ℕ} {end most : ℕ} (k : ℕ) → Far room end most → most + k ≤ lineRoom → end + k ≤ length room
+far-left k f l = let a = f .place in let b = f .enough in omega (arith, a, b, l)
