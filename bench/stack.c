@@ -1,6 +1,7 @@
 /* Bytes of stack that each entry point takes. A stack is filled with a pattern, a call is made on it, and the bytes down to the
    lowest that changed are counted, less those of no call. Frames have fixed sizes and a cut goes down by rank alone, so a table
-   of four dimensions takes the most that there is. Link with libdesk.a for the machine at hand. */
+   of four dimensions takes the most that there is, where a cut adds faces of more than five edges, whose paths are joined. Link
+   with libdesk.a for the machine at hand. */
 #include "desk.h"
 #include <stdio.h>
 #include <string.h>
@@ -17,7 +18,13 @@ static const uint16_t cube = 80, face = 8, roots[2] = {80, 80};
 static void no_call(void) {}
 static void is_sound(void) { desk_is_sound(TABLE); }
 static void new_cube(void) { desk_cube(TABLE, 4, 1.0); }
-static void diagonal_cut(void) { desk_cut(TABLE, 0.5, 0.5, 0.5, 0.5, 0.3, 1, 1, cube); }
+
+/* Each takes a corner off the squares of the first two axes: after the second these have six edges. */
+static void two_cuts(void) {
+    uint64_t reply = desk_cut(TABLE, 0.6, 0.8, 0.0, 0.0, 1.2, 1, 1, cube);
+    desk_cut(TABLE, 0.6, -0.8, 0.0, 0.0, 1.2, 1, 1, desk_inside(reply));
+}
+
 static void sub_elements(void) { desk_subelements_of(TABLE, cube, list, 512); }
 static void with_rank(void) { desk_subelements_with_rank(TABLE, cube, 1, list, 512); }
 static void vertex_set(void) { desk_vertex_set(TABLE, cube, list, 512); }
@@ -31,7 +38,7 @@ static const struct {
 } calls[] = {
     {"desk_is_sound", is_sound},
     {"desk_cube", new_cube},
-    {"desk_cut", diagonal_cut},
+    {"desk_cut", two_cuts},
     {"desk_subelements_of", sub_elements},
     {"desk_subelements_with_rank", with_rank},
     {"desk_vertex_set", vertex_set},

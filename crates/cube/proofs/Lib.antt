@@ -1,3 +1,4 @@
 pub mod CubeRows
 pub mod CubeEntries
 pub mod CubeReplies
+pub mod Written

@@ -28,7 +28,7 @@ use Rattle.rules.proofs.StaysCut.{Facts, facts, ranked-get, element-stays, boun
 use Rattle.space.specs.Chains.{Indexed}
 use Rattle.space.proofs.Room.{listOf, size-bound, list-bound, size-word, list-word}
 use Rattle.space.proofs.Slices.{slices}
-use Rattle.gathered.specs.Sets.{Answers, Gathers, Sized, NothingYet, GatheredIn, OutputInRoom}
+use Rattle.gathered.specs.Sets.{Answers, Gathers, Sized, NothingYet, AnswerGathered, OutputInRoom}
 use Rattle.gathered.specs.Cutting.{cutOf, Fit, Rule6Fit, Rule6Ready, Rule6Done}
 use Rattle.rules.specs.declared.Cutter.{Cutter}
 use Rattle.cut.specs.Known.{Knows, HoldsKnown, ReplyInRoom, KeepReady, ReplyKept, outputAt, replyOf}
@@ -221,7 +221,7 @@ module _ {r : ℕ} (more : 1 < r) {e : ℕ} {k : Cutter} {cs₀ : List ℕ} {ps�
             let f = fit-next (R .fit) (R .knows) l b read in
             subst ReplyInRoom yes (reply-in-room f (λ u H. H .holds .fits .elementRoom) (C .of (R .planes) (N .table) f (N .knows)))
 
-        pub going-on : (s′ : Answers) → GatheredIn s b a s′ → Going r more e k cs₀ ps₀ es₀ ms₀ (i + 1) s′ cs′ ps′ es′ ms′
+        pub going-on : (s′ : Answers) → AnswerGathered s b a s′ → Going r more e k cs₀ ps₀ es₀ ms₀ (i + 1) s′ cs′ ps′ es′ ms′
         going-on s′ D = record { of = λ hs t F K. go hs t F K (came F K) }
           where
             go : (hs : List Float) (t : Table) (F : Fit cs₀ ps₀ hs es₀ r e k t) (K : Knows k ms₀ t) → Ended F K → At r more e k hs t (i + 1) s′ cs′ ps′ es′ ms′
@@ -343,7 +343,7 @@ module _ {cs : List ℕ} {ps : List Float} {es ms : List ℕ} {r e : ℕ} {k : C
           ∙ ap₂ (λ (d : ℕ) (y : Element). rule6 desk (cutOf d k) y (E .gathered) (E .gathered .flush) (E .table)) (sym (E .extends .dimension))
           (sym (element-same t (E .table) e (E .extends) (F .used)))
 
-      answered : {x : CutReply} {cs″ es″ : List ℕ} → Rule6Done cs′ es′ r e k s x cs″ es″
+      answered : {x : CutReply} {cs″ es″ ix″ : List ℕ} → Rule6Done cs′ es′ r e k s x cs″ es″ ix″
           → Came reply.Answered reply.Refused (Holds desk cs″ ps′ hs es″) t (cutElement desk (cutOf (t .dimension) k) r e t) x
       answered {x} {cs″} {es″} D = came (D .of ps′ hs (E .table) (E .gathered) (E .ready))
         where
@@ -352,17 +352,17 @@ module _ {cs : List ℕ} {ps : List Float} {es ms : List ℕ} {r e : ℕ} {k : C
           came (held.went a u o w H) = held.went a u (whole ∙ o) w H
           came (held.stopped j u o w y H) = held.stopped j u (whole ∙ o) w (extends-trans (E .extends) y) H
 
-    pub rule6-ready : {ix : List ℕ} → AskReady cs ps es ix ms r e k → Rule6Ready cs′ es′ r e k s
+    pub rule6-ready : {ix : List ℕ} → AskReady cs ps es ix ms r e k → Rule6Ready cs′ es′ ix′ r e k s
     rule6-ready R =
         let E = end (R .planes) (R .table) (R .fit) (R .knows) in
-        record { points = ps′; planes = R .planes; table = E .table; gathered = E .gathered; fit = E .ready }
+        record { points = ps′; planes = R .planes; table = E .table; gathered = E .gathered; fit = E .ready; indexed = B .indexed }
 
-    module _ {x : CutReply} {cs″ es″ : List ℕ} (D : Rule6Done cs′ es′ r e k s x cs″ es″) where
+    module _ {x : CutReply} {cs″ es″ ix″ : List ℕ} (D : Rule6Done cs′ es′ r e k s x cs″ es″ ix″) where
       pub element-keep : {ix : List ℕ} → AskReady cs ps es ix ms r e k → KeepReady e x
       element-keep R = record { low = ask-low R; room = reply-in-room (R .fit) (λ u H. H .fits .elementRoom) (answered (R .planes) (R .table) (R .fit) (R .knows) D) }
 
-      pub element-answered : {ix″ : List ℕ} {z : Asked} {ms″ : List ℕ} → Indexed es″ (getD cs″ 1 0) ix″ → ReplyKept ms′ e x z ms″ → ElementAsked cs ps es ms r e k z cs″ ps′ es″ ix″ ms″
-      element-answered {ix″} {z} {ms″} X N = record { of = λ hs t F K. go hs t F K (D .of ps′ hs (E hs t F K .table) (E hs t F K .gathered) (E hs t F K .ready)); indexed = X }
+      pub element-answered : {z : Asked} {ms″ : List ℕ} → ReplyKept ms′ e x z ms″ → ElementAsked cs ps es ms r e k z cs″ ps′ es″ ix″ ms″
+      element-answered {z} {ms″} N = record { of = λ hs t F K. go hs t F K (D .of ps′ hs (E hs t F K .table) (E hs t F K .gathered) (E hs t F K .ready)); indexed = D .indexed }
         where
           go : (hs : List Float) (t : Table) (F : Fit cs ps hs es r e k t) (K : Knows k ms t)
               → Came reply.Answered reply.Refused (Holds desk cs″ ps′ hs es″) (E hs t F K .table) (answers hs t F K) x

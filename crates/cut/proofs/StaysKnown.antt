@@ -70,7 +70,7 @@ module _ (k : Cutter) (e : ℕ) (a : ElementCutOutput) {t u : Table} (g : Good d
 
       go : (b : ElementCutOutput) → OutputIn b (elementCount u) → OutputInRoom b
       go Flush h = tt
-      go (NonFlush i j x) h = (one i (h .0), one j (h .1), one x (h .2))
+      go (NonFlush i j x) h = record { inside = one i (h .0); outside = one j (h .1); intersection = one x (h .2) }
 
   -- its answer is kept
   pub knows-more : {ms : List ℕ} → e < 512 → Knows k ms u → Knows k (withAnswer ms e a) u

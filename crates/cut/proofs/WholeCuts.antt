@@ -25,7 +25,7 @@ use Rattle.rules.proofs.Laws.{le-test}
 use Rattle.rules.proofs.Missed.{Unmoved, plane-unmoved}
 use Rattle.rules.proofs.Stays.{Stays, Kept, plane-stays}
 use Rattle.space.specs.Shared.{HyperplaneAdded, hyperplaneAt}
-use Rattle.space.specs.Ready.{HyperplaneReady, RestoreReady}
+use Rattle.space.specs.Ready.{ElementReady, HyperplaneReady, RestoreReady}
 use Rattle.space.specs.Restored.{Restored}
 use Rattle.space.specs.declared.memo.PlacedHyperplane.{PlacedHyperplane}
 use Rattle.space.specs.declared.memo.PlacedHyperplane.the-variants as hyperplane
@@ -77,8 +77,8 @@ module _ {cs : List ℕ} {ps hs : List Float} {es : List ℕ} {h : Hyperplane} {
   pub root-low : {ix : List ℕ} → CutReady cs ps hs es ix h root → root < 512
   root-low R = le-trans (R .fit .used) (R .fit .holds .fits .elementRoom)
 
-  pub rank-asked : {ix : List ℕ} → CutReady cs ps hs es ix h root → (length es ≡ 18432) × (root < 512)
-  rank-asked R = (slices (R .fit .holds) .elements, root-low R)
+  pub rank-asked : {ix : List ℕ} → CutReady cs ps hs es ix h root → ElementReady es root
+  rank-asked R = record { elements = slices (R .fit .holds) .elements; room = root-low R }
 
   module _ {x : PlacedHyperplane} {cs₁ : List ℕ} {hs₁ : List Float} (P : HyperplaneAdded cs hs h x cs₁ hs₁) where
     added : {t : Table} → CutFit cs ps hs es h root t → Added ps es h x cs₁ hs₁ t

@@ -14,7 +14,7 @@ use Rattle.rules.specs.declared.ElementCutOutput.the-variants.{Flush, NonFlush}
 use Rattle.rules.specs.declared.ElementId.{ElementId}
 use Rattle.rules.specs.declared.CutReply.{CutReply}
 use Rattle.rules.specs.declared.CutReply.the-variants as reply
-use Rattle.gathered.specs.Sets.{InRoom}
+use Rattle.gathered.specs.Sets.{SidesInRoom}
 use Rattle.cut.specs.Known.{wordOf, someOf, outputOf, knownAt, outputAt, threeAt, withAnswer, withReply, ReplyInRoom, askedBy}
 use Rattle.cut.specs.declared.known.Asked.the-variants as asked
 
@@ -164,5 +164,5 @@ asked-refused x n q = ap askedBy (sym q)
 pub asked-done : (x : CutReply) (a : ElementCutOutput) → x ≡ reply.Answered a → asked.Done ≡ askedBy x
 asked-done x a q = ap askedBy (sym q)
 
-pub reply-room : (x : CutReply) (a : ElementCutOutput) (i o y : ElementOrNone) → x ≡ reply.Answered a → a ≡ NonFlush i o y → ReplyInRoom x → InRoom i × InRoom o × InRoom y
+pub reply-room : (x : CutReply) (a : ElementCutOutput) (i o y : ElementOrNone) → x ≡ reply.Answered a → a ≡ NonFlush i o y → ReplyInRoom x → SidesInRoom i o y
 reply-room x a i o y q p h = subst ReplyInRoom (q ∙ ap reply.Answered p) h

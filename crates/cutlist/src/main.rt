@@ -8,9 +8,8 @@ use space::words::ELEMENT_WORDS;
 use space::words::PLANE_FLOATS;
 use space::words::POINT_FLOATS;
 ghost use Prim.Native.Nat.{_+_, _≤_};
-ghost use mathlib.Core.Path.{_≡_};
 ghost use lib.ListN.{length};
-ghost use Rattle.cutlist.specs.Places.{InBlock};
+ghost use Rattle.cutlist.specs.Places.{AboveNeither, InBlock, InBlocks, InOrder, BlockFilled, LineWritten, Flushed, BetweenBlocks};
 
 // How many bytes are read or written at a time.
 const BLOCK: usize = 65536;
@@ -32,7 +31,7 @@ struct Place {
 }
 
 fn least(a: usize, b: usize) -> usize
-    ensures { λ r. ⌜ (r ≤ a) × (r ≤ b) ⌝ }
+    ensures { λ r. ⌜ AboveNeither r a b ⌝ }
 {
     if a < b { a } else { b }
 }
@@ -49,7 +48,7 @@ fn to_front(input: &mut [u8], from: usize, n: usize)
 // Behind the rest of the block goes what there is to read; nothing is the end of the session.
 fn fill(at: Place, input: &mut [u8]) -> Place
     requires { ⌜ InBlock at (length (now input)) ⌝ }
-    ensures { λ r. ⌜ InBlock r (length (now (input .exit))) × (r .line ≡ at .line) ⌝ }
+    ensures { λ r. ⌜ BlockFilled at (length (now (input .exit))) r ⌝ }
 {
     let from = at.from;
     let rest = at.end - from;
@@ -75,7 +74,7 @@ fn fill(at: Place, input: &mut [u8]) -> Place
 
 // Whether there is a whole record, or the last one, and room for its line.
 fn is_ready(at: Place, room: usize) -> bool
-    requires { ⌜ (at .from ≤ at .end) × (at .line ≤ room) ⌝ }
+    requires { ⌜ InOrder at room ⌝ }
 {
     let rest = at.end - at.from;
     if at.is_stopped || room - at.line < LINE {
@@ -86,8 +85,8 @@ fn is_ready(at: Place, room: usize) -> bool
 
 // The record was taken: the next one, and the next line. The library reads and writes no more than it was lent.
 fn go_on(at: Place, room: usize, record: usize, line: usize, stands: bool) -> Place
-    requires { ⌜ (at .from ≤ at .end) × (at .line ≤ room) ⌝ }
-    ensures { λ r. ⌜ InBlock r (at .end) × (r .line ≤ room) ⌝ }
+    requires { ⌜ InOrder at room ⌝ }
+    ensures { λ r. ⌜ InBlocks r (at .end) room ⌝ }
 {
     let read = least(record, at.end - at.from);
     let written = least(line, room - at.line);
@@ -105,7 +104,7 @@ fn go_on(at: Place, room: usize, record: usize, line: usize, stands: bool) -> Pl
 // The record is bad: its line is the last.
 fn stop(at: Place, output: &mut [u8]) -> Place
     requires { ⌜ at .line ≤ length (now output) ⌝ }
-    ensures { λ r. ⌜ (r .from ≡ at .from) × (r .end ≡ at .end) × (r .line ≤ length (now (output .exit))) ⌝ }
+    ensures { λ r. ⌜ LineWritten at (length (now (output .exit))) r ⌝ }
 {
     let line = at.line;
     let room = output.len() - line;
@@ -130,8 +129,8 @@ fn one(
     planes: &mut [f64],
     elements: &mut [u16],
 ) -> Place
-    requires { ⌜ InBlock at (length (now input)) × (at .line ≤ length (now output)) ⌝ }
-    ensures { λ r. ⌜ InBlock r (length (now (input .entry))) × (r .line ≤ length (now (output .exit))) ⌝ }
+    requires { ⌜ InBlocks at (length (now input)) (length (now output)) ⌝ }
+    ensures { λ r. ⌜ InBlocks r (length (now (input .entry))) (length (now (output .exit))) ⌝ }
 {
     let from = at.from;
     let end = at.end;
@@ -167,8 +166,8 @@ fn records(
     planes: &mut [f64],
     elements: &mut [u16],
 ) -> Place
-    requires { ⌜ InBlock start (length (now input)) × (start .line ≤ length (now output)) ⌝ }
-    ensures { λ r. ⌜ InBlock r (length (now (input .entry))) × (r .line ≤ length (now (output .exit))) ⌝ }
+    requires { ⌜ InBlocks start (length (now input)) (length (now output)) ⌝ }
+    ensures { λ r. ⌜ InBlocks r (length (now (input .entry))) (length (now (output .exit))) ⌝ }
 {
     let mut at = start;
     let mut left = BLOCK;
@@ -182,7 +181,7 @@ fn records(
 // The lines so far are written out. Where they cannot be, or where nothing is left, the program stops.
 fn flush(at: Place, output: &[u8]) -> Place
     requires { ⌜ at .line ≤ length (now output) ⌝ }
-    ensures { λ r. ⌜ (r .from ≡ at .from) × (r .end ≡ at .end) × (r .line ≡ 0) ⌝ }
+    ensures { λ r. ⌜ Flushed at r ⌝ }
 {
     let line = at.line;
     let is_written = io::write_all(STDOUT_FILENO, &output[..line]);
@@ -214,8 +213,8 @@ fn block(
     planes: &mut [f64],
     elements: &mut [u16],
 ) -> Place
-    requires { ⌜ InBlock at (length (now input)) × (at .line ≡ 0) ⌝ }
-    ensures { λ r. ⌜ InBlock r (length (now (input .exit))) × (r .line ≡ 0) ⌝ }
+    requires { ⌜ BetweenBlocks at (length (now input)) ⌝ }
+    ensures { λ r. ⌜ BetweenBlocks r (length (now (input .exit))) ⌝ }
 {
     let filled = fill(at, input);
     let gone = records(filled, input, output, counts, points, planes, elements);

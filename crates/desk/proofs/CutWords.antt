@@ -17,15 +17,19 @@ use Rattle.rules.specs.declared.ElementCutOutput.the-variants.{Flush, NonFlush}
 use Rattle.rules.specs.declared.CutReply.{CutReply}
 use Rattle.rules.specs.declared.CutReply.the-variants.{Refused, Answered}
 use Rattle.rules.proofs.Laws.{test-eq, not-eq}
+use Rattle.space.specs.Numbers.{NumberBelow}
 use Rattle.desk.specs.Words.{elementWord, outputWord, cutWord, keptBy}
 
 -- ---- one number
 
-pub word-none : (e : ElementOrNone) → e ≡ None → (0xffff ≡ elementWord e) × (0xffff < 65536)
-word-none e q = (sym (ap elementWord q), lit≤ tt)
+pub word-none : (e : ElementOrNone) → e ≡ None → NumberBelow 0xffff (elementWord e) 65536
+word-none e q = record { value = sym (ap elementWord q); bound = lit≤ tt }
 
-pub word-some : (e : ElementOrNone) (id : ElementId) → e ≡ Some id → OneBelow (desk .elements) e → (id .0 ≡ elementWord e) × (id .0 < 65536)
-word-some e id q h = (sym (ap elementWord q), (let l : id .0 < desk .elements = subst (OneBelow (desk .elements)) q h in let z : id .0 < 65536 = omega (arith, l) in z))
+pub word-some : (e : ElementOrNone) (id : ElementId) → e ≡ Some id → OneBelow (desk .elements) e → NumberBelow (id .0) (elementWord e) 65536
+word-some e id q h = record {
+  value = sym (ap elementWord q);
+  bound = (let l : id .0 < desk .elements = subst (OneBelow (desk .elements)) q h in let z : id .0 < 65536 = omega (arith, l) in z);
+}
 
 pub kept-none : (n : ℕ) → n ≡ 0 → false ≡ keptBy n
 kept-none n q = sym (ap not (test-eq n 0 q))

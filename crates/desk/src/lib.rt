@@ -9,12 +9,12 @@ use rules::Hyperplane;
 use rules::ListReply;
 use rules::PolytopeFate;
 use walk::facet;
-ghost use Prim.Native.Nat.{_<_};
 ghost use mathlib.Core.Path.{_≡_};
 ghost use Rattle.rules.specs.Limits.{desk};
 ghost use Rattle.rules.specs.Held.{memoryOf};
 ghost use Rattle.rules.specs.Replies.{isKept, isSoundReply, cubeReply, cutReply, subElementsReply, withRankReply, vertexSetReply, greatestCommonReply, edgesInOrderReply, primordialFacetReply};
 ghost use Rattle.rules.specs.Promises.{OneBelow, NamesBelow};
+ghost use Rattle.space.specs.Numbers.{NumberBelow};
 ghost use Rattle.desk.specs.Words.{elementWord, outputWord, cutWord, sizeWord, SizeFits, listWord, facetWord, dividerWith, keptBy, rankByte};
 
 // 0 removes a side, and any other number keeps it.
@@ -39,7 +39,7 @@ fn rank_byte(rank: u32) -> u8
 
 fn element_word(e: ElementOrNone) -> u64
     requires { ⌜ OneBelow (desk .elements) e ⌝ }
-    ensures { λ r. ⌜ (r ≡ elementWord e) × (r < 65536) ⌝ }
+    ensures { λ r. ⌜ NumberBelow r (elementWord e) 65536 ⌝ }
 {
     match e {
         ElementOrNone::None => 0xffff,

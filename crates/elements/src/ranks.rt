@@ -8,13 +8,13 @@ use crate::marks::size;
 use rules::ElementId;
 use space::rows::rank_of;
 use space::words::ELEMENTS;
-ghost use Prim.Native.Nat.{_<_};
 ghost use mathlib.Core.Path.{_≡_};
 ghost use lib.ListN.{length};
+ghost use Rattle.space.specs.Ready.{ElementReady};
 ghost use Rattle.elements.specs.Ranks.{oneMore, OfRank, Greatest};
 
 fn add_ranked(elements: &[u16], set: &[u64; 8], rank: usize, e: ElementId, out: &mut [u64; 8])
-    requires { ⌜ (length (now elements) ≡ 18432) × (e .0 < 512) ⌝ }
+    requires { ⌜ ElementReady (now elements) (e .0) ⌝ }
     ensures { λ _. ⌜ now (out .exit) ≡ oneMore (now (elements .entry)) (now (set .entry)) rank (e .0) (now (out .entry)) ⌝ }
 {
     if !marked(set, e.0) {

@@ -28,20 +28,21 @@ use Rattle.rules.proofs.Stays.{Kept, Stays}
 use Rattle.rules.proofs.StaysCut.{Facts, facts, ranked-get, crossing-sound, cross-stays}
 use Rattle.hypermath.specs.Answers.{distanceTo}
 use Rattle.space.specs.Found.{placedAt}
-use Rattle.space.specs.Ready.{VertexReady}
+use Rattle.space.specs.Chains.{Indexed}
+use Rattle.space.specs.Ready.{BoundaryAtReady, VertexReady}
 use Rattle.space.specs.Shared.{VertexAdded}
 use Rattle.space.specs.declared.rows.Placed.{Placed}
 use Rattle.space.specs.declared.rows.Placed.the-variants as placed
 use Rattle.space.proofs.Room.{listOf, list-bound, list-word}
 use Rattle.space.proofs.VertexMemo.{dimension-is}
 use Rattle.space.proofs.Slices.{slices}
-use Rattle.gathered.specs.Sets.{Answers, answersIn, Gathers, Sized, NothingYet, OutputInRoom, GatheredIn}
+use Rattle.gathered.specs.Sets.{Answers, answersIn, Gathers, Sized, NothingYet, OutputInRoom, AnswerGathered}
 use Rattle.gathered.specs.Cutting.{Fit, cutOf, Rule6Fit, Rule6Ready, Rule6Done}
 use Rattle.rules.specs.declared.Cutter.{Cutter}
 use Rattle.gathered.proofs.Gathering.{at-most, said-count, said-last, said-long}
-use Rattle.ends.specs.Ends.{PointAsked, EndsReady, EndsRead, EndsAsked, endsOf, EndsGathered, crossedOf, afterEnds, CrossedFit, CrossedReady, CrossedAsked, CrossedCut}
+use Rattle.ends.specs.Ends.{PointAsked, EndsReady, EndsRead, EndsAsked, endsOf, EndsGathered, crossedOf, afterEnds, CrossedFit, CrossedReady, CrossedAsked, CrossedCut, CrossedLeft}
 use Rattle.ends.specs.declared.EdgeEnds.{EdgeEnds}
-use Rattle.ends.specs.Elements.{Ready, ElementCut, LowLeft}
+use Rattle.ends.specs.Elements.{Ready, ElementCut, LowAsked, LowLeft}
 use Rattle.ends.proofs.Vertices as vertex
 
 -- ---- what is gathered
@@ -58,20 +59,20 @@ sized-more i m h z = record {
 
 -- an end answers with itself or with nothing
 corner-room : (a : ℕ) (side : Side) → a < 512 → OutputInRoom (cornerAnswer a side)
-corner-room a Inside h = (h, tt, tt)
+corner-room a Inside h = record { inside = h; outside = tt; intersection = tt }
 corner-room a On h = tt
-corner-room a Outside h = (tt, h, tt)
+corner-room a Outside h = record { inside = tt; outside = h; intersection = tt }
 
 -- so does the code
 pub answer-room : {y : ElementCutOutput} (a : ℕ) (s : Float) → a < 512 → y ≡ cornerAnswer a (sideOf s) → OutputInRoom y
 answer-room a s h q = subst OutputInRoom (sym q) (corner-room a (sideOf s) h)
 
 -- the two ends in turn, from words that hold no answer
-pub ends-gathered : {s s₁ s₂ : Answers} {x y : ElementCutOutput} (a b : ℕ) (sa sb : Float) → NothingYet s → x ≡ cornerAnswer a (sideOf sa) → GatheredIn s a x s₁
-    → y ≡ cornerAnswer b (sideOf sb) → GatheredIn s₁ b y s₂ → EndsGathered a b sa sb s₂
+pub ends-gathered : {s s₁ s₂ : Answers} {x y : ElementCutOutput} (a b : ℕ) (sa sb : Float) → NothingYet s → x ≡ cornerAnswer a (sideOf sa) → AnswerGathered s a x s₁
+    → y ≡ cornerAnswer b (sideOf sb) → AnswerGathered s₁ b y s₂ → EndsGathered a b sa sb s₂
 ends-gathered {s} {s₁} {s₂} a b sa sb N qx X qy Y =
-    let first : GatheredIn s a (cornerAnswer a (sideOf sa)) s₁ = subst (λ (z : ElementCutOutput). GatheredIn s a z s₁) qx X in
-    let second : GatheredIn s₁ b (cornerAnswer b (sideOf sb)) s₂ = subst (λ (z : ElementCutOutput). GatheredIn s₁ b z s₂) qy Y in
+    let first : AnswerGathered s a (cornerAnswer a (sideOf sa)) s₁ = subst (λ (z : ElementCutOutput). AnswerGathered s a z s₁) qx X in
+    let second : AnswerGathered s₁ b (cornerAnswer b (sideOf sb)) s₂ = subst (λ (z : ElementCutOutput). AnswerGathered s₁ b z s₂) qy Y in
     record { of = second .of _ (first .of _ (N .of)); sized = second .sized 1 (first .sized 0 (N .sized)) }
 
 -- whatever is gathered: that, with vertex element v as the flush one
@@ -189,14 +190,17 @@ module _ {cs : List ℕ} {ps : List Float} {es : List ℕ} {e : ℕ} {k : Cutter
     crossed-low R = left-low (R .fit) (v .0) (left (R .fit) (v .0) h)
 
     module _ {s′ : Answers} (C : Crossed s (v .0) s′) where
-      pub crossed-ready : CrossedReady cs ps es e k s x → Rule6Ready cs′ es′ 1 e k s′
-      crossed-ready R =
+      pub crossed-ready : {ix′ : List ℕ} → CrossedReady cs ps es e k s x → Indexed es′ (getD cs′ 1 0) ix′ → Rule6Ready cs′ es′ ix′ 1 e k s′
+      crossed-ready R indexed =
           let Q = left (R .fit) (v .0) h in
-          record { points = ps′; planes = R .planes; table = Q .table; gathered = crossedOf (v .0) (R .gathered); fit = left-ready (R .fit) (v .0) Q C }
+          record { points = ps′; planes = R .planes; table = Q .table; gathered = crossedOf (v .0) (R .gathered); fit = left-ready (R .fit) (v .0) Q C; indexed = indexed }
 
-      pub crossed-done : {y : CutReply} {cs″ es″ : List ℕ} → Rule6Done cs′ es′ 1 e k s′ y cs″ es″ → CrossedCut cs ps es e k s x y cs″ ps′ es″
+      pub crossed-done : {y : CutReply} {cs″ es″ ix″ : List ℕ} → Rule6Done cs′ es′ 1 e k s′ y cs″ es″ ix″ → CrossedLeft cs ps es e k s x y cs″ ps′ es″ ix″
       crossed-done D = record {
-        of = λ hs t p q f g X. (let Q = left X (v .0) h in after-left X (v .0) Q (D .of ps′ hs (Q .table) (crossedOf (v .0) g) (left-ready X (v .0) Q C)));
+        cut = record {
+          of = λ hs t p q f g X. (let Q = left X (v .0) h in after-left X (v .0) Q (D .of ps′ hs (Q .table) (crossedOf (v .0) g) (left-ready X (v .0) Q C)));
+        };
+        indexed = D .indexed;
       }
 
 -- ---- what is read of an edge
@@ -232,8 +236,12 @@ pub ends-ready : {cs : List ℕ} {ps : List Float} {es : List ℕ} {e : ℕ} {k 
 ends-ready {cs} {k = k} R = record { counts = cs; planes = R .planes; cutter = k; table = R .table; fit = R .fit }
 
 module _ {ps : List Float} {es : List ℕ} {e : ℕ} (R : EndsReady ps es e) where
-  pub number-asked : (i : ℕ) → i < 2 → (length es ≡ 18432) × (e < 512) × (i < 32)
-  number-asked i l = (slices (R .fit .holds) .elements, le-trans (R .fit .used) (R .fit .holds .fits .elementRoom), (let z : i < 32 = omega (arith, l) in z))
+  pub number-asked : (i : ℕ) → i < 2 → BoundaryAtReady es e i
+  number-asked i l = record {
+    elements = slices (R .fit .holds) .elements;
+    room = le-trans (R .fit .used) (R .fit .holds .fits .elementRoom);
+    place = (let z : i < desk .boundary = omega (arith, l) in z);
+  }
 
   pub end-asked : (i x : ℕ) → i < 2 → x ≡ getD es (e * 36 + (4 + i)) 0 → PointAsked ps es x
   end-asked i x l h = vertex.point-asked (end-fit (R .fit) i x l h)
@@ -292,15 +300,25 @@ module _ (k : Cutter) (d : ℕ) (r : EdgeEnds) (sa sb : Float) where
       missed-fit : {hs : List Float} {t : Table} → Fit cs ps hs es 1 e k t → Rule6Fit cs ps hs es 1 e k s t answered
       missed-fit F = record { fit = F; some = lit≤ tt; gathers = G .of; sized = sized-more 2 32 (lit≤ tt) (G .sized); sets = ends-sets F }
 
-      pub missed-ready : Ready cs ps es 1 e k → Rule6Ready cs es 1 e k s
-      missed-ready R = record { points = ps; planes = R .planes; table = R .table; gathered = answered; fit = missed-fit (R .fit) }
+      pub missed-ready : {ix : List ℕ} → LowAsked cs ps es ix 1 e k → Rule6Ready cs es ix 1 e k s
+      missed-ready A = record {
+        points = ps;
+        planes = A .ready .planes;
+        table = A .ready .table;
+        gathered = answered;
+        fit = missed-fit (A .ready .fit);
+        indexed = A .indexed;
+      }
 
-      pub missed-cut : {y : CutReply} {cs′ es′ : List ℕ} → (z : Crossing) → z ≡ tested d k r → z ≡ NoCrossing → Rule6Done cs es 1 e k s y cs′ es′
-          → ElementCut cs ps es 1 e k y cs′ ps es′
+      pub missed-cut : {y : CutReply} {cs′ es′ ix′ : List ℕ} → (z : Crossing) → z ≡ tested d k r → z ≡ NoCrossing → Rule6Done cs es 1 e k s y cs′ es′ ix′
+          → LowLeft cs ps es 1 e k y cs′ ps es′ ix′
       missed-cut {y} {cs′} {es′} z h m D = record {
-        of = λ hs t F.
-            subst (λ (o : Outcome ElementCutOutput). Came reply.Answered reply.Refused (Holds desk cs′ ps hs es′) t o y) (sym (opened F NoCrossing (sym m ∙ h)))
-            (D .of ps hs t answered (missed-fit F));
+        cut = record {
+          of = λ hs t F.
+              subst (λ (o : Outcome ElementCutOutput). Came reply.Answered reply.Refused (Holds desk cs′ ps hs es′) t o y) (sym (opened F NoCrossing (sym m ∙ h)))
+              (D .of ps hs t answered (missed-fit F));
+        };
+        indexed = D .indexed;
       }
 
       -- a crossing at parameter f

@@ -214,9 +214,10 @@ module _ {cs es : List ℕ} {r e : ℕ} {k : Cutter} {s : Answers} {ps hs : List
       (test-le (suc (r - 1)) (t .dimension) (subst (λ (q : ℕ). q ≤ t .dimension) n (f .low))) (f .sets))
 
 module _ {cs es : List ℕ} {r e : ℕ} {k : Cutter} {s : Answers} where
-  pub rule6-flush : 1 < getD (s .flush) 0 0 → Rule6Done cs es r e k s (reply.Answered Flush) cs es
-  rule6-flush h = record {
+  pub rule6-flush : 1 < getD (s .flush) 0 0 → {ix : List ℕ} → Indexed es (getD cs 1 0) ix → Rule6Done cs es r e k s (reply.Answered Flush) cs es ix
+  rule6-flush h indexed = record {
     of = λ ps hs t g F. went Flush t (many-flush (cutOf (t .dimension) k) (element t e) g (g .flush) t (le-trans h (le-of-eq (F .gathers .flushes)))) refl (F .fit .holds);
+    indexed = indexed;
   }
 
   -- exactly one
@@ -229,20 +230,21 @@ module _ {cs es : List ℕ} {r e : ℕ} {k : Cutter} {s : Answers} where
         rule7-fit F (here (F .fit) (F .some)) (given f)
         (subst (λ (n : ℕ). Ranked t n f) (sym (rank-before r (F .some))) (subst (AllOf (Ranked t (suc (r - 1)))) (sole F) (F .sets .flush) .0))
 
-    pub flush-ready : {ix : List ℕ} → Rule6Ready cs es r e k s → Indexed es (getD cs 1 0) ix → Rule7Ready cs es ix r e k (s .inside) (s .outside) (given f)
-    flush-ready R indexed = record { points = R .points; planes = R .planes; table = R .table; gathered = R .gathered; fit = flush-fit (R .fit); indexed = indexed }
+    pub flush-ready : {ix : List ℕ} → Rule6Ready cs es ix r e k s → Rule7Ready cs es ix r e k (s .inside) (s .outside) (given f)
+    flush-ready R = record { points = R .points; planes = R .planes; table = R .table; gathered = R .gathered; fit = flush-fit (R .fit); indexed = R .indexed }
 
-    pub rule6-one : {y : CutReply} {cs′ es′ ix′ : List ℕ} → Rule7Done cs es r e k (s .inside) (s .outside) (given f) y cs′ es′ ix′ → Rule6Done cs es r e k s y cs′ es′
+    pub rule6-one : {y : CutReply} {cs′ es′ ix′ : List ℕ} → Rule7Done cs es r e k (s .inside) (s .outside) (given f) y cs′ es′ ix′ → Rule6Done cs es r e k s y cs′ es′ ix′
     unfolding rule6
     rule6-one {y} {cs′} {es′} D = record {
       of = λ ps hs t g F.
           subst (λ (fs : List ℕ). Came reply.Answered reply.Refused (Holds desk cs′ ps hs es′) t (rule6 desk (cutOf (t .dimension) k) (element t e) g fs t) y) (sym (sole F))
           (D .of ps hs t g (flush-fit F));
+      indexed = D .indexed;
     }
 
   -- none
-  pub intersection-ready : {ix : List ℕ} → Rule6Ready cs es r e k s → Indexed es (getD cs 1 0) ix → IntersectionReady cs es ix r k (s .intersections)
-  intersection-ready R indexed = record { points = R .points; planes = R .planes; table = R .table; fit = intersection-fit (R .fit); indexed = indexed }
+  pub intersection-ready : {ix : List ℕ} → Rule6Ready cs es ix r e k s → IntersectionReady cs es ix r k (s .intersections)
+  intersection-ready R = record { points = R .points; planes = R .planes; table = R .table; fit = intersection-fit (R .fit); indexed = R .indexed }
 
   module _ (h : getD (s .flush) 0 0 ≤ 1) (n : getD (s .flush) 0 0 ≡ 1 → ⊥) {y : Added} {cs₁ es₁ ix₁ : List ℕ}
       (M : IntersectionMade cs es r k (s .intersections) y cs₁ es₁ ix₁) where
@@ -267,8 +269,8 @@ module _ {cs es : List ℕ} {r e : ℕ} {k : Cutter} {s : Answers} where
       by-none {z} {cs₂} {es₂} c =
           subst (λ (fs : List ℕ). Came reply.Answered reply.Refused (Holds desk cs₂ ps hs es₂) t (rule6 desk (cutOf (t .dimension) k) (element t e) g fs t) z) (none-flush F) c
 
-    pub intersection-refused : (j : ℕ) → y ≡ added.Refused j → Rule6Done cs es r e k s (reply.Refused j) cs₁ es₁
-    intersection-refused j q = record { of = λ ps hs t g F. by-none F (came-refused j _ q (middle F)) }
+    pub intersection-refused : (j : ℕ) → y ≡ added.Refused j → Rule6Done cs es r e k s (reply.Refused j) cs₁ es₁ ix₁
+    intersection-refused j q = record { of = λ ps hs t g F. by-none F (came-refused j _ q (middle F)); indexed = M .indexed }
 
     module _ (x : ElementOrNone) (q : y ≡ added.Made x) where
       -- the table after the intersection
@@ -280,12 +282,12 @@ module _ {cs es : List ℕ} {r e : ℕ} {k : Cutter} {s : Answers} where
           let U : Later cs₁ ps hs es₁ t (m .table) = record { extends = K .extends; good = K .good; holds = m .holds } in
           (m .table, m .made, U, rule7-fit F U x (K .value))
 
-      pub intersection-known : Rule6Ready cs es r e k s → Rule7Ready cs₁ es₁ ix₁ r e k (s .inside) (s .outside) x
+      pub intersection-known : {ix : List ℕ} → Rule6Ready cs es ix r e k s → Rule7Ready cs₁ es₁ ix₁ r e k (s .inside) (s .outside) x
       intersection-known R =
           let m = crossed (R .fit) in
           record { points = R .points; planes = R .planes; table = m .0; gathered = R .gathered; fit = m .3; indexed = M .indexed }
 
-      pub rule6-none : {z : CutReply} {cs₂ es₂ ix₂ : List ℕ} → Rule7Done cs₁ es₁ r e k (s .inside) (s .outside) x z cs₂ es₂ ix₂ → Rule6Done cs es r e k s z cs₂ es₂
+      pub rule6-none : {z : CutReply} {cs₂ es₂ ix₂ : List ℕ} → Rule7Done cs₁ es₁ r e k (s .inside) (s .outside) x z cs₂ es₂ ix₂ → Rule6Done cs es r e k s z cs₂ es₂ ix₂
       rule6-none {z} {cs₂} {es₂} D = record {
         of = λ ps hs t g F. (
             let m = crossed F in
@@ -294,4 +296,5 @@ module _ {cs es : List ℕ} {r e : ℕ} {k : Cutter} {s : Answers} where
             (subst (λ (o : Outcome ElementCutOutput). Came reply.Answered reply.Refused (Holds desk cs₂ ps hs es₂) (m .0) o z)
             (ap₂ (λ (d : ℕ) (v : Element). rule7 desk (cutOf d k) v g x (m .0)) (X .dimension) (element-same t (m .0) e X (F .fit .used))) (D .of ps hs (m .0) g (m .3))))
             );
+        indexed = D .indexed;
       }

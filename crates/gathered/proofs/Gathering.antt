@@ -14,7 +14,7 @@ use Rattle.rules.specs.declared.ElementOrNone.{ElementOrNone}
 use Rattle.rules.specs.declared.ElementOrNone.the-variants.{Some}
 use Rattle.rules.specs.declared.ElementCutOutput.{ElementCutOutput}
 use Rattle.rules.specs.declared.ElementCutOutput.the-variants.{Flush, NonFlush}
-use Rattle.gathered.specs.Sets.{answersIn, SizedSet, NothingYet, InRoom, IncludeReady, OutputInRoom, Included, GatheredIn}
+use Rattle.gathered.specs.Sets.{answersIn, SizedSet, NothingYet, InRoom, IncludeReady, SidesInRoom, OutputInRoom, Included, AnswerGathered}
 
 pub at-most : {s : List ℕ} (i m : ℕ) → i ≤ m → SizedSet s i → SizedSet s m
 at-most i m h z = record { most = le-trans (z .most) h; long = z .long }
@@ -53,8 +53,8 @@ flushed f b = set (set f 0 (getD f 0 0 + 1)) 1 b
 -- ---- an answer
 
 module _ (f i o x : List ℕ) (b : ℕ) (a : ElementCutOutput) where
-  pub gather-flush : length f ≡ 2 → a ≡ Flush → GatheredIn (answersIn f i o x) b a (answersIn (flushed f b) i o x)
-  gather-flush long e = subst (λ (y : ElementCutOutput). GatheredIn (answersIn f i o x) b y (answersIn (flushed f b) i o x)) (sym e) (record {
+  pub gather-flush : length f ≡ 2 → a ≡ Flush → AnswerGathered (answersIn f i o x) b a (answersIn (flushed f b) i o x)
+  gather-flush long e = subst (λ (y : ElementCutOutput). AnswerGathered (answersIn f i o x) b y (answersIn (flushed f b) i o x)) (sym e) (record {
     of = λ g G. record {
       flushes = said-count f (getD f 0 0 + 1) b long ∙ ap (λ (n : ℕ). n + 1) (G .flushes) ∙ add-one _;
       flush = said-last f (getD f 0 0 + 1) b long;
@@ -72,8 +72,8 @@ module _ (f i o x : List ℕ) (b : ℕ) (a : ElementCutOutput) where
   })
 
   pub gather-sides : (ei eo ex : ElementOrNone) (si so sx : List ℕ) → a ≡ NonFlush ei eo ex → Included i ei si → Included o eo so → Included x ex sx
-      → GatheredIn (answersIn f i o x) b a (answersIn f si so sx)
-  gather-sides ei eo ex si so sx e I O X = subst (λ (y : ElementCutOutput). GatheredIn (answersIn f i o x) b y (answersIn f si so sx)) (sym e) (record {
+      → AnswerGathered (answersIn f i o x) b a (answersIn f si so sx)
+  gather-sides ei eo ex si so sx e I O X = subst (λ (y : ElementCutOutput). AnswerGathered (answersIn f i o x) b y (answersIn f si so sx)) (sym e) (record {
     of = λ g G. record {
       flushes = G .flushes;
       flush = G .flush;
@@ -95,13 +95,8 @@ module _ (f i o x : List ℕ) (b : ℕ) (a : ElementCutOutput) where
 pub some-room : {p : ElementOrNone} (e : ElementId) → p ≡ Some e → InRoom p → e .0 < 512
 some-room e q h = subst InRoom q h
 
-pub record SidesInRoom (i o x : ElementOrNone) : Type 0 where
-  pub inside : InRoom i
-  pub outside : InRoom o
-  pub intersection : InRoom x
-
 pub sides-room : {a : ElementCutOutput} (i o x : ElementOrNone) → a ≡ NonFlush i o x → OutputInRoom a → SidesInRoom i o x
-sides-room i o x q h = let all = subst OutputInRoom q h in record { inside = all .0; outside = all .1; intersection = all .2 }
+sides-room i o x q h = subst OutputInRoom q h
 
 pub include-ready : {s : List ℕ} {p : ElementOrNone} → SizedSet s 31 → InRoom p → IncludeReady s p
 include-ready z h = record { sized = at-most 31 32 (lit≤ tt) z; room = h }

@@ -28,7 +28,7 @@ use Rattle.space.specs.declared.memo.Added.the-variants as added
 use Rattle.space.proofs.VertexMemo.{dimension-is}
 use Rattle.space.proofs.Slices.{slices}
 use Rattle.gathered.specs.Sets.{sizeIn, numbersIn}
-use Rattle.gathered.specs.Cutting.{cutOf, IntersectionFit, IntersectionReady, IntersectionMade}
+use Rattle.gathered.specs.Cutting.{cutOf, PlaneReady, IntersectionFit, IntersectionReady, IntersectionMade}
 use Rattle.rules.specs.declared.Cutter.{Cutter}
 use Rattle.gathered.proofs.Fitting.{low-of, edges-of, ends-low}
 
@@ -39,8 +39,8 @@ named n l false = refl
 
 module _ {cs es : List ℕ} {r : ℕ} {k : Cutter} {set : List ℕ} where
   -- what the calls ask for
-  pub plane-asks : {ix : List ℕ} → IntersectionReady cs es ix r k set → (length cs ≡ 4) × (k .number .0 < 64)
-  plane-asks R = (slices (R .fit .holds) .counts, le-trans (R .fit .plane) (R .fit .holds .fits .planeRoom))
+  pub plane-asks : {ix : List ℕ} → IntersectionReady cs es ix r k set → PlaneReady cs (k .number .0)
+  plane-asks R = record { counts = slices (R .fit .holds) .counts; room = le-trans (R .fit .plane) (R .fit .holds .fits .planeRoom) }
 
   -- n is the size of the set, as it was read
   pub intersection-asks : {ix : List ℕ} → IntersectionReady cs es ix r k set → (n : ℕ) → n ≡ sizeIn set → PolytopeReady cs es ix (r - 1) set n

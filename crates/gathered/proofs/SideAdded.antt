@@ -25,7 +25,7 @@ use Rattle.rules.proofs.Laws.{le-test, and-left, and-right, mark-back}
 use Rattle.rules.proofs.Missed.{own-polytope}
 use Rattle.rules.proofs.Ranked.{set-including}
 use Rattle.rules.proofs.RoundTrip.{plane-back}
-use Rattle.space.specs.Ready.{PolytopeReady}
+use Rattle.space.specs.Ready.{ElementReady, PolytopeReady}
 use Rattle.space.specs.Chains.{Indexed}
 use Rattle.space.specs.Closed.{Low, LowEnds, Edges}
 use Rattle.space.specs.Shared.{PolytopeAdded}
@@ -54,8 +54,8 @@ list-size (polytope a b h c) = refl
 
 module _ {cs es : List ℕ} {r e : ℕ} {set : List ℕ} {x : ElementOrNone} where
   -- what the calls ask for
-  pub reads-ask : {ix : List ℕ} → SideReady cs es ix r e set x → (length es ≡ 18432) × (e < 512)
-  reads-ask R = (slices (R .fit .holds) .elements, le-trans (R .fit .used) (R .fit .holds .fits .elementRoom))
+  pub reads-ask : {ix : List ℕ} → SideReady cs es ix r e set x → ElementReady es e
+  reads-ask R = record { elements = slices (R .fit .holds) .elements; room = le-trans (R .fit .used) (R .fit .holds .fits .elementRoom) }
 
   pub including-asks : {ix : List ℕ} → SideReady cs es ix r e set x → IncludeReady set x
   including-asks R = record { sized = R .fit .sized; room = some-fits (R .table) (R .fit .holds .fits .elementRoom) r x (R .fit .intersection) }
@@ -148,8 +148,8 @@ module _ {cs es : List ℕ} {r e : ℕ} {set : List ℕ} {x : ElementOrNone} whe
   -- what the look at the element's own row asks for
   pub own-asks : {ix : List ℕ} → SideReady cs es ix r e set x → RowReadable es e
   own-asks R = record {
-    long = reads-ask R .0;
-    low = reads-ask R .1;
+    long = reads-ask R .elements;
+    low = reads-ask R .room;
     short = subst (λ (n : ℕ). n ≤ 32) (sym (own-size (R .fit))) (row-short (element (R .table) e) (own-fits (R .fit)));
   }
 

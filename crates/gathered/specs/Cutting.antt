@@ -58,6 +58,11 @@ pub record IntersectionReady (cs es ix : List ℕ) (r : ℕ) (k : Cutter) (set :
   pub fit : IntersectionFit cs points planes es r k set table
   pub indexed : Indexed es (getD cs 1 0) ix
 
+-- the counts, and a hyperplane's number within the room
+pub record PlaneReady (cs : List ℕ) (n : ℕ) : Type 0 where
+  pub counts : length cs ≡ 4
+  pub room : n < desk .hyperplanes
+
 -- whatever such table the memory holds: the intersection's step; and the index leads to the rows of after
 pub record IntersectionMade (cs es : List ℕ) (r : ℕ) (k : Cutter) (set : List ℕ) (y : Added) (cs′ es′ ix′ : List ℕ) : Type 0 where
   pub of : (ps hs : List Float) (t : Table) → IntersectionFit cs ps hs es r k set t
@@ -117,18 +122,20 @@ pub record Rule6Fit (cs : List ℕ) (ps hs : List Float) (es : List ℕ) (r e : 
   pub sized : Sized s 32
   pub sets : Sets (r - 1) g t
 
--- there is such a table
-pub record Rule6Ready (cs es : List ℕ) (r e : ℕ) (k : Cutter) (s : Answers) : Type 0 where
+-- there is such a table, and the index leads to its rows
+pub record Rule6Ready (cs es ix : List ℕ) (r e : ℕ) (k : Cutter) (s : Answers) : Type 0 where
   pub points : List Float
   pub planes : List Float
   pub table : Table
   pub gathered : Gathered
   pub fit : Rule6Fit cs points planes es r e k s table gathered
+  pub indexed : Indexed es (getD cs 1 0) ix
 
--- whatever such table the memory holds, and whatever is gathered: rule 6
-pub record Rule6Done (cs es : List ℕ) (r e : ℕ) (k : Cutter) (s : Answers) (y : CutReply) (cs′ es′ : List ℕ) : Type 0 where
+-- whatever such table the memory holds, and whatever is gathered: rule 6; and the index leads to the rows of after
+pub record Rule6Done (cs es : List ℕ) (r e : ℕ) (k : Cutter) (s : Answers) (y : CutReply) (cs′ es′ ix′ : List ℕ) : Type 0 where
   pub of : (ps hs : List Float) (t : Table) (g : Gathered) → Rule6Fit cs ps hs es r e k s t g
       → Came reply.Answered reply.Refused (Holds desk cs′ ps hs es′) t (rule6 desk (cutOf (t .dimension) k) (element t e) g (g .flush) t) y
+  pub indexed : Indexed es′ (getD cs′ 1 0) ix′
 
 -- ---- rule 7
 

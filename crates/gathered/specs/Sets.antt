@@ -4,6 +4,7 @@ use mathlib.Core.Path.{_≡_}
 use mathlib.Core.List.{List, _++_}
 use lib.ListN.{length, getD, take, drop, set}
 use lib.Seq.{sets}
+use Rattle.rules.specs.Limits.{desk}
 use Rattle.rules.specs.Lists.{withMember}
 use Rattle.rules.specs.Cut.{Gathered, nothingYet, including, gathering}
 use Rattle.rules.specs.declared.ElementOrNone.{ElementOrNone}
@@ -100,12 +101,24 @@ pub record Included (s : List ℕ) (p : ElementOrNone) (r : List ℕ) : Type 0 w
 
 -- ---- an answer gathered
 
+-- the three of an answer that is not flush
+pub record SidesInRoom (i o x : ElementOrNone) : Type 0 where
+  pub inside : InRoom i
+  pub outside : InRoom o
+  pub intersection : InRoom x
+
 -- all elements of an answer are within the room
 abbrev pub OutputInRoom : ElementCutOutput → Type 0
 OutputInRoom Flush = Unit {0}
-OutputInRoom (NonFlush i o x) = InRoom i × InRoom o × InRoom x
+OutputInRoom (NonFlush i o x) = SidesInRoom i o x
+
+-- words with place for one answer more, and that of boundary element b
+pub record GatherReady (s : Answers) (b : ℕ) (a : ElementCutOutput) : Type 0 where
+  pub sized : Sized s 31
+  pub element : b < desk .elements
+  pub answer : OutputInRoom a
 
 -- whatever is gathered: that, with the answer of boundary element b
-pub record GatheredIn (s : Answers) (b : ℕ) (a : ElementCutOutput) (r : Answers) : Type 0 where
+pub record AnswerGathered (s : Answers) (b : ℕ) (a : ElementCutOutput) (r : Answers) : Type 0 where
   pub of : (g : Gathered) → Gathers s g → Gathers r (gathering b a g)
   pub sized : (m : ℕ) → Sized s m → Sized r (m + 1)

@@ -14,19 +14,17 @@ use space::words::NO_PLANE;
 use space::words::SET;
 use space::words::SIZE;
 use space::words::wide;
-ghost use Prim.Native.Nat.{_<_};
 ghost use mathlib.Core.Path.{_≡_};
 ghost use lib.Dec.{eqb};
-ghost use lib.ListN.{length, getD};
+ghost use lib.ListN.{getD};
 ghost use Rattle.rules.specs.Limits.{noPlane};
 ghost use Rattle.rules.specs.Lists.{if_then_else_};
-ghost use Rattle.space.specs.Chains.{Indexed};
 ghost use Rattle.gathered.specs.Sets.{answersIn};
-ghost use Rattle.gathered.specs.Cutting.{IntersectionReady, IntersectionMade, RowReadable, OwnTold, SideReady, SideMade, Rule7Ready, Rule7Done, Rule6Ready, Rule6Done};
+ghost use Rattle.gathered.specs.Cutting.{PlaneReady, IntersectionReady, IntersectionMade, RowReadable, OwnTold, SideReady, SideMade, Rule7Ready, Rule7Done, Rule6Ready, Rule6Done};
 
 // The divider's hyperplane if the rank is the dimension.
 fn plane_of_intersection(counts: &[u16], rank: usize, number: HyperplaneId) -> u16
-    requires { ⌜ (length (now counts) ≡ 4) × (number .0 < 64) ⌝ }
+    requires { ⌜ PlaneReady (now counts) (number .0) ⌝ }
     ensures { λ r. ⌜ r ≡ (if eqb rank (getD (now (counts .entry)) 0 0) then number .0 else noPlane) ⌝ }
 {
     if rank == wide(counts[0]) {
@@ -146,11 +144,10 @@ pub fn rule6(
     outside: &mut [u16; SET],
     intersections: &[u16; SET],
 ) -> CutReply
-    requires { ⌜ Rule6Ready (now counts) (now elements) rank (e .0) k (answersIn (now flush) (now inside) (now outside) (now intersections))
-        × Indexed (now elements) (getD (now counts) 1 0) (now index) ⌝ }
+    requires { ⌜ Rule6Ready (now counts) (now elements) (now index) rank (e .0) k (answersIn (now flush) (now inside) (now outside) (now intersections)) ⌝ }
     ensures { λ r. ⌜ Rule6Done (now (counts .entry)) (now (elements .entry)) rank (e .0) k
-        (answersIn (now (flush .entry)) (now (inside .entry)) (now (outside .entry)) (now (intersections .entry))) r (now (counts .exit)) (now (elements .exit))
-        × Indexed (now (elements .exit)) (getD (now (counts .exit)) 1 0) (now (index .exit)) ⌝ }
+        (answersIn (now (flush .entry)) (now (inside .entry)) (now (outside .entry)) (now (intersections .entry))) r
+        (now (counts .exit)) (now (elements .exit)) (now (index .exit)) ⌝ }
 {
     let flushes = flush[0];
     if 1 < flushes {

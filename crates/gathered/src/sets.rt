@@ -3,8 +3,7 @@ use crate::including::include;
 use rules::ElementCutOutput;
 use rules::ElementId;
 use space::words::SET;
-ghost use Prim.Native.Nat.{_<_};
-ghost use Rattle.gathered.specs.Sets.{Sized, answersIn, OutputInRoom, GatheredIn};
+ghost use Rattle.gathered.specs.Sets.{answersIn, GatherReady, AnswerGathered};
 
 // The words of the flush answers: how many there were, and the last such element.
 pub const FLUSH: usize = 2;
@@ -18,8 +17,8 @@ pub fn gather_in(
     b: ElementId,
     a: ElementCutOutput,
 )
-    requires { ⌜ Sized (answersIn (now flush) (now inside) (now outside) (now intersections)) 31 × (b .0 < 512) × OutputInRoom a ⌝ }
-    ensures { λ r. ⌜ GatheredIn (answersIn (now (flush .entry)) (now (inside .entry)) (now (outside .entry)) (now (intersections .entry))) (b .0) a
+    requires { ⌜ GatherReady (answersIn (now flush) (now inside) (now outside) (now intersections)) (b .0) a ⌝ }
+    ensures { λ r. ⌜ AnswerGathered (answersIn (now (flush .entry)) (now (inside .entry)) (now (outside .entry)) (now (intersections .entry))) (b .0) a
         (answersIn (now (flush .exit)) (now (inside .exit)) (now (outside .exit)) (now (intersections .exit))) ⌝ }
 {
     match a {

@@ -1,8 +1,8 @@
--- The tables of specs/Examples: what the rules give is what document 01 says. antt computes both sides.
+-- The tables of specs/Examples, Sessions and FileExamples: what the rules give is what the documents say. antt computes both sides.
 -- The table of M1 to M11 has its theorem in crate marked, which no edit of the rules checks again.
 use mathlib.Core.Path.{_≡_, refl}
 use mathlib.Core.List.{List, map}
-use lib.Ieee.{ofBits, neg, add, sub, mul, div, lt, eq, le, isNan}
+use lib.Ieee.{ofBits, toBits, neg, add, sub, mul, div, lt, eq, le, isNan}
 use Rattle.rules.specs.Floats.{within, dotFrom, dot, signedDistance, sideOf, unit, edgeTest, clamp, crossingPoint, matches, pointMatches}
 use Rattle.rules.specs.Table.{sameElement}
 use Rattle.rules.specs.Sound.{sound, roomFits, soundPoint, soundPlane, cornersInOrder, soundBoundary, soundFacet}
@@ -12,10 +12,13 @@ use Rattle.rules.specs.Cut.{addElement, addPolytope, addVertex, planeMat
 use Rattle.rules.specs.Questions.{reaches, subElements, withRank, vertexSet, commonWithRank, greatestFrom, greatestCommon, edgesInOrder, primordialFacet}
 use Rattle.rules.specs.Walk.{walk}
 use Rattle.rules.specs.Replies.{isSoundReply, cubeReply, dividerFits, cutReply, subElementsReply, withRankReply, vertexSetReply, greatestCommonReply, edgesInOrderReply, primordialFacetReply}
-use Rattle.rules.specs.Session.{decimal, blank, turn, cutlist}
+use Rattle.rules.specs.Bytes.{decimal}
+use Rattle.rules.specs.Files.{header, pointRecord, planeRecord, elementRecord, fileOf, afterMark, number, float, pointIn, planeIn, elementIn, layout, tableIn, saveReply, openReply}
+use Rattle.rules.specs.Session.{blank, turn, cutlist}
 use Rattle.rules.specs.Marked.{Shown}
 use Rattle.rules.specs.Examples.{smallQ, zigzag, pinched, square, triangles, besideTriangle, tetrahedra, doubled, triangle, line, bent, soundness, choices, refusals}
 use Rattle.rules.specs.Sessions.{sessions}
+use Rattle.rules.specs.FileExamples.{files}
 
 -- every row of a table says the same on both sides
 abbrev pub Agree : List (Shown × Shown) → Type 0
@@ -56,3 +59,10 @@ unfolding neg add sub mul div lt eq le isNan ofBits within dotFrom dot signedDis
     greatestCommon walk edgesInOrder primordialFacet isSoundReply cubeReply dividerFits cutReply subElementsReply withRankReply vertexSetReply
     greatestCommonReply edgesInOrderReply primordialFacetReply decimal blank turn cutlist sessions
 sessions-hold = refl
+
+pub files-hold : Agree files
+unfolding neg add sub mul div lt eq le isNan ofBits toBits within dotFrom dot unit sameElement sound roomFits soundPoint soundPlane cornersInOrder
+    soundBoundary soundFacet elementRow planeRow encode readElement readPlane decode rightSize sameMemory soundMemory cube cubeElement cubePoint
+    facetNormal facetPlane header pointRecord planeRecord elementRecord fileOf afterMark number float pointIn planeIn elementIn layout tableIn
+    saveReply openReply blank files
+files-hold = refl

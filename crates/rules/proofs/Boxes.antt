@@ -1,6 +1,6 @@
 -- A crossing lies in the box of its edge, axis by axis, by the law of the clamp; and the ends of an edge of a sound table are points without a NaN.
 use Prim.Native.Nat.{ℕ, _<_, suc, zero, suc-le-suc}
-use mathlib.Core.Bool.{true, not, false≢true}
+use mathlib.Core.Bool.{true, false, not, false≢true}
 use mathlib.Core.List.{List, [], _∷_}
 use mathlib.Core.Path.{_≡_, refl, ap, sym, subst, _∙_}
 use native.Mathlib.Nat.{not-suc-le-zero, le-of-suc-le-suc, suc-ne-zero, suc-inj, zero-lt-suc, le-trans, le-of-lt}
@@ -15,8 +15,9 @@ use Rattle.rules.specs.Sound.{sound, soundPoint}
 use Rattle.rules.specs.Promises.{Between, EndsOfEdge, InTheBox, border, endAt}
 use Rattle.rules.proofs.Borders.{sound-bordered}
 use Rattle.rules.proofs.Clamp.{clamp-between}
+use Rattle.rules.proofs.Each.{all-map}
 use Rattle.rules.proofs.Good.{sound-good}
-use Rattle.rules.proofs.Laws.{and-true, and-left, and-right, eq-test, not-true}
+use Rattle.rules.proofs.Laws.{and-left, and-right, eq-test, not-true}
 use Rattle.rules.proofs.StaysCut.{point-at-sound}
 
 -- ---- two ends
@@ -40,24 +41,22 @@ crossing-between t (a ∷ as′) (b ∷ bs) e f g (suc k) l =
 -- ---- an edge of a sound table
 
 -- a coordinate in range is a number
-in-range : (x : Float) → within farthest x ≡ true → not (isNan x) ≡ true
-unfolding within le lt eq neg isNan
-in-range nan h = absurd (false≢true h)
-in-range (inf s) h = refl
-in-range (fin s m e) h = refl
+pub in-range : (b x : Float) → within b x ≡ true → not (isNan x) ≡ true
+unfolding within le lt eq isNan
+in-range b nan h = absurd (false≢true (and-right (le (neg b) nan) false h))
+in-range b (inf s) h = refl
+in-range b (fin s m e) h = refl
 
-all-numbers : (p : List Float) → all (within farthest) p ≡ true → all (λ x. not (isNan x)) p ≡ true
-all-numbers [] h = refl
-all-numbers (x ∷ xs) h =
-    and-true (not (isNan x)) (all (λ y. not (isNan y)) xs) (in-range x (and-left (within farthest x) (all (within farthest) xs) h)) (all-numbers xs (and-right (within farthest x) (all (within farthest) xs) h))
+pub all-numbers : (b : Float) (p : List Float) → all (within b) p ≡ true → all (λ x. not (isNan x)) p ≡ true
+all-numbers b p h = all-map (within b) (λ x. not (isNan x)) (in-range b) p h
 
-point-long : (d : ℕ) (p : List Float) → soundPoint d p ≡ true → length p ≡ d
+pub point-long : (d : ℕ) (p : List Float) → soundPoint d p ≡ true → length p ≡ d
 unfolding soundPoint
 point-long d p h = eq-test (length p) d (and-left (eqb (length p) d) (all (within farthest) p) h)
 
-point-numbers : (d : ℕ) (p : List Float) → soundPoint d p ≡ true → all (λ x. not (isNan x)) p ≡ true
+pub point-numbers : (d : ℕ) (p : List Float) → soundPoint d p ≡ true → all (λ x. not (isNan x)) p ≡ true
 unfolding soundPoint
-point-numbers d p h = all-numbers p (and-right (eqb (length p) d) (all (within farthest) p) h)
+point-numbers d p h = all-numbers farthest p (and-right (eqb (length p) d) (all (within farthest) p) h)
 
 module _ (L : Limits) (t : Table) (s : sound L t ≡ true) (e : ℕ) (used : e < elementCount t) (ranked : rank t e ≡ 1) where
   end-sound : (n : ℕ) → n < length (boundary t e) → soundPoint (t .dimension) (endAt t e n) ≡ true

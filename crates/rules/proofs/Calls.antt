@@ -13,7 +13,7 @@ use Rattle.rules.specs.Table.{Plane, Table, rank}
 use Rattle.rules.specs.Memory.{Memory, soundMemory, decode}
 use Rattle.rules.specs.Cut.{cut, done, cutAtDistance, given, cornerAnswer}
 use Rattle.rules.specs.Replies.{cutReply, dividerOf, dividerFits, written, cutNumber, cutValues, outputValues, elementValue}
-use Rattle.rules.specs.Calls.{after, Call, asking, cutting, cubing, afterCalls, LeavesTable, NoCubeTaken, Gives}
+use Rattle.rules.specs.Calls.{after, Call, asking, cutting, cubing, opening, afterCalls, LeavesTable, TableStays, Gives}
 use Rattle.rules.specs.Promises.{Finite, AgainLater, OneSideLater, FlushLater, InfiniteDistance}
 use Rattle.rules.specs.Held.{Extends}
 use Rattle.rules.specs.declared.Side.the-variants.{Inside, Outside}
@@ -28,6 +28,7 @@ use Rattle.rules.proofs.Built.{built-extends}
 use Rattle.rules.proofs.Corners.{good-fine}
 use Rattle.rules.proofs.Extends.{extends-refl, extends-trans, count-more}
 use Rattle.rules.proofs.Fewer.{Dropped, lessKept, lessOutput}
+use Rattle.rules.proofs.FileReplies.{refused-open-leaves}
 use Rattle.rules.proofs.Fine.{OutputIn}
 use Rattle.rules.proofs.Later.{same, Later}
 use Rattle.rules.proofs.OneCall.{it, memory-sound, memory-built, memory-table, after-built, passed, good-before}
@@ -62,6 +63,8 @@ module _ (L : Limits) (R : Readable L) where
   call-follows asking m s n = record { sound-after = s; extends = extends-refl (decode L m) }
   call-follows (cubing d radius) m s n =
       subst (λ (x : Memory). Follows L m x) (sym (refused-cube-leaves L d radius m n)) (record { sound-after = s; extends = extends-refl (decode L m) })
+  call-follows (opening bs) m s n =
+      subst (λ (x : Memory). Follows L m x) (sym (refused-open-leaves L bs m n)) (record { sound-after = s; extends = extends-refl (decode L m) })
   call-follows (cutting h i o root) m s n = go (cutReply L h i o root m .0) (cutReply L h i o root m .1) refl
     where
       go : (r : CutReply) (m′ : Memory) → cutReply L h i o root m ≡ (r, m′) → Follows L m m′
@@ -72,7 +75,7 @@ module _ (L : Limits) (R : Readable L) where
         extends = built-extends (memory-built L R h i o root m a m′ e);
       }
 
-  pub calls-follow : (cs : List Call) (m : Memory) → soundMemory L m ≡ true → NoCubeTaken L cs m → Follows L m (afterCalls L cs m)
+  pub calls-follow : (cs : List Call) (m : Memory) → soundMemory L m ≡ true → TableStays L cs m → Follows L m (afterCalls L cs m)
   calls-follow [] m s n = record { sound-after = s; extends = extends-refl (decode L m) }
   calls-follow (c ∷ cs) m s n =
       let f = call-follows c m s (n .0) in

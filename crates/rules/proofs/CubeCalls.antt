@@ -1,8 +1,8 @@
 -- A cube at its public reply: one that is taken is sound and has no matching vertices, and one that is refused leaves the memory.
--- So any calls, cubes too, leave a sound memory sound, and a table without matching vertices without them.
+-- A file that is taken is sound. So any calls, cubes and files too, leave a sound memory sound; and a table without matching vertices stays without them, unless a file brings some.
 use Prim.Native.Nat.{ℕ, suc, zero, _<_}
 use mathlib.Core.Bool.{true, _&&_, Bool, false}
-use mathlib.Core.List.{[], _∷_}
+use mathlib.Core.List.{List, [], _∷_}
 use mathlib.Core.Path.{_≡_, refl, ap, sym, _∙_, subst}
 use native.Mathlib.Nat.{suc-ne-zero, zero-lt-suc}
 use lib.Dec.{leb}
@@ -12,12 +12,14 @@ use Rattle.rules.specs.Sound.{sound}
 use Rattle.rules.specs.Memory.{Memory, encode, rightSize, soundMemory, decode}
 use Rattle.rules.specs.Cube.{cube, radiusFits}
 use Rattle.rules.specs.Replies.{cubeReply}
-use Rattle.rules.specs.Calls.{Call, cutting, asking, cubing, after, afterCalls}
-use Rattle.rules.specs.Promises.{CubeIsSound, OneCrossingOneCorner, Unmatched, StaysSound, StaysUnmatched, EnoughBoundary}
+use Rattle.rules.specs.Files.{openReply}
+use Rattle.rules.specs.Calls.{Call, cutting, asking, cubing, opening, after, afterCalls}
+use Rattle.rules.specs.Promises.{CubeIsSound, OneCrossingOneCorner, Unmatched, OpensUnmatched, StaysSound, StaysUnmatched, EnoughBoundary}
 use Rattle.rules.proofs.Borders.{sound-bordered}
 use Rattle.rules.proofs.Calls.{call-follows}
 use Rattle.rules.proofs.CubeCorners.{cube-unmatched}
 use Rattle.rules.proofs.CubeSound.{cube-sound}
+use Rattle.rules.proofs.FileReplies.{refused-open-leaves, open-is-sound}
 use Rattle.rules.proofs.Laws.{and-left, and-right}
 use Rattle.rules.proofs.OneCall.{sound-table}
 use Rattle.rules.proofs.OneCorner.{cut-unmatched}
@@ -63,18 +65,25 @@ module _ (L : Limits) (R : Readable L) (H : HasCubes L) where
 
   -- ---- any calls
 
-  -- what holds after a cube that is taken, and held before one that is refused, holds after a cube
-  after-cube : (P : Memory → Type 0) (d : ℕ) (radius : Float) (m : Memory) → (cubeReply L d radius m .0 ≡ 0 → P (cubeReply L d radius m .1)) → P m → P (cubeReply L d radius m .1)
-  after-cube P d radius m f p = go (cubeReply L d radius m .0) refl
+  -- what holds after a call that is taken, and held before, holds after it, if one that is refused leaves the memory
+  after-call : (P : Memory → Type 0) (r : ℕ × Memory) (m : Memory) → (0 < r .0 → r .1 ≡ m) → (r .0 ≡ 0 → P (r .1)) → P m → P (r .1)
+  after-call P r m leaves f p = go (r .0) refl
     where
-      go : (n : ℕ) → cubeReply L d radius m .0 ≡ n → P (cubeReply L d radius m .1)
+      go : (n : ℕ) → r .0 ≡ n → P (r .1)
       go zero e = f e
-      go (suc n) e = subst P (sym (refused-cube-leaves L d radius m (subst (λ (k : ℕ). 0 < k) (sym e) (zero-lt-suc n)))) p
+      go (suc n) e = subst P (sym (leaves (subst (λ (k : ℕ). 0 < k) (sym e) (zero-lt-suc n)))) p
+
+  after-cube : (P : Memory → Type 0) (d : ℕ) (radius : Float) (m : Memory) → (cubeReply L d radius m .0 ≡ 0 → P (cubeReply L d radius m .1)) → P m → P (cubeReply L d radius m .1)
+  after-cube P d radius m = after-call P (cubeReply L d radius m) m (refused-cube-leaves L d radius m)
+
+  after-file : (P : Memory → Type 0) (bs : List ℕ) (m : Memory) → (openReply L bs m .0 ≡ 0 → P (openReply L bs m .1)) → P m → P (openReply L bs m .1)
+  after-file P bs m = after-call P (openReply L bs m) m (refused-open-leaves L bs m)
 
   call-sound : (c : Call) (m : Memory) → soundMemory L m ≡ true → soundMemory L (after L c m) ≡ true
   call-sound (cutting h i o root) m s = call-follows L R (cutting h i o root) m s tt .sound-after
   call-sound asking m s = s
   call-sound (cubing d radius) m s = after-cube (λ (x : Memory). soundMemory L x ≡ true) d radius m (cube-is-sound d radius m) s
+  call-sound (opening bs) m s = after-file (λ (x : Memory). soundMemory L x ≡ true) bs m (open-is-sound L R bs m) s
 
   pub stays-sound : StaysSound L
   stays-sound [] m s = s
@@ -83,14 +92,15 @@ module _ (L : Limits) (R : Readable L) (H : HasCubes L) where
   pub enough-boundary : EnoughBoundary L
   enough-boundary cs m s = sound-bordered L _ (sound-table L (afterCalls L cs m) (stays-sound cs m s))
 
-  call-unmatched : (c : Call) (m : Memory) → Unmatched (decode L m) → Unmatched (decode L (after L c m))
-  call-unmatched (cutting h i o root) m u = cut-unmatched L R h i o root m u
-  call-unmatched asking m u = u
-  call-unmatched (cubing d radius) m u = after-cube (λ (x : Memory). Unmatched (decode L x)) d radius m (unmatched-cube d radius m) u
+  call-unmatched : (c : Call) (m : Memory) → Unmatched (decode L m) → OpensUnmatched L c m → Unmatched (decode L (after L c m))
+  call-unmatched (cutting h i o root) m u f = cut-unmatched L R h i o root m u
+  call-unmatched asking m u f = u
+  call-unmatched (opening bs) m u f = after-file (λ (x : Memory). Unmatched (decode L x)) bs m f u
+  call-unmatched (cubing d radius) m u f = after-cube (λ (x : Memory). Unmatched (decode L x)) d radius m (unmatched-cube d radius m) u
 
   pub stays-unmatched : StaysUnmatched L
-  stays-unmatched [] m u = u
-  stays-unmatched (c ∷ cs) m u = stays-unmatched cs (after L c m) (call-unmatched c m u)
+  stays-unmatched [] m u f = u
+  stays-unmatched (c ∷ cs) m u f = stays-unmatched cs (after L c m) (call-unmatched c m u (f .0)) (f .1)
 
   pub one-crossing-one-corner : OneCrossingOneCorner L
-  one-crossing-one-corner d radius m z cs = stays-unmatched cs (cubeReply L d radius m .1) (unmatched-cube d radius m z)
+  one-crossing-one-corner d radius m z cs f = stays-unmatched cs (cubeReply L d radius m .1) (unmatched-cube d radius m z) f

@@ -3,6 +3,7 @@ pub mod Apart
 pub mod Borders
 pub mod Boxes
 pub mod Built
+pub mod ByteLaws
 pub mod Calls
 pub mod Clamp
 pub mod Comparisons
@@ -17,9 +18,12 @@ pub mod CubeElements
 pub mod CubeFaces
 pub mod CubeSound
 pub mod CubeSquares
+pub mod Each
 pub mod Extends
 pub mod FaceEdges
 pub mod Fewer
+pub mod FileRecords
+pub mod FileReplies
 pub mod Fine
 pub mod Good
 pub mod GoodAppends
@@ -32,6 +36,7 @@ pub mod Missed
 pub mod OldRows
 pub mod OneCall
 pub mod OneCorner
+pub mod OneFile
 pub mod Promises
 pub mod Ranked
 pub mod Reach

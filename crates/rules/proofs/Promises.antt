@@ -1,11 +1,11 @@
--- Every promise of specs/Promises holds, in every room that can be read back and has place for its cubes: the record is put together from the files that prove its parts.
+-- Every promise of specs/Promises holds, in every room that can be read back, has place for its cubes, and has numbers that a file can hold: the record is put together from the files that prove its parts.
 use Prim.Native.Nat.{ℕ, zero, suc, _<_}
 use mathlib.Core.Bool.{true, Bool, false}
 use mathlib.Core.Option.{none, some}
 use mathlib.Core.Path.{_≡_, refl, ap, _∙_, subst}
 use lib.Dec.{lit≤}
 use lib.ListN.{getD}
-use Rattle.rules.specs.Limits.{Limits, HasCubes, Readable, desk, large, Roomier}
+use Rattle.rules.specs.Limits.{Limits, HasCubes, Readable, Fileable, desk, large, Roomier}
 use Rattle.rules.specs.Lists.{if_then_else_}
 use Rattle.rules.specs.Memory.{Memory, decode}
 use Rattle.rules.specs.Cut.{Outcome, refused, done, next, give, addPlane, cornerAnswer}
@@ -21,6 +21,7 @@ use Rattle.rules.specs.declared.Hyperplane.{Hyperplane}
 use Rattle.rules.proofs.Boxes.{in-the-box}
 use Rattle.rules.proofs.Calls.{not-infinite, gives, again-later, one-side-later, flush-later, infinite-distance}
 use Rattle.rules.proofs.CubeCalls.{cube-is-sound, stays-sound, enough-boundary, stays-unmatched, one-crossing-one-corner}
+use Rattle.rules.proofs.FileReplies.{refused-open-leaves, open-numbers, open-is-sound, saved-opens, opened-saves, table-of-file, file-of-table, opens-roomier, layout-alone}
 use Rattle.rules.proofs.Good.{sound-good}
 use Rattle.rules.proofs.Laws.{le-test, none-some}
 use Rattle.rules.proofs.Missed.{sideBy, missed-cut}
@@ -35,7 +36,7 @@ use Rattle.rules.proofs.RoundTrip.{written-sound, table-back, memory-ba
 use Rattle.rules.proofs.VertexSet.{vertex-set-rises, no-facet-in-one-dimension}
 use Rattle.rules.proofs.WalkRound.{walk-goes-round}
 
-module _ (L : Limits) (R : Readable L) (H : HasCubes L) where
+module _ (L : Limits) (R : Readable L) (H : HasCubes L) (F : Fileable L) where
   -- ---- a missed piece, for both sides at once
 
   missed-side : (h : Hyperplane) (root : ℕ) (m : Memory) → Passes L h root m → Finite (h .distance) → (inside i o : Bool) → (if inside then i else o) ≡ true
@@ -99,6 +100,14 @@ module _ (L : Limits) (R : Readable L) (H : HasCubes L) where
     infinite-distance = infinite-distance L R;
     read-back = (λ t s. (written-sound L R t s, table-back L R t s), memory-back L);
     roomier-alike = roomier-alike L R H;
+    refused-open-leaves = refused-open-leaves L;
+    open-numbers = open-numbers L;
+    open-is-sound = open-is-sound L R;
+    saved-opens = saved-opens L R F;
+    opened-saves = opened-saves L R;
+    one-file = λ t. (table-of-file L R F t, file-of-table L t);
+    opens-roomier = opens-roomier L;
+    layout-alone = layout-alone L;
     in-the-box = in-the-box L;
     answers-are-in-use = in-use;
     sub-elements-are-reached = λ t s e x u. is-below L t s e x u;
@@ -119,11 +128,13 @@ pub desk-keeps : Promises desk
 desk-keeps =
     promises desk (record { planes = lit≤ tt; boundary = lit≤ tt })
     (record { vertices = lit≤ tt; elements = lit≤ tt; hyperplanes = lit≤ tt; boundary = lit≤ tt })
+    (record { dimensions = lit≤ tt; vertices = lit≤ tt; elements = lit≤ tt; hyperplanes = lit≤ tt; boundary = lit≤ tt })
 
 pub large-keeps : Promises large
 large-keeps =
     promises large (record { planes = lit≤ tt; boundary = lit≤ tt })
     (record { vertices = lit≤ tt; elements = lit≤ tt; hyperplanes = lit≤ tt; boundary = lit≤ tt })
+    (record { dimensions = lit≤ tt; vertices = lit≤ tt; elements = lit≤ tt; hyperplanes = lit≤ tt; boundary = lit≤ tt })
 
 -- and what the desk does not refuse, the large room answers alike
 pub desk-large : Roomier desk large

@@ -19,7 +19,8 @@ use Rattle.rules.specs.Cut.{cut, refused, Outcome, done}
 use Rattle.rules.specs.Questions.{Asked, no-answer, answer, subElements, withRank, vertexSet, greatestCommon, edgesInOrder, primordialFacet}
 use Rattle.rules.specs.Replies.{cutReply, dividerFits, dividerOf, cutNumber, cubeReply, listed, listNumber, listSize, asked, inNumbers, facetAnswer, isSoundReply}
 use Rattle.rules.specs.Replies.{subElementsReply, withRankReply, vertexSetReply, greatestCommonReply, edgesInOrderReply, primordialFacetReply}
-use Rattle.rules.specs.Calls.{ListQuestion, subElementsOf, subElementsWithRank, vertexSetOf, greatestCommonOf, edgesInOrderOf, listReply, listRefusals}
+use Rattle.rules.specs.Files.{fileOf, saveReply}
+use Rattle.rules.specs.Calls.{ListQuestion, subElementsOf, subElementsWithRank, vertexSetOf, greatestCommonOf, edgesInOrderOf, fileOfTable, listReply, listRefusals}
 use Rattle.rules.specs.Calls.{Filled, CutNumbered, ListNumbered, FacetNumbered}
 use Rattle.rules.specs.Promises.{RefusedCutLeaves, RefusedCubeLeaves, RefusedListLeaves, ListFillsFront, CutNumbers, CubeNumbers, ListNumbers, FacetNumbers, SoundNumbers}
 use Rattle.rules.specs.declared.CutReply.{CutReply}
@@ -134,7 +135,7 @@ cube-numbers L d radius m =
 -- ---- the questions
 
 -- a list and its room, by whether it fits
-abbrev listedBy : List ℕ → List ℕ → Bool → ListReply × List ℕ
+abbrev pub listedBy : List ℕ → List ℕ → Bool → ListReply × List ℕ
 listedBy xs room b = if b then (Listed (length xs), xs ++ drop (length xs) room) else (ListRefused 12, room)
 
 -- a refused question leaves the list room
@@ -166,14 +167,16 @@ list-answer L (subElementsWithRank k e) m = asked L m (e ∷ []) (answer (withRa
 list-answer L (vertexSetOf e) m = asked L m (e ∷ []) (answer (vertexSet (decode L m) e))
 list-answer L (greatestCommonOf es) m = asked L m es (greatestCommon (decode L m) es)
 list-answer L (edgesInOrderOf e) m = asked L m (e ∷ []) (inNumbers (edgesInOrder (decode L m) e))
+list-answer L fileOfTable m = asked L m [] (answer (fileOf (decode L m)))
 
 list-by : (L : Limits) (q : ListQuestion) (m : Memory) (room : List ℕ) → listReply L q m room ≡ listed (list-answer L q m) room
-unfolding list-answer subElementsReply withRankReply vertexSetReply greatestCommonReply edgesInOrderReply
+unfolding list-answer subElementsReply withRankReply vertexSetReply greatestCommonReply edgesInOrderReply saveReply
 list-by L (subElementsOf e) m room = refl
 list-by L (subElementsWithRank k e) m room = refl
 list-by L (vertexSetOf e) m room = refl
 list-by L (greatestCommonOf es) m room = refl
 list-by L (edgesInOrderOf e) m room = refl
+list-by L fileOfTable m room = refl
 
 pub refused-list-leaves : (L : Limits) → RefusedListLeaves L
 refused-list-leaves L q m room k =
@@ -232,6 +235,7 @@ list-in L (greatestCommonOf es) m = asked-in L m es _ (greatestCommon (decode L 
 list-in L (edgesInOrderOf e) m =
     asked-of L m (e ∷ []) _ (inNumbers (edgesInOrder (decode L m) e)) refl refl
     (λ s u. edges-in L (decode L m) e (sound-table L m s) (le-test (suc e) (elementCount (decode L m)) (and-left (ltb e (elementCount (decode L m))) true u)))
+list-in L fileOfTable m = either (RefusedIn (3 ∷ 12 ∷ [])) (not (soundMemory L m)) (no-answer 3) (answer (fileOf (decode L m))) refl tt
 
 -- a room too short is 12
 last-in : (q : ListQuestion) → member 12 (listRefusals q) ≡ true
@@ -240,6 +244,7 @@ last-in (subElementsWithRank k e) = refl
 last-in (vertexSetOf e) = refl
 last-in (greatestCommonOf es) = refl
 last-in (edgesInOrderOf e) = refl
+last-in fileOfTable = refl
 
 no-zero : (q : ListQuestion) → member 0 (listRefusals q) ≡ false
 no-zero (subElementsOf e) = refl
@@ -247,6 +252,7 @@ no-zero (subElementsWithRank k e) = refl
 no-zero (vertexSetOf e) = refl
 no-zero (greatestCommonOf es) = refl
 no-zero (edgesInOrderOf e) = refl
+no-zero fileOfTable = refl
 
 listed-in : (ns : List ℕ) (a : Asked (List ℕ)) (room : List ℕ) → RefusedIn ns a → member 12 ns ≡ true → member 0 ns ≡ false → ListNumbered ns (listed a room .0)
 listed-in ns (no-answer n) room h t z = refused-in n h

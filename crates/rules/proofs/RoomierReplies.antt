@@ -18,7 +18,8 @@ use Rattle.rules.specs.Cut.{Outcome, refused, done, cut}
 use Rattle.rules.specs.Questions.{Asked, no-answer, answer, subElements, withRank, vertexSet, greatestCommon, edgesInOrder, primordialFacet}
 use Rattle.rules.specs.Replies.{cutNumber, isSoundReply, cubeReply, dividerFits, distanceFits, dividerOf, cutReply, asked, listed, inNumbers, facetAnswer}
 use Rattle.rules.specs.Replies.{subElementsReply, withRankReply, vertexSetReply, greatestCommonReply, edgesInOrderReply, primordialFacetReply}
-use Rattle.rules.specs.Calls.{ListQuestion, subElementsOf, subElementsWithRank, vertexSetOf, greatestCommonOf, edgesInOrderOf, listReply}
+use Rattle.rules.specs.Files.{fileOf, saveReply, openReply}
+use Rattle.rules.specs.Calls.{ListQuestion, subElementsOf, subElementsWithRank, vertexSetOf, greatestCommonOf, edgesInOrderOf, fileOfTable, listReply}
 use Rattle.rules.specs.Rooms.{TablesAlike, RepliesAlike, RoomierAlike, moved, widened}
 use Rattle.rules.specs.declared.CutReply.{CutReply}
 use Rattle.rules.specs.declared.CutReply.the-variants.{Answered}
@@ -26,6 +27,7 @@ use Rattle.rules.specs.declared.ElementCutOutput.{ElementCutOutput}
 use Rattle.rules.specs.declared.Hyperplane.{Hyperplane}
 use Rattle.rules.proofs.Built.{RuleNumber, refused-number}
 use Rattle.rules.proofs.CubeCalls.{cube-done}
+use Rattle.rules.proofs.FileReplies.{accepted, taken, open-accepted, opens-roomier, layout-alone}
 use Rattle.rules.proofs.Good.{sound-good}
 use Rattle.rules.proofs.Laws.{and-true, and-left, and-right, or-case, le-test, test-le, test-eq, eq-test, if-true}
 use Rattle.rules.proofs.OneCall.{sound-table, replyBy, reply-by, it, memory-table}
@@ -121,6 +123,14 @@ module _ (L M : Limits) (O : Roomier L M) (R : Readable L) (H : HasCubes L) (W :
       go true true false e f k = absurd (let x : _≡_ {A = ℕ} 0 1 = cc in suc-ne-zero 0 (sym x))
       go true true true e f k = absurd (let x : _≡_ {A = ℕ} 0 1 = cc in suc-ne-zero 0 (sym x))
 
+  -- ---- a file
+
+  open-there : (bs : List ℕ) (m n : Memory) → openReply L bs m .0 ≡ 0 → rightSize M n ≡ true → openReply M bs n ≡ (0, moved L M (openReply L bs m .1))
+  open-there bs m n z r =
+      let k = taken L bs m z in
+      open-accepted M bs n (k .table) (opens-roomier L M O bs (k .table) .0 (k .says)) r
+      ∙ (λ j. (0, encode M (sym (ap (decode L) (k .writes) ∙ table-back L R (k .table) (accepted L bs (k .table) (k .says) .is-sound)) j)))
+
   -- ---- a cut
 
   module _ (h : Hyperplane) (i o : Bool) (root : ℕ) (m : Memory) (long : length (h .normal) ≡ L .dimensions) where
@@ -182,12 +192,13 @@ module _ (L M : Limits) (O : Roomier L M) (R : Readable L) (H : HasCubes L) (W :
         by b t = if not b then no-answer 3 else if not (all (λ e. ltb e (elementCount t)) es) then no-answer 4 else f t
 
     list-there : (q : ListQuestion) (room : List ℕ) → listReply M q (moved L M m) room ≡ listReply L q m room
-    unfolding subElementsReply withRankReply vertexSetReply greatestCommonReply edgesInOrderReply
+    unfolding subElementsReply withRankReply vertexSetReply greatestCommonReply edgesInOrderReply saveReply
     list-there (subElementsOf e) room = ap (λ (a : Asked (List ℕ)). listed a room) (asked-there (e ∷ []) (λ t. answer (subElements t e)))
     list-there (subElementsWithRank k e) room = ap (λ (a : Asked (List ℕ)). listed a room) (asked-there (e ∷ []) (λ t. answer (withRank t k e)))
     list-there (vertexSetOf e) room = ap (λ (a : Asked (List ℕ)). listed a room) (asked-there (e ∷ []) (λ t. answer (vertexSet t e)))
     list-there (greatestCommonOf es) room = ap (λ (a : Asked (List ℕ)). listed a room) (asked-there es (λ t. greatestCommon t es))
     list-there (edgesInOrderOf e) room = ap (λ (a : Asked (List ℕ)). listed a room) (asked-there (e ∷ []) (λ t. inNumbers (edgesInOrder t e)))
+    list-there fileOfTable room = ap (λ (a : Asked (List ℕ)). listed a room) (asked-there [] (λ t. answer (fileOf t)))
 
     facet-there : (e : ℕ) → primordialFacetReply M (moved L M m) e ≡ primordialFacetReply L m e
     unfolding primordialFacetReply
@@ -198,6 +209,8 @@ module _ (L M : Limits) (O : Roomier L M) (R : Readable L) (H : HasCubes L) (W :
     is-sound = is-sound;
     cube-done = cube-there;
     cube-refused = radius-there;
+    open-done = open-there;
+    open-refused = λ bs m n z. layout-alone L M bs m n z;
     cut-alike = cut-there;
     list-alike = λ q m room s. list-there m s q room;
     facet-alike = λ m e s. facet-there m s e;

@@ -19,6 +19,7 @@ use Rattle.rules.specs.Sound.{namesNone, soundPoint, sound, soundPlane, 
 use Rattle.rules.specs.Memory.{elementWidth, elementRow, planeNumber, planeNamed, readElement, planeRow, planeWidth, readPlane, decode, encode, rightSize, Memory, sameMemory, soundMemory}
 use Rattle.rules.specs.Held.{fitting}
 use Rattle.rules.proofs.Good.{whole, Good, sound-good}
+use Rattle.rules.proofs.Each.{all-map}
 use Rattle.rules.proofs.Laws.{le-test, and-right, and-left, not-eq, eq-test, and-true, test-eq, eqb-self, mark-back}
 use Rattle.rules.proofs.Rows.{length-pad, read-rows, rows-fill}
 use Rattle.rules.proofs.Selves.{alike-self, bits-self, alike-eq, same-floats}
@@ -41,44 +42,66 @@ module _ (L : Limits) (U : Readable L) where
       go true g = absurd (false≢true g)
       go false g = refl
 
-  pub element-back : (e : Element) → fitting L e ≡ true → readElement (pad 0 (elementWidth L) (elementRow e)) ≡ e
+  -- whatever follows the row
+  pub row-back : (e : Element) (rest : List ℕ) → fitting L e ≡ true → readElement (elementRow e ++ rest) ≡ e
   unfolding elementRow readElement
-  element-back (corner v) k = refl
-  element-back (polytope zero b h m) k = absurd (false≢true k)
-  element-back (polytope (suc r) b h m) k =
-      ap (λ (c : Bool). if c then corner (getD (pad 0 (elementWidth L) (elementRow (polytope (suc r) b h m))) 4 0)
-      else polytope (suc r) (take (length b) (b ++ replicate (elementWidth L - suc (suc (suc (suc (length b))))) 0)) (planeNamed (planeNumber h)) (eqb (cond m 1 0) 1)) (not-eq (suc r) 0 (λ q. suc-ne r q))
-      ∙ ap₂ (λ (c : List ℕ) (x : Option ℕ). polytope (suc r) c x (eqb (cond m 1 0) 1)) (take-append-seam b _) (plane-back h (and-right (leb 1 (suc r) && leb (length b) (L .boundary)) _ k))
+  row-back (corner v) rest k = refl
+  row-back (polytope zero b h m) rest k = absurd (false≢true k)
+  row-back (polytope (suc r) b h m) rest k =
+      ap (λ (c : Bool). if c then corner (getD (b ++ rest) 0 0) else polytope (suc r) (take (length b) (b ++ rest)) (planeNamed (planeNumber h)) (eqb (cond m 1 0) 1)) (not-eq (suc r) 0 (λ q. suc-ne r q))
+      ∙ ap₂ (λ (c : List ℕ) (x : Option ℕ). polytope (suc r) c x (eqb (cond m 1 0) 1)) (take-append-seam b rest) (plane-back h (and-right (leb 1 (suc r) && leb (length b) (L .boundary)) _ k))
       ∙ ap (polytope (suc r) b h) (mark-back m)
     where
       suc-ne : (n : ℕ) → suc n ≡ zero → ⊥
       suc-ne n q = let z : ⊥ = omega (arith, q) in z
 
-  pub point-long : (d : ℕ) → d ≤ L .dimensions → (p : List Float) → soundPoint d p ≡ true → length (pad plusZero (L .dimensions) p) ≡ L .dimensions
-  unfolding soundPoint
-  point-long d l p h = length-pad plusZero (L .dimensions) p (le-trans (le-of-eq (eq-test (length p) d (and-left (eqb (length p) d) (all (within farthest) p) h))) l)
+  pub element-back : (e : Element) → fitting L e ≡ true → readElement (pad 0 (elementWidth L) (elementRow e)) ≡ e
+  element-back e k = row-back e (replicate (elementWidth L - length (elementRow e)) 0) k
 
-  pub point-back : (d : ℕ) (p : List Float) → soundPoint d p ≡ true → take d (pad plusZero (L .dimensions) p) ≡ p
-  unfolding soundPoint
-  point-back d p h = take-at p (replicate (L .dimensions - length p) plusZero) d (eq-test (length p) d (and-left (eqb (length p) d) (all (within farthest) p) h))
+  -- a point and a hyperplane need only a coordinate for each dimension
+  pub axes-long : (d : ℕ) → d ≤ L .dimensions → (p : List Float) → eqb (length p) d ≡ true → length (pad plusZero (L .dimensions) p) ≡ L .dimensions
+  axes-long d l p h = length-pad plusZero (L .dimensions) p (le-trans (le-of-eq (eq-test (length p) d h)) l)
 
-  normal-long : (d : ℕ) (h : Plane) → soundPlane d h ≡ true → length (h .normal) ≡ d
-  unfolding soundPlane
-  normal-long d h k = eq-test (length (h .normal)) d (and-left (eqb (length (h .normal)) d) (unit (h .normal)) (and-left (eqb (length (h .normal)) d && unit (h .normal)) _ k))
+  axes-back : (d : ℕ) (p : List Float) → eqb (length p) d ≡ true → take d (pad plusZero (L .dimensions) p) ≡ p
+  axes-back d p h = take-at p (replicate (L .dimensions - length p) plusZero) d (eq-test (length p) d h)
 
-  pub plane-long : (d : ℕ) → d ≤ L .dimensions → (h : Plane) → soundPlane d h ≡ true → length (planeRow L h) ≡ planeWidth L
+  pub row-long : (d : ℕ) → d ≤ L .dimensions → (h : Plane) → eqb (length (h .normal)) d ≡ true → length (planeRow L h) ≡ planeWidth L
   unfolding planeRow
-  plane-long d l h k =
+  row-long d l h k =
       let e = length-append (pad plusZero (L .dimensions) (h .normal)) (h .distance ∷ []) in
-      let n = length-pad plusZero (L .dimensions) (h .normal) (le-trans (le-of-eq (normal-long d h k)) l) in
+      let n = axes-long d l (h .normal) k in
       omega (arith, e, n)
 
-  pub plane-read : (d : ℕ) → d ≤ L .dimensions → (h : Plane) → soundPlane d h ≡ true → readPlane L d (planeRow L h) ≡ h
+  row-read : (d : ℕ) → d ≤ L .dimensions → (h : Plane) → eqb (length (h .normal)) d ≡ true → readPlane L d (planeRow L h) ≡ h
   unfolding planeRow readPlane
-  plane-read d l h k = λ i. record {
-    normal = (ap (take d) (append-assoc (h .normal) (replicate (L .dimensions - length (h .normal)) plusZero) (h .distance ∷ [])) ∙ take-at (h .normal) _ d (normal-long d h k)) i;
-    distance = getD-at (pad plusZero (L .dimensions) (h .normal)) (h .distance) [] plusZero (L .dimensions) (length-pad plusZero (L .dimensions) (h .normal) (le-trans (le-of-eq (normal-long d h k)) l)) i;
+  row-read d l h k = λ i. record {
+    normal = (ap (take d) (append-assoc (h .normal) (replicate (L .dimensions - length (h .normal)) plusZero) (h .distance ∷ [])) ∙ take-at (h .normal) _ d (eq-test (length (h .normal)) d k)) i;
+    distance = getD-at (pad plusZero (L .dimensions) (h .normal)) (h .distance) [] plusZero (L .dimensions) (axes-long d l (h .normal) k) i;
   }
+
+  -- a sound one has them
+  point-axes : (d : ℕ) (p : List Float) → soundPoint d p ≡ true → eqb (length p) d ≡ true
+  unfolding soundPoint
+  point-axes d p h = and-left (eqb (length p) d) (all (within farthest) p) h
+
+  plane-axes : (d : ℕ) (h : Plane) → soundPlane d h ≡ true → eqb (length (h .normal)) d ≡ true
+  unfolding soundPlane
+  plane-axes d h k = and-left (eqb (length (h .normal)) d) (unit (h .normal)) (and-left (eqb (length (h .normal)) d && unit (h .normal)) _ k)
+
+  pub normal-long : (d : ℕ) (h : Plane) → soundPlane d h ≡ true → length (h .normal) ≡ d
+  normal-long d h k = eq-test (length (h .normal)) d (plane-axes d h k)
+
+  pub point-long : (d : ℕ) → d ≤ L .dimensions → (p : List Float) → soundPoint d p ≡ true → length (pad plusZero (L .dimensions) p) ≡ L .dimensions
+  point-long d l p h = axes-long d l p (point-axes d p h)
+
+  pub point-back : (d : ℕ) (p : List Float) → soundPoint d p ≡ true → take d (pad plusZero (L .dimensions) p) ≡ p
+  point-back d p h = axes-back d p (point-axes d p h)
+
+  pub plane-long : (d : ℕ) → d ≤ L .dimensions → (h : Plane) → soundPlane d h ≡ true → length (planeRow L h) ≡ planeWidth L
+  plane-long d l h k = row-long d l h (plane-axes d h k)
+
+  pub plane-read : (d : ℕ) → d ≤ L .dimensions → (h : Plane) → soundPlane d h ≡ true → readPlane L d (planeRow L h) ≡ h
+  plane-read d l h k = row-read d l h (plane-axes d h k)
 
   -- ---- a whole table
 
@@ -113,44 +136,65 @@ module _ (L : Limits) (U : Readable L) where
           (one n e (and-left (soundElement t n e) (allFrom (suc n) (soundElement t) es) h) (and-left (leb (length (boundaryOf e)) (L .boundary)) _ k))
           (go (suc n) es (and-right (soundElement t n e) (allFrom (suc n) (soundElement t) es) h) (and-right (leb (length (boundaryOf e)) (L .boundary)) _ k))
 
-  module _ (t : Table) (g : Good L t) where
-    pub dim-fits : t .dimension ≤ L .dimensions
-    dim-fits = le-test (t .dimension) (L .dimensions) (g .high)
+  -- a table whose rows fit the room, sound or not
+  pub record Shaped (t : Table) : Type 0 where
+    pub dimension : t .dimension ≤ L .dimensions
+    pub pointRoom : length (t .points) ≤ L .vertices
+    pub elementRoom : elementCount t ≤ L .elements
+    pub planeRoom : length (t .planes) ≤ L .hyperplanes
+    pub points : all (λ p. eqb (length p) (t .dimension)) (t .points) ≡ true
+    pub elements : all (fitting L) (t .elements) ≡ true
+    pub planes : all (λ h. eqb (length (h .normal)) (t .dimension)) (t .planes) ≡ true
 
+  pub good-shaped : (t : Table) → Good L t → Shaped t
+  good-shaped t g = record {
+    dimension = le-test (t .dimension) (L .dimensions) (g .high);
+    pointRoom = le-test (length (t .points)) (L .vertices) (g .vertexRoom);
+    elementRoom = le-test (elementCount t) (L .elements) (g .elementRoom);
+    planeRoom = le-test (length (t .planes)) (L .hyperplanes) (g .planeRoom);
+    points = all-map (soundPoint (t .dimension)) (λ p. eqb (length p) (t .dimension)) (point-axes (t .dimension)) (t .points) (g .points);
+    elements = element-fits t g;
+    planes = all-map (soundPlane (t .dimension)) (λ h. eqb (length (h .normal)) (t .dimension)) (plane-axes (t .dimension)) (t .planes) (g .planes);
+  }
+
+  module _ (t : Table) (g : Shaped t) where
     -- what was written is read back
-    pub read-back : decode L (encode L t) ≡ t
+    read-back : decode L (encode L t) ≡ t
     unfolding decode encode
     read-back = λ i. record {
       dimension = t .dimension;
-      points = read-rows plusZero (L .vertices * L .dimensions) (L .dimensions) (pad plusZero (L .dimensions)) (take (t .dimension)) (soundPoint (t .dimension)) (t .points)
-          (point-long (t .dimension) dim-fits) (point-back (t .dimension)) (g .points) i;
-      elements = read-rows 0 (L .elements * elementWidth L) (elementWidth L) (λ e. pad 0 (elementWidth L) (elementRow e)) readElement (fitting L) (t .elements) element-long element-back (element-fits t g) i;
-      planes = read-rows plusZero (L .hyperplanes * planeWidth L) (planeWidth L) (planeRow L) (readPlane L (t .dimension)) (soundPlane (t .dimension)) (t .planes)
-          (plane-long (t .dimension) dim-fits) (plane-read (t .dimension) dim-fits) (g .planes) i;
+      points = read-rows plusZero (L .vertices * L .dimensions) (L .dimensions) (pad plusZero (L .dimensions)) (take (t .dimension)) (λ p. eqb (length p) (t .dimension)) (t .points)
+          (axes-long (t .dimension) (g .dimension)) (axes-back (t .dimension)) (g .points) i;
+      elements = read-rows 0 (L .elements * elementWidth L) (elementWidth L) (λ e. pad 0 (elementWidth L) (elementRow e)) readElement (fitting L) (t .elements) element-long element-back (g .elements) i;
+      planes = read-rows plusZero (L .hyperplanes * planeWidth L) (planeWidth L) (planeRow L) (readPlane L (t .dimension)) (λ h. eqb (length (h .normal)) (t .dimension)) (t .planes)
+          (row-long (t .dimension) (g .dimension)) (row-read (t .dimension) (g .dimension)) (g .planes) i;
     }
 
     size-right : rightSize L (encode L t) ≡ true
     unfolding rightSize encode
     size-right =
         and-true _ _ (and-true _ _ (and-true _ _ refl
-        (test-eq _ _ (rows-fill plusZero (L .vertices) (L .dimensions) (pad plusZero (L .dimensions)) (soundPoint (t .dimension)) (t .points)
-        (point-long (t .dimension) dim-fits) (g .points) (le-test (length (t .points)) (L .vertices) (g .vertexRoom)))))
-        (test-eq _ _ (rows-fill plusZero (L .hyperplanes) (planeWidth L) (planeRow L) (soundPlane (t .dimension)) (t .planes) (plane-long (t .dimension) dim-fits) (g .planes) (le-test (length (t .planes)) (L .hyperplanes) (g .planeRoom)))))
-        (test-eq _ _ (rows-fill 0 (L .elements) (elementWidth L) (λ e. pad 0 (elementWidth L) (elementRow e)) (fitting L) (t .elements) element-long (element-fits t g) (le-test (elementCount t) (L .elements) (g .elementRoom))))
+        (test-eq _ _ (rows-fill plusZero (L .vertices) (L .dimensions) (pad plusZero (L .dimensions)) (λ p. eqb (length p) (t .dimension)) (t .points)
+        (axes-long (t .dimension) (g .dimension)) (g .points) (g .pointRoom))))
+        (test-eq _ _ (rows-fill plusZero (L .hyperplanes) (planeWidth L) (planeRow L) (λ h. eqb (length (h .normal)) (t .dimension)) (t .planes) (row-long (t .dimension) (g .dimension)) (g .planes) (g .planeRoom))))
+        (test-eq _ _ (rows-fill 0 (L .elements) (elementWidth L) (λ e. pad 0 (elementWidth L) (elementRow e)) (fitting L) (t .elements) element-long (g .elements) (g .elementRoom)))
 
   memory-self : (m : Memory) → sameMemory m m ≡ true
   unfolding sameMemory
   memory-self m = and-true _ _ (and-true _ _ (and-true _ _ (alike-self eqb eqb-self (m .counts)) (alike-self sameBits bits-self (m .points))) (alike-self sameBits bits-self (m .planes))) (alike-self eqb eqb-self (m .elements))
 
-  -- the memory written of a sound table is sound
-  pub written-sound : (t : Table) → sound L t ≡ true → soundMemory L (encode L t) ≡ true
+  -- the memory written of a table whose rows fit is sound exactly where the table is
+  pub written-as : (t : Table) → Shaped t → soundMemory L (encode L t) ≡ sound L t
   unfolding soundMemory
-  written-sound t s =
-      let r = read-back t (sound-good L t s) in
-      and-true _ _ (and-true _ _ (size-right t (sound-good L t s)) (subst (λ (u : Table). sameMemory (encode L u) (encode L t) ≡ true) (sym r) (memory-self (encode L t)))) (subst (λ (u : Table). sound L u ≡ true) (sym r) s)
+  written-as t g =
+      let r = read-back t g in
+      ap₂ _&&_ (and-true _ _ (size-right t g) (subst (λ (u : Table). sameMemory (encode L u) (encode L t) ≡ true) (sym r) (memory-self (encode L t)))) (ap (sound L) r)
+
+  pub written-sound : (t : Table) → sound L t ≡ true → soundMemory L (encode L t) ≡ true
+  written-sound t s = written-as t (good-shaped t (sound-good L t s)) ∙ s
 
   pub table-back : (t : Table) → sound L t ≡ true → decode L (encode L t) ≡ t
-  table-back t s = read-back t (sound-good L t s)
+  table-back t s = read-back t (good-shaped t (sound-good L t s))
 
 -- ---- a sound memory is the one memory of its table
 

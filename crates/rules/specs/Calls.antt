@@ -12,6 +12,7 @@ use Rattle.rules.specs.Table.{ElementNumber}
 use Rattle.rules.specs.Memory.{Memory}
 use Rattle.rules.specs.Replies.{cutNumber, cutValues, listNumber, listSize, facetNumber, facetValue, cubeReply, cutReply}
 use Rattle.rules.specs.Replies.{subElementsReply, withRankReply, vertexSetReply, greatestCommonReply, edgesInOrderReply}
+use Rattle.rules.specs.Files.{saveReply, openReply}
 use Rattle.rules.specs.declared.Hyperplane.{Hyperplane}
 use Rattle.rules.specs.declared.ElementCutOutput.{ElementCutOutput}
 use Rattle.rules.specs.declared.CutReply.{CutReply}
@@ -21,34 +22,37 @@ use Rattle.rules.specs.declared.FacetReply.{FacetReply}
 
 -- ---- calls in turn
 
--- a cut; a question, which only reads; a cube, which starts another table unless it is refused
+-- a cut; a question, which only reads; a cube or a file to open, which replaces the table unless it is refused
 pub data Call : Type 0 where
   cutting : Hyperplane → Bool → Bool → ElementNumber → Call
   asking : Call
   cubing : ℕ → Float → Call
+  opening : List ℕ → Call
 
 abbrev pub after : Limits → Call → Memory → Memory
 after L (cutting h i o root) m = cutReply L h i o root m .1
 after L asking m = m
 after L (cubing d radius) m = cubeReply L d radius m .1
+after L (opening bs) m = openReply L bs m .1
 
 -- the memory after some calls in turn, each taken or refused
 abbrev pub afterCalls : Limits → List Call → Memory → Memory
 afterCalls L [] m = m
 afterCalls L (c ∷ cs) m = afterCalls L cs (after L c m)
 
--- the table at hand stays: if the call is a cube, it is refused
+-- the table at hand stays: if the call is a cube or a file, it is refused
 abbrev pub LeavesTable : Limits → Call → Memory → Type 0
 LeavesTable L (cutting h i o root) m = Unit {0}
 LeavesTable L asking m = Unit {0}
 LeavesTable L (cubing d radius) m = 0 < cubeReply L d radius m .0
+LeavesTable L (opening bs) m = 0 < openReply L bs m .0
 
--- no cube among the calls is taken
-abbrev pub NoCubeTaken : Limits → List Call → Memory → Type 0
-NoCubeTaken L [] m = Unit {0}
-NoCubeTaken L (c ∷ cs) m = LeavesTable L c m × NoCubeTaken L cs (after L c m)
+-- no cube and no file among the calls is taken
+abbrev pub TableStays : Limits → List Call → Memory → Type 0
+TableStays L [] m = Unit {0}
+TableStays L (c ∷ cs) m = LeavesTable L c m × TableStays L cs (after L c m)
 
--- ---- the questions that give a list
+-- ---- the questions that give a list; saving gives the bytes of the table's file
 
 pub data ListQuestion : Type 0 where
   subElementsOf : ElementNumber → ListQuestion
@@ -56,6 +60,7 @@ pub data ListQuestion : Type 0 where
   vertexSetOf : ElementNumber → ListQuestion
   greatestCommonOf : List ElementNumber → ListQuestion
   edgesInOrderOf : ElementNumber → ListQuestion
+  fileOfTable : ListQuestion
 
 abbrev pub listReply : Limits → ListQuestion → Memory → List ℕ → ListReply × List ℕ
 listReply L (subElementsOf e) m room = subElementsReply L m e room
@@ -63,6 +68,7 @@ listReply L (subElementsWithRank k e) m room = withRankReply L m k e room
 listReply L (vertexSetOf e) m room = vertexSetReply L m e room
 listReply L (greatestCommonOf es) m room = greatestCommonReply L m es room
 listReply L (edgesInOrderOf e) m room = edgesInOrderReply L m e room
+listReply L fileOfTable m room = saveReply L m room
 
 -- their refusals
 abbrev pub listRefusals : ListQuestion → List ℕ
@@ -71,6 +77,7 @@ listRefusals (subElementsWithRank k e) = 3 ∷ 4 ∷ 12 ∷ []
 listRefusals (vertexSetOf e) = 3 ∷ 4 ∷ 12 ∷ []
 listRefusals (greatestCommonOf es) = 3 ∷ 4 ∷ 6 ∷ 12 ∷ []
 listRefusals (edgesInOrderOf e) = 3 ∷ 4 ∷ 6 ∷ 12 ∷ []
+listRefusals fileOfTable = 3 ∷ 12 ∷ []
 
 -- ---- what a reply says
 

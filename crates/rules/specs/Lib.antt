@@ -2,6 +2,7 @@
 -- A short definition that only names an expression is `abbrev`; one that a proof opens by name is `unfoldable`.
 pub mod Limits
 pub mod Lists
+pub mod Bytes
 pub mod Floats
 pub mod Table
 pub mod Walk
@@ -12,10 +13,13 @@ pub mod Cut
 pub mod Questions
 pub mod Rings
 pub mod Replies
+pub mod Files
+pub mod Saving
 pub mod Session
 pub mod Marked
 pub mod Examples
 pub mod Sessions
+pub mod FileExamples
 pub mod Calls
 pub mod Rooms
 pub mod Promises

@@ -32,6 +32,14 @@ pub record HasCubes (L : Limits) : Type 0 where
   pub hyperplanes : 2 * L .dimensions ≤ L .hyperplanes
   pub boundary : 2 * L .dimensions ≤ L .boundary
 
+-- a room whose numbers have the width that a file gives them: a rank has one byte, all others two
+pub record Fileable (L : Limits) : Type 0 where
+  pub dimensions : L .dimensions ≤ 255
+  pub vertices : L .vertices ≤ 65535
+  pub elements : L .elements ≤ 65535
+  pub hyperplanes : L .hyperplanes ≤ 65535
+  pub boundary : L .boundary ≤ 65535
+
 -- no list of M is shorter than that of L
 pub record Roomier (L M : Limits) : Type 0 where
   pub dimensions : L .dimensions ≤ M .dimensions

@@ -1,5 +1,5 @@
 -- What is promised of the rules, over any room: each statement in the words of the demands. Definitions only.
--- proofs/Promises.antt proves the record at the end, for every room that can be read back and has place for its cubes: the desk's, and the large one.
+-- proofs/Promises.antt proves the record at the end, for every room that can be read back, has place for its cubes, and has numbers that a file can hold: the desk's, and the large one.
 use Prim.Native.Nat.{ℕ, zero, suc, _*_, _≤_, _<_}
 use mathlib.Core.Path.{_≡_}
 use mathlib.Core.Bool.{Bool, true, false, not, _||_}
@@ -18,7 +18,9 @@ use Rattle.rules.specs.Cut.{Outcome, refused, done, addPlane}
 use Rattle.rules.specs.Questions.{answer, isBelow, vertexSet, greatestCommon, edgesInOrder}
 use Rattle.rules.specs.Rings.{RuleIsOneRing, FaceIsOneRing, FaceIsWalked}
 use Rattle.rules.specs.Replies.{cutNumber, cutValues, listNumber, listSize, facetValue, isSoundReply, cubeReply, dividerFits, dividerOf, cutReply, primordialFacetReply}
-use Rattle.rules.specs.Calls.{Call, afterCalls, NoCubeTaken, ListQuestion, listReply, listRefusals, Gives, CutNumbered, ListNumbered, FacetNumbered, Filled}
+use Rattle.rules.specs.Files.{openReply}
+use Rattle.rules.specs.Saving.{RefusedOpenLeaves, OpenNumbers, OpenIsSound, SavedOpens, OpenedSaves, OneFile, OpensRoomier, LayoutAlone}
+use Rattle.rules.specs.Calls.{Call, cutting, asking, cubing, opening, after, afterCalls, TableStays, ListQuestion, listReply, listRefusals, Gives, CutNumbered, ListNumbered, FacetNumbered, Filled}
 use Rattle.rules.specs.Rooms.{RoomierAlike}
 use Rattle.rules.specs.declared.Hyperplane.{Hyperplane}
 use Rattle.rules.specs.declared.Side.{Side}
@@ -79,11 +81,11 @@ pub record Keeps (L : Limits) (old new : Memory) : Type 0 where
   pub hyperplanes : (h : ℕ) → h < getD (old .counts) 3 0 → rowAt (planeWidth L) (new .planes) h ≡ rowAt (planeWidth L) (old .planes) h
   pub noFewer : (k : ℕ) → getD (old .counts) k 0 ≤ getD (new .counts) k 0
 
--- old entries keep number and content, after any calls of which no cube is taken: cuts, questions and refused cubes
+-- old entries keep number and content, after any calls of which no cube and no file is taken: cuts, questions, and cubes and files that are refused
 abbrev pub OldEntriesStay : Limits → Type 0
-OldEntriesStay L = (cs : List Call) (m : Memory) → soundMemory L m ≡ true → NoCubeTaken L cs m → Keeps L m (afterCalls L cs m)
+OldEntriesStay L = (cs : List Call) (m : Memory) → soundMemory L m ≡ true → TableStays L cs m → Keeps L m (afterCalls L cs m)
 
--- the new table is sound, after any calls, cubes too
+-- the new table is sound, after any calls, cubes and files too
 abbrev pub StaysSound : Limits → Type 0
 StaysSound L = (cs : List Call) (m : Memory) → soundMemory L m ≡ true → soundMemory L (afterCalls L cs m) ≡ true
 
@@ -103,10 +105,10 @@ abbrev pub EnoughBoundary : Limits → Type 0
 EnoughBoundary L = (cs : List Call) (m : Memory) → soundMemory L m ≡ true → (x : ElementNumber)
     → x < elementCount (decode L (afterCalls L cs m)) → 0 < rank (decode L (afterCalls L cs m)) x → Bordered (decode L (afterCalls L cs m)) x
 
--- the same cut again, after any further calls of which no cube is taken, gives the same reply and leaves the memory as it is
+-- the same cut again, after any further calls of which no cube and no file is taken, gives the same reply and leaves the memory as it is
 abbrev pub AgainLater : Limits → Type 0
 AgainLater L = (h : Hyperplane) (i o : Bool) (root : ElementNumber) (m : Memory) → cutNumber (cutReply L h i o root m .0) ≡ 0
-    → (cs : List Call) → NoCubeTaken L cs (cutReply L h i o root m .1) → let later = afterCalls L cs (cutReply L h i o root m .1) in
+    → (cs : List Call) → TableStays L cs (cutReply L h i o root m .1) → let later = afterCalls L cs (cutReply L h i o root m .1) in
     cutReply L h i o root later ≡ (cutReply L h i o root m .0, later)
 
 -- a distance that is no infinity
@@ -117,7 +119,7 @@ Finite d = (s : Bool) → d ≡ inf s → ⊥
 abbrev pub OneSideLater : Limits → Type 0
 OneSideLater L = (h : Hyperplane) (root : ElementNumber) (m : Memory) (in′ out x : Option ElementNumber)
     → Finite (h .distance) → 0 < rank (decode L m) root → cutValues (cutReply L h true true root m .0) ≡ in′ ∷ out ∷ x ∷ []
-    → (cs : List Call) → NoCubeTaken L cs (cutReply L h true true root m .1) → let later = afterCalls L cs (cutReply L h true true root m .1) in
+    → (cs : List Call) → TableStays L cs (cutReply L h true true root m .1) → let later = afterCalls L cs (cutReply L h true true root m .1) in
     Gives (cutReply L h true false root later) (in′ ∷ none ∷ x ∷ []) later
     × Gives (cutReply L h false true root later) (none ∷ out ∷ x ∷ []) later
 
@@ -125,7 +127,7 @@ OneSideLater L = (h : Hyperplane) (root : ElementNumber) (m : Memory) (in′ out
 abbrev pub FlushLater : Limits → Type 0
 FlushLater L = (h : Hyperplane) (root : ElementNumber) (m : Memory) → Finite (h .distance) → 0 < rank (decode L m) root
     → cutNumber (cutReply L h true true root m .0) ≡ 0 → cutValues (cutReply L h true true root m .0) ≡ []
-    → (i o : Bool) (cs : List Call) → NoCubeTaken L cs (cutReply L h true true root m .1)
+    → (i o : Bool) (cs : List Call) → TableStays L cs (cutReply L h true true root m .1)
     → let later = afterCalls L cs (cutReply L h true true root m .1) in
     cutReply L h i o root later ≡ (cutReply L h true true root m .0, later)
 
@@ -139,14 +141,26 @@ CubeIsSound L = (d : ℕ) (radius : Float) (m : Memory) → cubeReply L d radius
 abbrev pub Unmatched : Table → Type 0
 Unmatched t = (i j : ℕ) → i < j → j < length (t .points) → pointMatches (getD (t .points) i []) (getD (t .points) j []) ≡ false
 
--- one crossing, one corner: from a cube, by any calls, cubes too, a crossing is never entered as two corners
+-- nothing is asked of a call, but of a file that is taken that its table has no matching vertices
+abbrev pub OpensUnmatched : Limits → Call → Memory → Type 0
+OpensUnmatched L (cutting h i o root) m = Unit {0}
+OpensUnmatched L asking m = Unit {0}
+OpensUnmatched L (cubing d radius) m = Unit {0}
+OpensUnmatched L (opening bs) m = openReply L bs m .0 ≡ 0 → Unmatched (decode L (openReply L bs m .1))
+
+-- no file among the calls brings matching vertices
+abbrev pub FilesUnmatched : Limits → List Call → Memory → Type 0
+FilesUnmatched L [] m = Unit {0}
+FilesUnmatched L (c ∷ cs) m = OpensUnmatched L c m × FilesUnmatched L cs (after L c m)
+
+-- one crossing, one corner: from a cube, by any calls, cubes too, and files that bring no matching vertices, a crossing is never entered as two corners
 abbrev pub OneCrossingOneCorner : Limits → Type 0
 OneCrossingOneCorner L = (d : ℕ) (radius : Float) (m : Memory) → cubeReply L d radius m .0 ≡ 0
-    → (cs : List Call) → Unmatched (decode L (afterCalls L cs (cubeReply L d radius m .1)))
+    → (cs : List Call) → FilesUnmatched L cs (cubeReply L d radius m .1) → Unmatched (decode L (afterCalls L cs (cubeReply L d radius m .1)))
 
 -- and a table without matching vertices, whatever it came from, stays so
 abbrev pub StaysUnmatched : Limits → Type 0
-StaysUnmatched L = (cs : List Call) (m : Memory) → Unmatched (decode L m) → Unmatched (decode L (afterCalls L cs m))
+StaysUnmatched L = (cs : List Call) (m : Memory) → Unmatched (decode L m) → FilesUnmatched L cs m → Unmatched (decode L (afterCalls L cs m))
 
 -- ---- pieces that the plane misses
 
@@ -344,6 +358,14 @@ pub record Promises (L : Limits) : Type 0 where
   pub infinite-distance : InfiniteDistance L
   pub read-back : ReadBack L
   pub roomier-alike : RoomierAlike L
+  pub refused-open-leaves : RefusedOpenLeaves L
+  pub open-numbers : OpenNumbers L
+  pub open-is-sound : OpenIsSound L
+  pub saved-opens : SavedOpens L
+  pub opened-saves : OpenedSaves L
+  pub one-file : OneFile L
+  pub opens-roomier : OpensRoomier L
+  pub layout-alone : LayoutAlone L
   pub in-the-box : InTheBox L
   pub answers-are-in-use : AnswersAreInUse L
   pub sub-elements-are-reached : SubElementsAreReached L

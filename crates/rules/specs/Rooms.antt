@@ -13,6 +13,7 @@ use Rattle.rules.specs.Sound.{sound}
 use Rattle.rules.specs.Memory.{Memory, encode, decode, rightSize, soundMemory}
 use Rattle.rules.specs.Cut.{refused, done, cut}
 use Rattle.rules.specs.Replies.{cutNumber, isSoundReply, cubeReply, cutReply, primordialFacetReply}
+use Rattle.rules.specs.Files.{openReply}
 use Rattle.rules.specs.Calls.{ListQuestion, listReply}
 use Rattle.rules.specs.declared.Hyperplane.{Hyperplane}
 use Rattle.rules.specs.declared.ElementCutOutput.{ElementCutOutput}
@@ -31,12 +32,14 @@ moved L M m = encode M (decode L m)
 abbrev pub widened : Limits → Hyperplane → Hyperplane
 widened M h = record { normal = pad plusZero (M .dimensions) (h .normal); distance = h .distance }
 
--- each public reply. A cut: done, and refusals 4, 5 and 7; 8 to 11 are the room's own. A cube: done, and refusal 2. A question: every reply of a sound memory
+-- each public reply. A cut: done, and refusals 4, 5 and 7; 8 to 11 are the room's own. A cube: done, and refusal 2. A file: done, and refusal 13. A question, saving too: every reply of a sound memory
 pub record RepliesAlike (L M : Limits) : Type 0 where
   pub is-sound : (m : Memory) → isSoundReply L m ≡ 0 → isSoundReply M (moved L M m) ≡ 0
   pub cube-done : (d : ℕ) (radius : Float) (m n : Memory) → cubeReply L d radius m .0 ≡ 0 → rightSize M n ≡ true
       → cubeReply M d radius n ≡ (0, moved L M (cubeReply L d radius m .1))
   pub cube-refused : (d : ℕ) (radius : Float) (m n : Memory) → cubeReply L d radius m .0 ≡ 2 → cubeReply M d radius n ≡ (2, n)
+  pub open-done : (bs : List ℕ) (m n : Memory) → openReply L bs m .0 ≡ 0 → rightSize M n ≡ true → openReply M bs n ≡ (0, moved L M (openReply L bs m .1))
+  pub open-refused : (bs : List ℕ) (m n : Memory) → openReply L bs m .0 ≡ 13 → openReply M bs n ≡ (13, n)
   pub cut-alike : (h : Hyperplane) (i o : Bool) (root : ElementNumber) (m : Memory) → length (h .normal) ≡ L .dimensions
       → member (cutNumber (cutReply L h i o root m .0)) (0 ∷ 4 ∷ 5 ∷ 7 ∷ []) ≡ true
       → cutReply M (widened M h) i o root (moved L M m) ≡ (cutReply L h i o root m .0, moved L M (cutReply L h i o root m .1))

@@ -4,10 +4,10 @@ use mathlib.Core.Bool.{Bool, true, false, _&&_}
 use mathlib.Core.List.{List, [], _∷_, _++_, map}
 use lib.Dec.{leb, eqb}
 use lib.ListN.{length, getD, take, drop, replicate}
-use lib.Ieee.{Float, binary64, ofBits}
 use Rattle.rules.specs.Limits.{Limits}
 use Rattle.rules.specs.Lists.{if_then_else_, alike, pad, joined}
 use Rattle.rules.specs.Floats.{plusZero}
+use Rattle.rules.specs.Bytes.{numberAt, floatAt, floatsAt, decimal}
 use Rattle.rules.specs.Memory.{Memory, elementWidth, planeWidth}
 use Rattle.rules.specs.Replies.{cubeReply, cutReply}
 use Rattle.rules.specs.declared.Hyperplane.{Hyperplane}
@@ -16,24 +16,6 @@ use Rattle.rules.specs.declared.ElementOrNone.the-variants.{None, Some}
 use Rattle.rules.specs.declared.ElementCutOutput.the-variants.{Flush, NonFlush}
 use Rattle.rules.specs.declared.CutReply.{CutReply}
 use Rattle.rules.specs.declared.CutReply.the-variants.{Refused, Answered}
-
--- ---- what is read: little-endian numbers, and floats by their bits
-
-abbrev pub littleEndian : List ℕ → ℕ
-littleEndian [] = 0
-littleEndian (b ∷ bs) = b + 256 * littleEndian bs
-
--- the number in the k bytes from an offset on
-abbrev pub numberAt : ℕ → ℕ → List ℕ → ℕ
-numberAt k at bs = littleEndian (take k (drop at bs))
-
-abbrev pub floatAt : ℕ → List ℕ → Float
-floatAt at bs = ofBits binary64 (numberAt 8 at bs)
-
--- n floats one after another
-abbrev pub floatsAt : ℕ → ℕ → List ℕ → List Float
-floatsAt zero at bs = []
-floatsAt (suc n) at bs = floatAt at bs ∷ floatsAt n (8 + at) bs
 
 -- ---- what is printed
 
@@ -44,20 +26,6 @@ pub data Line : Type 0 where
   flushLine : List ℕ → Line
   refusedLine : ℕ → Line
   badLine : ℕ → Line
-
--- a number's digits, the lowest first; at most n of them
-abbrev pub lowDigits : ℕ → ℕ → List ℕ
-lowDigits zero k = []
-lowDigits (suc n) k = let rest = lowDigits n (k / 10) in (48 + k % 10) ∷ (if eqb (k / 10) 0 then [] else rest)
-
--- the highest first
-abbrev pub backwards : List ℕ → List ℕ
-backwards [] = []
-backwards (x ∷ xs) = backwards xs ++ x ∷ []
-
--- a number in decimal has no more digits than its size, and one for 0
-unfoldable pub decimal : ℕ → List ℕ
-decimal k = backwards (lowDigits (suc k) k)
 
 -- a space and a number for each
 abbrev pub spaced : List ℕ → List ℕ

@@ -1,42 +1,20 @@
 -- What stands behind the first 45 bytes changes no turn of a table of up to four dimensions, so a program may hold back the rest.
-use Prim.Native.Nat.{ℕ, zero, suc, _+_, _*_, _-_, _%_, _/_, _≤_}
+use Prim.Native.Nat.{ℕ, _+_, _*_, _%_, _/_, _≤_}
 use mathlib.Core.Bool.{Bool, true, false, _&&_}
 use mathlib.Core.List.{List, [], _∷_}
 use mathlib.Core.Path.{_≡_, refl, sym, ap, ap₂, _∙_}
 use native.Mathlib.Omega.{arith}
 use lib.Dec.{leb, eqb, lit≤}
-use lib.ListN.{length, getD, take, drop, length-take}
-use lib.Seq.{take-nil, take-take}
-use lib.Ieee.{Float, binary64, ofBits}
+use lib.ListN.{length, getD, take, length-take}
+use lib.Seq.{take-take}
 use Rattle.rules.specs.Limits.{desk}
 use Rattle.rules.specs.Lists.{if_then_else_, alike, pad}
 use Rattle.rules.specs.Floats.{plusZero}
 use Rattle.rules.specs.Memory.{Memory}
 use Rattle.rules.specs.Replies.{cubeReply, cutReply}
-use Rattle.rules.specs.Session.{littleEndian, numberAt, floatAt, floatsAt, isCube, isCut, cutLength, cubeTurn, cutTurn, dividerAt, bad, turn}
+use Rattle.rules.specs.Session.{isCube, isCut, cutLength, cubeTurn, cutTurn, dividerAt, bad, turn}
 use Rattle.rules.proofs.Laws.{le-test, test-le, not-le, test-above}
-
-drop-front : {A : Type 0} (a n : ℕ) (xs : List A) → drop a (take (a + n) xs) ≡ take n (drop a xs)
-drop-front zero n xs = ap (λ (k : ℕ). take k xs) (let q : 0 + n ≡ n = omega arith in q)
-drop-front {A} (suc a) n [] = ap (λ (l : List A). drop (suc a) l) (take-nil (suc a + n)) ∙ sym (take-nil n)
-drop-front {A} (suc a) n (x ∷ xs) = ap (λ (k : ℕ). drop (suc a) (take k (x ∷ xs))) (let q : suc a + n ≡ suc (a + n) = omega arith in q) ∙ drop-front a n xs
-
--- a part that lies within the first n
-part : (k at n : ℕ) (bs : List ℕ) → at + k ≤ n → take k (drop at (take n bs)) ≡ take k (drop at bs)
-part k at n bs h =
-    ap (λ (j : ℕ). take k (drop at (take j bs))) (let q : n ≡ at + (n - at) = omega (arith, h) in q)
-    ∙ ap (take k) (drop-front at (n - at) bs)
-    ∙ take-take k (n - at) (drop at bs) (omega (arith, h))
-
-number-part : (k at n : ℕ) (bs : List ℕ) → at + k ≤ n → numberAt k at (take n bs) ≡ numberAt k at bs
-number-part k at n bs h = ap littleEndian (part k at n bs h)
-
-float-part : (at n : ℕ) (bs : List ℕ) → at + 8 ≤ n → floatAt at (take n bs) ≡ floatAt at bs
-float-part at n bs h = ap (ofBits binary64) (number-part 8 at n bs h)
-
-floats-part : (d at n : ℕ) (bs : List ℕ) → at + 8 * d ≤ n → floatsAt d at (take n bs) ≡ floatsAt d at bs
-floats-part zero at n bs h = refl
-floats-part (suc d) at n bs h = ap₂ (λ (x : Float) (xs : List Float). x ∷ xs) (float-part at n bs (omega (arith, h))) (floats-part d (8 + at) n bs (omega (arith, h)))
+use Rattle.lent_bytes.proofs.Fronts.{number-front, float-front, floats-front}
 
 -- a length that is tested and is not above n
 long-part : (k n : ℕ) (bs : List ℕ) → k ≤ n → leb k (length (take n bs)) ≡ leb k (length bs)
@@ -55,15 +33,15 @@ module _ (bs : List ℕ) where
   module _ (d : ℕ) (h : d ≤ 4) where
     cut-part : isCut d (take 45 bs) ≡ isCut d bs
     cut-part =
-        (λ i. alike eqb (take-take 2 45 bs (lit≤ tt) i) (0x43 ∷ 0x54 ∷ []) && long-part (cutLength d) 45 bs (omega (arith, h)) i && leb (number-part 1 2 45 bs (lit≤ tt) i) 3)
+        (λ i. alike eqb (take-take 2 45 bs (lit≤ tt) i) (0x43 ∷ 0x54 ∷ []) && long-part (cutLength d) 45 bs (omega (arith, h)) i && leb (number-front 1 2 45 bs (lit≤ tt) i) 3)
 
     divider-part : dividerAt desk d (take 45 bs) ≡ dividerAt desk d bs
-    divider-part = λ i. record { normal = pad plusZero 4 (floats-part d 5 45 bs (omega (arith, h)) i); distance = float-part (5 + 8 * d) 45 bs (omega (arith, h)) i }
+    divider-part = λ i. record { normal = pad plusZero 4 (floats-front d 5 45 bs (omega (arith, h)) i); distance = float-front (5 + 8 * d) 45 bs (omega (arith, h)) i }
 
 pub enough : (stands : Bool) (m : Memory) (bs : List ℕ) → getD (m .counts) 0 0 ≤ 4 → turn desk stands m (take 45 bs) ≡ turn desk stands m bs
 unfolding turn
 enough stands m bs h =
     let d = getD (m .counts) 0 0 in
-    λ i. if cube-part bs i then cubeTurn stands (cubeReply desk (number-part 1 2 45 bs (lit≤ tt) i) (float-part 3 45 bs (lit≤ tt) i) m)
-    else if stands && cut-part bs d h i then cutTurn d (cutReply desk (divider-part bs d h i) (eqb (number-part 1 2 45 bs (lit≤ tt) i % 2) 1) (eqb (number-part 1 2 45 bs (lit≤ tt) i / 2) 1) (number-part 2 3 45 bs (lit≤ tt) i) m)
+    λ i. if cube-part bs i then cubeTurn stands (cubeReply desk (number-front 1 2 45 bs (lit≤ tt) i) (float-front 3 45 bs (lit≤ tt) i) m)
+    else if stands && cut-part bs d h i then cutTurn d (cutReply desk (divider-part bs d h i) (eqb (number-front 1 2 45 bs (lit≤ tt) i % 2) 1) (eqb (number-front 1 2 45 bs (lit≤ tt) i / 2) 1) (number-front 2 3 45 bs (lit≤ tt) i) m)
     else bad

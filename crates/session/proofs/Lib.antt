@@ -1,5 +1,3 @@
-pub mod Decimals
-pub mod Numbers
 pub mod Puts
 pub mod Records
 pub mod Turns

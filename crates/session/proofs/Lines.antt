@@ -12,7 +12,8 @@ use Rattle.rules.specs.Lists.{all, member}
 use Rattle.rules.specs.Table.{elementCount}
 use Rattle.rules.specs.Memory.{Memory, encode, decode, soundMemory}
 use Rattle.rules.specs.Replies.{cutNumber, cubeReply, cutReply}
-use Rattle.rules.specs.Session.{decimal, spaced, place, text, cubeLine, refusedLine, cutText, tableCounts}
+use Rattle.rules.specs.Bytes.{decimal}
+use Rattle.rules.specs.Session.{spaced, place, text, cubeLine, refusedLine, cutText, tableCounts}
 use Rattle.rules.specs.Held.{AllOf}
 use Rattle.rules.specs.Promises.{OneBelow, NamesBelow}
 use Rattle.rules.specs.declared.Hyperplane.{Hyperplane}
@@ -28,8 +29,8 @@ use Rattle.rules.proofs.Laws.{le-test}
 use Rattle.rules.proofs.OneCall.{sound-table, memory-sound, names-in-use}
 use Rattle.rules.proofs.Promises.{desk-keeps}
 use Rattle.rules.proofs.RoundTrip.{memory-back}
+use Rattle.lent_bytes.proofs.Decimals.{five-digits}
 use Rattle.session.specs.Written.{lineRoom}
-use Rattle.session.proofs.Decimals.{five-digits}
 
 -- ---- numbers below 65,536
 

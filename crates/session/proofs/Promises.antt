@@ -13,7 +13,8 @@ use Rattle.rules.specs.Limits.{desk}
 use Rattle.rules.specs.Lists.{if_then_else_}
 use Rattle.rules.specs.Memory.{Memory}
 use Rattle.rules.specs.Session.{Line, text, bad, taken, turn, isCube, isCut, cutLength, cubeLine, refusedLine, cutText, tableCounts, cubeAsked, cutAsked, cubeTurn, cutTurn}
-use Rattle.rules.specs.Session.{numberAt, floatAt, dividerAt}
+use Rattle.rules.specs.Bytes.{numberAt, floatAt}
+use Rattle.rules.specs.Session.{dividerAt}
 use Rattle.rules.proofs.Laws.{and-right, le-test, test-le, not-le, none-some}
 use Rattle.session.specs.declared.TurnReply.{TurnReply}
 use Rattle.session.specs.declared.TurnReply.the-variants.{NoRoom}

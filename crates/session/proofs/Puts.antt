@@ -1,38 +1,19 @@
--- What was put, and more behind it, is one thing put.
-use Prim.Native.Nat.{ℕ, suc, _+_, _≤_, _<_}
+-- The parts of a line, put one after another, and how much room they take.
+use Prim.Native.Nat.{ℕ, _+_, _≤_, _<_}
 use mathlib.Core.List.{List, [], _∷_, _++_, append-assoc}
-use mathlib.Core.Path.{_≡_, refl, sym, ap, ap₂, _∙_}
+use mathlib.Core.Path.{_≡_, sym, ap, _∙_}
 use native.Mathlib.Omega.{arith}
-use lib.ListN.{length, set, getD, drop, length-append, drop-of-length-le}
-use lib.Seq.{sets, length-sets, drop-cons}
+use lib.ListN.{length, getD, drop, drop-of-length-le}
+use lib.Seq.{drop-cons}
 use Rattle.rules.specs.Promises.{OneBelow}
-use Rattle.rules.specs.Session.{decimal, spaced, place}
+use Rattle.rules.specs.Bytes.{decimal}
+use Rattle.rules.specs.Session.{spaced, place}
 use Rattle.rules.specs.declared.ElementOrNone.{ElementOrNone}
 use Rattle.rules.specs.declared.ElementOrNone.the-variants.{None, Some}
-use Rattle.session.proofs.Decimals.{five-digits, twenty-digits}
-use Rattle.session.specs.Written.{Put}
-
-pub sets-on : (room : List ℕ) (at : ℕ) (xs ys : List ℕ) → sets (sets room at xs) (at + length xs) ys ≡ sets room at (xs ++ ys)
-sets-on room at [] ys = ap (λ (k : ℕ). sets room k ys) (let q : at + 0 ≡ at = omega arith in q)
-sets-on room at (x ∷ xs) ys = ap (λ (k : ℕ). sets (sets (set room at x) (suc at) xs) k ys) (let q : at + suc (length xs) ≡ suc at + length xs = omega arith in q) ∙ sets-on (set room at x) (suc at) xs ys
-
-pub put-one : (room : List ℕ) (at x : ℕ) → Put room at (x ∷ []) (at + 1) (set room at x)
-put-one room at x = record { place = refl; room = refl }
-
--- one thing put behind another
-pub then : {room mid after : List ℕ} {at p end : ℕ} {xs ys : List ℕ} → Put room at xs p mid → Put mid p ys end after → Put room at (xs ++ ys) end after
-then {room} {mid} {after} {at} {p} {end} {xs} {ys} a b = record {
-  place = (let l = length-append xs ys in let q = a .place in let z = b .place in omega (arith, l, q, z));
-  room = b .room ∙ ap₂ (λ (r : List ℕ) (k : ℕ). sets r k ys) (a .room) (a .place) ∙ sets-on room at xs ys;
-}
-
--- the room does not change its size
-pub put-length : {room after : List ℕ} {at end : ℕ} {xs : List ℕ} → Put room at xs end after → length after ≡ length room
-put-length {room} {after} {at} {end} {xs} p = ap length (p .room) ∙ length-sets room at xs
-
--- the same bytes by another word for them
-pub put-as : {room after : List ℕ} {at end : ℕ} {xs ys : List ℕ} → xs ≡ ys → Put room at xs end after → Put room at ys end after
-put-as {room} {after} {at} {end} e p = record { place = p .place ∙ ap (λ (zs : List ℕ). at + length zs) e; room = p .room ∙ ap (sets room at) e }
+use Rattle.lent_bytes.specs.Lent.{Put}
+use Rattle.lent_bytes.proofs.Decimals.{five-digits, twenty-digits}
+use Rattle.lent_bytes.proofs.Puts.{put-as, put-length, then}
+use Rattle.session.specs.Written.{lineRoom}
 
 -- ---- numbers one after another
 
@@ -63,3 +44,23 @@ number-fits n l p = let q = twenty-digits n l in let e = p .place in omega (arit
 pub element-short : {room after : List ℕ} {at end : ℕ} (e : ElementOrNone) → OneBelow 512 e → Put room at (place e) end after → end ≤ at + 6
 element-short None l p = let e = p .place in omega (arith, e)
 element-short (Some id) l p = number-short (id .0) (let z : id .0 < 0x10000 = omega (arith, l) in z) p
+
+-- ---- how far a line has come
+
+-- it ends no later than `most`, in room that is enough for every line
+pub record Far (room : List ℕ) (end most : ℕ) : Type 0 where
+  pub place : end ≤ most
+  pub enough : lineRoom ≤ length room
+
+pub far-word : {room after : List ℕ} {end : ℕ} {xs : List ℕ} → lineRoom ≤ length room → Put room 0 xs end after → Far after end (length xs)
+far-word l p = record { place = (let e = p .place in omega (arith, e)); enough = (let k = put-length p in omega (arith, k, l)) }
+
+pub far-element : {room after : List ℕ} {at end most : ℕ} (e : ElementOrNone) → OneBelow 512 e → Far room at most → Put room at (place e) end after → Far after end (most + 6)
+far-element e l f p = record {
+  place = (let q = element-short e l p in let m = f .place in omega (arith, q, m));
+  enough = (let k = put-length p in let m = f .enough in omega (arith, k, m));
+}
+
+-- what is left of the room
+pub far-left : {room : List ℕ} {end most : ℕ} (k : ℕ) → Far room end most → most + k ≤ lineRoom → end + k ≤ length room
+far-left k f l = let a = f .place in let b = f .enough in omega (arith, a, b, l)

@@ -10,7 +10,8 @@ use lib.Ieee.{Float, binary64, ofBits}
 use Rattle.rules.specs.Limits.{desk}
 use Rattle.rules.specs.Lists.{if_then_else_, alike}
 use Rattle.rules.specs.Floats.{plusZero}
-use Rattle.rules.specs.Session.{numberAt, floatAt, isCube, isCut, cutLength, dividerAt}
+use Rattle.rules.specs.Bytes.{numberAt, floatAt}
+use Rattle.rules.specs.Session.{isCube, isCut, cutLength, dividerAt}
 use Rattle.rules.specs.declared.Hyperplane.{Hyperplane}
 use Rattle.rules.proofs.Laws.{test-eq, not-eq, test-le, test-above}
 

@@ -13,7 +13,8 @@ use Rattle.rules.specs.Lists.{if_then_else_}
 use Rattle.rules.specs.Memory.{Memory, encode, decode, rightSize, soundMemory}
 use Rattle.rules.specs.Cube.{cube, radiusFits}
 use Rattle.rules.specs.Replies.{cubeReply, cutReply}
-use Rattle.rules.specs.Session.{numberAt, floatAt, text, cubeLine, refusedLine, badLine, cutText, cubeAsked, cutAsked, dividerAt, cubeTurn, cutTurn, isCube, isCut, cutLength, turn}
+use Rattle.rules.specs.Bytes.{numberAt, floatAt}
+use Rattle.rules.specs.Session.{text, cubeLine, refusedLine, badLine, cutText, cubeAsked, cutAsked, dividerAt, cubeTurn, cutTurn, isCube, isCut, cutLength, turn}
 use Rattle.rules.specs.declared.Hyperplane.{Hyperplane}
 use Rattle.rules.specs.declared.CutReply.{CutReply}
 use Rattle.rules.specs.declared.CutReply.the-variants.{Refused, Answered}
@@ -22,7 +23,8 @@ use Rattle.rules.proofs.Good.{sound-good}
 use Rattle.rules.proofs.OneCall.{sound-table}
 use Rattle.cut.proofs.Names.{names-low, four-counts}
 use Rattle.session.proofs.Records.{Marked}
-use Rattle.session.specs.Written.{Put, lineRoom, LineFits, replyOf, turnReply, badReply}
+use Rattle.lent_bytes.specs.Lent.{Put}
+use Rattle.session.specs.Written.{lineRoom, LineFits, replyOf, turnReply, badReply}
 use Rattle.session.specs.declared.TurnReply.the-variants.{NoRoom, Bad, Taken}
 
 -- a line begins at the front of the room
@@ -70,7 +72,7 @@ cut-long bs d h = le-test (cutLength d) (length bs) (and-right (Marked bs 0x54) 
 
 pub line-fits : (h : Hyperplane) (i o : Bool) (root : ℕ) (m m′ : Memory) (r : CutReply) → (r, m′) ≡ cutReply desk h i o root m → LineFits r (m′ .counts)
 line-fits h i o root m m′ (Refused n) e = tt
-line-fits h i o root m m′ (Answered a) e = (names-low h i o root m m′ e a refl, four-counts h i o root m m′ e a refl)
+line-fits h i o root m m′ (Answered a) e = record { names = names-low h i o root m m′ e a refl; counts = four-counts h i o root m m′ e a refl }
 
 -- more than four dimensions are refused, whatever the divider
 unsound : (m : Memory) → 4 < getD (m .counts) 0 0 → soundMemory desk m ≡ false

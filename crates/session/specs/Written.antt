@@ -1,5 +1,5 @@
--- What is written into the lent room: bytes one after another, and the line of a record. Definitions only.
-use Prim.Native.Nat.{ℕ, _+_}
+-- What is written into the lent room: the line of a record. Definitions only.
+use Prim.Native.Nat.{ℕ}
 use mathlib.Core.Bool.{Bool}
 use mathlib.Core.Path.{_≡_}
 use mathlib.Core.Option.{Option, none, some}
@@ -12,24 +12,24 @@ use Rattle.rules.specs.Lists.{if_then_else_}
 use Rattle.rules.specs.Memory.{Memory}
 use Rattle.rules.specs.Session.{badLine, text, Turn, bad, taken, turn}
 use Rattle.rules.specs.Promises.{NamesBelow}
+use Rattle.rules.specs.declared.ElementCutOutput.{ElementCutOutput}
 use Rattle.rules.specs.declared.CutReply.{CutReply}
 use Rattle.rules.specs.declared.CutReply.the-variants.{Refused, Answered}
 use Rattle.session.specs.declared.TurnReply.{TurnReply}
 use Rattle.session.specs.declared.TurnReply.the-variants.{NoRoom, Bad, Taken}
-
--- the bytes stand in the room from `at` on, and `end` is where they end
-pub record Put (before : List ℕ) (at : ℕ) (bytes : List ℕ) (end : ℕ) (after : List ℕ) : Type 0 where
-  pub place : end ≡ at + length bytes
-  pub room : after ≡ sets before at bytes
 
 -- room that is enough for every line
 abbrev pub lineRoom : ℕ
 lineRoom = 64
 
 -- an answer names elements of the room, and comes with four counts
+pub record AnswerFits (a : ElementCutOutput) (cs : List ℕ) : Type 0 where
+  pub names : NamesBelow (desk .elements) a
+  pub counts : length cs ≡ 4
+
 abbrev pub LineFits : CutReply → List ℕ → Type 0
-LineFits (Refused n) counts = Unit {0}
-LineFits (Answered a) counts = NamesBelow 512 a × (length counts ≡ 4)
+LineFits (Refused n) cs = Unit {0}
+LineFits (Answered a) cs = AnswerFits a cs
 
 -- the reply, the memory and the room after a turn
 abbrev pub replyOf : Memory → List ℕ → Turn → TurnReply × Memory × List ℕ

@@ -1,6 +1,5 @@
 // A session, record by record: the call that a record asks for, and its line into lent room.
 mod line;
-mod read;
 mod record;
 mod write;
 

@@ -1,15 +1,14 @@
 // What a record asks for: a cube or a cut, its call, and the line of its reply.
 use crate::TurnReply;
 use crate::line;
-use crate::read;
+use lent_bytes::read;
 use rules::CutReply;
 use rules::ElementCutOutput;
 use rules::ElementId;
 use rules::Hyperplane;
 use rules::PolytopeFate;
 use space::words::wide;
-ghost use Prim.Native.Nat.{_+_, _*_, _≤_, _<_};
-ghost use mathlib.Core.Bool.{true};
+ghost use Prim.Native.Nat.{_+_, _*_, _≤_};
 ghost use mathlib.Core.Path.{_≡_};
 ghost use mathlib.Core.List.{[], _∷_};
 ghost use lib.Dec.{eqb, ltb};
@@ -18,10 +17,13 @@ ghost use Rattle.rules.specs.Limits.{desk};
 ghost use Rattle.rules.specs.Lists.{if_then_else_, alike};
 ghost use Rattle.rules.specs.Floats.{plusZero};
 ghost use Rattle.rules.specs.Held.{memoryOf};
-ghost use Rattle.rules.specs.Promises.{NamesBelow};
 ghost use Rattle.rules.specs.Replies.{isKept};
-ghost use Rattle.rules.specs.Session.{floatAt, text, isCube, isCut, cutLength, cubeAsked, dividerAt, cutAsked, cubeTurn, cutText, cutTurn};
-ghost use Rattle.session.specs.Written.{Put, lineRoom, replyOf, LineFits};
+ghost use Rattle.rules.specs.Bytes.{floatAt};
+ghost use Rattle.rules.specs.Session.{text, isCube, isCut, cubeAsked, dividerAt, cutAsked, cubeTurn, cutText, cutTurn};
+ghost use Rattle.lent_bytes.specs.Lent.{Put};
+ghost use Rattle.space.specs.Numbers.{NumberBelow};
+ghost use Rattle.session.specs.Written.{replyOf};
+ghost use Rattle.session.specs.Ready.{ComponentReady, DividerReady, CubeTurnReady, AnswerLineReady, CutLineReady, CutTurnReady};
 
 // Every mark's first byte is 43.
 fn is_marked(input: &[u8], second: u8) -> bool
@@ -45,7 +47,7 @@ pub fn is_cube(input: &[u8]) -> bool
 
 // The dimension of the table that stands.
 fn dimension_of(counts: &[u16]) -> usize
-    ensures { λ r. ⌜ (r ≡ getD (now (counts .entry)) 0 0) × (r < 65536) ⌝ }
+    ensures { λ r. ⌜ NumberBelow r (getD (now (counts .entry)) 0 0) 65536 ⌝ }
 {
     if counts.len() == 0 {
         return 0;
@@ -77,8 +79,7 @@ fn fate(kept: bool) -> PolytopeFate
 
 // A component of the divider's normal: zero past the dimension.
 fn component(input: &[u8], d: usize, axis: usize) -> f64
-    requires { ⌜ cutLength d ≤ length (now input) ⌝ }
-    requires { ⌜ axis < 4 ⌝ }
+    requires { ⌜ ComponentReady (now input) d axis ⌝ }
     ensures { λ r. ⌜ r ≡ (if ltb axis d then floatAt (5 + 8 * axis) (now (input .entry)) else plusZero) ⌝ }
 {
     if axis < d {
@@ -89,8 +90,7 @@ fn component(input: &[u8], d: usize, axis: usize) -> f64
 
 // A table of more than four dimensions is not sound, so no cut looks at its divider.
 fn divider_at(input: &[u8], d: usize) -> Hyperplane
-    requires { ⌜ d < 65536 ⌝ }
-    requires { ⌜ cutLength d ≤ length (now input) ⌝ }
+    requires { ⌜ DividerReady (now input) d ⌝ }
     ensures { λ r. ⌜ (d ≤ 4 → r ≡ dividerAt desk d (now (input .entry))) ⌝ }
 {
     let n0 = component(input, d, 0);
@@ -111,8 +111,7 @@ pub fn cube_turn(
     elements: &mut [u16],
     room: &mut [u8],
 ) -> TurnReply
-    requires { ⌜ isCube (now input) ≡ true ⌝ }
-    requires { ⌜ lineRoom ≤ length (now room) ⌝ }
+    requires { ⌜ CubeTurnReady (now input) (now room) ⌝ }
     ensures { λ r. ⌜ (r, memoryOf (now (counts .exit)) (now (points .exit)) (now (planes .exit)) (now (elements .exit)), now (room .exit))
         ≡ replyOf (memoryOf (now (counts .entry)) (now (points .entry)) (now (planes .entry)) (now (elements .entry))) (now (room .entry))
         (cubeTurn stands (cubeAsked desk (memoryOf (now (counts .entry)) (now (points .entry)) (now (planes .entry)) (now (elements .entry))) (now (input .entry)))) ⌝ }
@@ -137,9 +136,7 @@ pub fn cube_turn(
 }
 
 fn answer_line(answer: ElementCutOutput, counts: &[u16], room: &mut [u8]) -> usize
-    requires { ⌜ NamesBelow 512 answer ⌝ }
-    requires { ⌜ length (now counts) ≡ 4 ⌝ }
-    requires { ⌜ lineRoom ≤ length (now room) ⌝ }
+    requires { ⌜ AnswerLineReady answer (now counts) (now room) ⌝ }
     ensures { λ r. ⌜ Put (now (room .entry)) 0 (text (cutText (CutReply.Answered answer) (drop 1 (now (counts .entry))))) r (now (room .exit)) ⌝ }
 {
     match answer {
@@ -154,8 +151,7 @@ fn answer_line(answer: ElementCutOutput, counts: &[u16], room: &mut [u8]) -> usi
 
 // The line of a cut's reply.
 fn cut_line(reply: CutReply, counts: &[u16], room: &mut [u8]) -> usize
-    requires { ⌜ LineFits reply (now counts) ⌝ }
-    requires { ⌜ lineRoom ≤ length (now room) ⌝ }
+    requires { ⌜ CutLineReady reply (now counts) (now room) ⌝ }
     ensures { λ r. ⌜ Put (now (room .entry)) 0 (text (cutText reply (drop 1 (now (counts .entry))))) r (now (room .exit)) ⌝ }
 {
     match reply {
@@ -172,8 +168,7 @@ pub fn cut_turn(
     elements: &mut [u16],
     room: &mut [u8],
 ) -> TurnReply
-    requires { ⌜ isCut (getD (now counts) 0 0) (now input) ≡ true ⌝ }
-    requires { ⌜ lineRoom ≤ length (now room) ⌝ }
+    requires { ⌜ CutTurnReady (now counts) (now input) (now room) ⌝ }
     ensures { λ r. ⌜ (r, memoryOf (now (counts .exit)) (now (points .exit)) (now (planes .exit)) (now (elements .exit)), now (room .exit))
         ≡ replyOf (memoryOf (now (counts .entry)) (now (points .entry)) (now (planes .entry)) (now (elements .entry))) (now (room .entry))
         (cutTurn (getD (now (counts .entry)) 0 0) (cutAsked desk (memoryOf (now (counts .entry)) (now (points .entry)) (now (planes .entry)) (now (elements .entry))) (now (input .entry)))) ⌝ }

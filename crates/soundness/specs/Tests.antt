@@ -1,4 +1,4 @@
--- What the tests of rows need, and what they answer: the parts of their contracts by name. Definitions only.
+-- What the tests need, and what they answer: the parts of their contracts by name. Definitions only.
 use Prim.Native.Nat.{ℕ, zero, suc, _+_, _<_, _≤_}
 use mathlib.Core.Path.{_≡_}
 use mathlib.Core.Bool.{Bool, true, false, cond, _&&_}
@@ -10,7 +10,7 @@ use Rattle.rules.specs.Held.{memoryOf}
 use Rattle.rules.specs.Limits.{desk}
 use Rattle.rules.specs.Lists.{if_then_else_}
 use Rattle.rules.specs.Memory.{soundMemory, rightSize}
-use Rattle.space.specs.Numbers.{rowWidth, elementSlice}
+use Rattle.space.specs.Numbers.{rowWidth, pointSlice, planeSlice, elementSlice}
 use Rattle.space.specs.Chains.{storedRow, keyOf, newStart, Indexed}
 use Rattle.space.specs.Closed.{Unmet}
 use Rattle.soundness.specs.Words.{Mask, PastSeen, countsFit, headWords, cornerNamed, polytopeWords, stampOf, EdgesLow, rowSound, rowNew, floatsSound}
@@ -19,6 +19,41 @@ use Rattle.soundness.specs.Words.{Mask, PastSeen, countsFit, headWords, 
 pub record PartOf (from to words : ℕ) : Type 0 where
   pub order : from ≤ to
   pub end : to ≤ words
+
+-- ---- floats: ps are the points, hs the hyperplanes, d the dimension
+
+-- the point of a vertex from float `at` on
+pub record PointThere (ps : List Float) (at d : ℕ) : Type 0 where
+  pub dimension : d ≤ desk .dimensions
+  pub row : at + desk .dimensions ≤ length ps
+
+-- the points of the first v vertices
+pub record PointsThere (ps : List Float) (d v : ℕ) : Type 0 where
+  pub dimension : d ≤ desk .dimensions
+  pub fits : v ≤ desk .vertices
+  pub long : length ps ≡ pointSlice
+
+-- the row of hyperplane k
+pub record PlaneThere (hs : List Float) (k d : ℕ) : Type 0 where
+  pub dimension : d ≤ desk .dimensions
+  pub inRoom : k < desk .hyperplanes
+  pub long : length hs ≡ planeSlice
+
+-- the rows of the first h hyperplanes
+pub record PlanesThere (hs : List Float) (d h : ℕ) : Type 0 where
+  pub dimension : d ≤ desk .dimensions
+  pub fits : h ≤ desk .hyperplanes
+  pub long : length hs ≡ planeSlice
+
+-- both slices
+pub record FloatsReady (ps hs : List Float) (d v h : ℕ) : Type 0 where
+  pub dimension : d ≤ desk .dimensions
+  pub vertices : v ≤ desk .vertices
+  pub hyperplanes : h ≤ desk .hyperplanes
+  pub points : length ps ≡ pointSlice
+  pub planes : length hs ≡ planeSlice
+
+-- ---- words
 
 -- what an entry of the mask keeps of a word
 pub record Kept (word mask reply : ℕ) : Type 0 where
@@ -32,7 +67,12 @@ pub record MovesOn (row : List ℕ) (reply : ℕ) : Type 0 where
 
 -- ---- boundaries: es are the words of elements, e the element whose boundary it is
 
--- a part of the elements, for an element in the room or the next one
+-- a number tested, for an element in the room or the next one
+pub record NumberReady (es : List ℕ) (e : ℕ) : Type 0 where
+  pub long : length es ≡ elementSlice
+  pub room : e ≤ desk .elements
+
+-- a part of the elements, for such an element
 pub record NumbersReady (es : List ℕ) (from to e : ℕ) : Type 0 where
   pub part : PartOf from to (length es)
   pub long : length es ≡ elementSlice
@@ -70,14 +110,14 @@ pub record PastReady (es : List ℕ) (at n : ℕ) (past seen : List ℕ) : Type 
   pub count : n ≡ getD es (at + 3) 0
   pub fits : n ≤ desk .boundary
   pub mask : Mask past
-  pub places : length seen ≡ 32
+  pub places : length seen ≡ desk .boundary
 
 -- the row of a vertex element from word `at` on
 pub record CornerReady (es : List ℕ) (at : ℕ) (past seen : List ℕ) : Type 0 where
   pub row : at + rowWidth ≤ length es
   pub corner : getD es at 0 ≡ 0
   pub mask : Mask past
-  pub places : length seen ≡ 32
+  pub places : length seen ≡ desk .boundary
 
 -- it is tested as such, and names vertex k
 pub record CornerTested (es : List ℕ) (at k : ℕ) (reply : Bool) (seen seen′ : List ℕ) : Type 0 where
@@ -89,7 +129,7 @@ pub record RowThere (es : List ℕ) (e : ℕ) (past seen : List ℕ) : Type 0 wh
   pub long : length es ≡ elementSlice
   pub inRoom : e < desk .elements
   pub mask : Mask past
-  pub places : length seen ≡ 32
+  pub places : length seen ≡ desk .boundary
 
 -- it is tested as an edge's, in any dimension
 pub record EdgeTested (es : List ℕ) (e : ℕ) (reply : Bool) (seen seen′ : List ℕ) : Type 0 where

@@ -7,11 +7,12 @@ use lib.Dec.{eqb, leb, ltb}
 use lib.Ieee.{Float}
 use lib.ListN.{length, take, drop, getD}
 use Rattle.rules.specs.Floats.{sameBits, plusZero, within, farthest, unit, farthestPlane}
-use Rattle.rules.specs.Limits.{Limits, noPlane}
+use Rattle.rules.specs.Limits.{Limits, desk, noPlane}
 use Rattle.rules.specs.Lists.{all, any, rows, if_then_else_, rises, allFrom, distinct, alike}
 use Rattle.rules.specs.Memory.{planeWidth, elementWidth, rightSize}
 use Rattle.rules.specs.Held.{memoryOf}
 use Rattle.rules.specs.Table.{primordials}
+use Rattle.space.specs.Numbers.{rowWidth}
 use Rattle.space.specs.Chains.{storedRow}
 use Rattle.space.specs.Closed.{closedRaw, metTwice, ringRaw, inside, EndsLow}
 
@@ -37,9 +38,9 @@ planeWords L d row = unit (take d row) && within farthestPlane (getD row (L .dim
 
 -- ---- rows of elements: rank, mark, hyperplane, count, boundary
 
--- 32 zeros and then 32 words of ones
+-- a zero for each place of a boundary, and then as many words of ones
 abbrev pub Mask : List ℕ → Type 0
-Mask l = (k : ℕ) → k < 64 → getD l k 0 ≡ cond (ltb k 32) 0 65535
+Mask l = (k : ℕ) → k < 2 * desk .boundary → getD l k 0 ≡ cond (ltb k (desk .boundary)) 0 65535
 
 -- the row is what is written of some element
 unfoldable pub recordWords : Limits → List ℕ → Bool
@@ -60,7 +61,7 @@ pastBlank row = blankWords (drop (getD row 3 0) (drop 4 row))
 -- what stands there has joined what was seen before
 pub record PastSeen (row before after : List ℕ) : Type 0 where
   pub clear : blankWords after ≡ (blankWords before && pastBlank row)
-  pub long : length after ≡ 32
+  pub long : length after ≡ desk .boundary
 
 -- corners name vertices from k up to v, in order
 abbrev pub inOrder : ℕ → ℕ → List (List ℕ) → Bool
@@ -107,7 +108,7 @@ facetWords d h r plane mark = if eqb (suc r) d then ltb plane h else (eqb plane 
 
 -- each edge before row e has two ends within the room, the lower first
 pub record EdgesLow (es : List ℕ) (e : ℕ) : Type 0 where
-  pub ends : (x : ℕ) → x < e → getD es (x * 36) 0 ≡ 1 → EndsLow es x
+  pub ends : (x : ℕ) → x < e → getD es (x * rowWidth) 0 ≡ 1 → EndsLow es x
 
 -- the row of element e
 unfoldable pub elementSound : Limits → List ℕ → ℕ → ℕ → ℕ → List ℕ → Bool
@@ -142,7 +143,7 @@ rowsInUse L d n v h es = all (recordWords L) (rows n (elementWidth L) es) && cor
 
 -- row i is equal to no earlier one
 unfoldable pub rowNew : List ℕ → ℕ → Bool
-rowNew es i = not (any (alike eqb (storedRow es i)) (rows i 36 es))
+rowNew es i = not (any (alike eqb (storedRow es i)) (rows i rowWidth es))
 
 unfoldable pub rowsDistinct : Limits → ℕ → List ℕ → Bool
 rowsDistinct L n es = distinct (alike eqb) (rows n (elementWidth L) es)

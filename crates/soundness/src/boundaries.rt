@@ -9,26 +9,26 @@ use space::closed::meet_ends;
 use space::words::ELEMENTS;
 use space::words::WIDTH;
 use space::words::wide;
-ghost use Prim.Native.Nat.{_+_, _<_, _≤_};
+ghost use Prim.Native.Nat.{_+_, _<_};
 ghost use mathlib.Core.Path.{_≡_};
-ghost use lib.ListN.{length, take, drop};
+ghost use lib.ListN.{take, drop};
 ghost use Rattle.rules.specs.Limits.{desk};
-ghost use Rattle.space.specs.Numbers.{elementSlice};
+ghost use Rattle.space.specs.Numbers.{NumberBelow};
 ghost use Rattle.space.specs.Closed.{stampRoom};
 ghost use Rattle.soundness.specs.Words.{numberFits, numbersFit, fewWords, faceWords, stampOf, boundarySound};
-ghost use Rattle.soundness.specs.Tests.{NumbersReady, EdgesReady, NumbersThere, BoundaryTested};
+ghost use Rattle.soundness.specs.Tests.{NumberReady, NumbersReady, EdgesReady, NumbersThere, BoundaryTested};
 
 // An element's stamp is above every word that was written for the elements before it: a word of a face is at most INSIDE above the face's own.
 fn stamp_of(e: ElementId) -> u32
     requires { ⌜ e .0 < desk .elements ⌝ }
-    ensures { λ r. ⌜ (r ≡ stampOf (e .0)) × (r < stampRoom) ⌝ }
+    ensures { λ r. ⌜ NumberBelow r (stampOf (e .0)) stampRoom ⌝ }
 {
     ((INSIDE + 1) * e.0 + 1) as u32
 }
 
 // A boundary number is no lower than the least that it may be, below the element's own, and of rank one less: only a number below is one whose rank can be read.
 fn number_fits(elements: &[u16], x: usize, low: usize, e: ElementId, rank: usize) -> bool
-    requires { ⌜ (length (now elements) ≡ elementSlice) × (e .0 ≤ desk .elements) ⌝ }
+    requires { ⌜ NumberReady (now elements) (e .0) ⌝ }
     ensures { λ r. ⌜ r ≡ numberFits desk (now (elements .entry)) (e .0) rank low x ⌝ }
 {
     if x < low {

@@ -7,14 +7,15 @@ use space::words::AXES;
 use space::words::PLANE_FLOATS;
 use space::words::PLANE_WIDTH;
 use space::words::POINT_FLOATS;
-ghost use Prim.Native.Nat.{_+_, _*_, _<_, _≤_};
+ghost use Prim.Native.Nat.{_*_};
 ghost use mathlib.Core.Path.{_≡_};
-ghost use mathlib.Core.Bool.{true};
 ghost use lib.Dec.{eqb};
 ghost use lib.ListN.{length, take, drop};
 ghost use Rattle.rules.specs.Limits.{desk};
 ghost use Rattle.rules.specs.Lists.{all};
 ghost use Rattle.rules.specs.Floats.{sameBits, plusZero, within, farthest};
+ghost use Rattle.rules.specs.Memory.{planeWidth};
+ghost use Rattle.soundness.specs.Tests.{PartOf, PointThere, PointsThere, PlaneThere, PlanesThere, FloatsReady};
 ghost use Rattle.soundness.specs.Words.{blankFloats, pointWords, pointsSound, planeWords, planesSound, floatsSound};
 
 // The farthest a coordinate and a hyperplane may lie.
@@ -34,7 +35,7 @@ fn bits_of(x: f64) -> u64
 
 // Unused room is zero bits: -0 is not blank. Many are read at once, as of the words.
 fn blank_floats(list: &[f64], from: usize, to: usize) -> bool
-    requires { ⌜ (from ≤ to) × (to ≤ length (now list)) ⌝ }
+    requires { ⌜ PartOf from to (length (now list)) ⌝ }
     ensures { λ r. ⌜ r ≡ blankFloats (drop from (take to (now (list .entry)))) ⌝ }
 {
     let mut seen = 0u64;
@@ -46,7 +47,7 @@ fn blank_floats(list: &[f64], from: usize, to: usize) -> bool
 
 // Each coordinate is a number from -65,536 to 65,536.
 fn coordinates_fit(list: &[f64], from: usize, to: usize) -> bool
-    requires { ⌜ (from ≤ to) × (to ≤ length (now list)) ⌝ }
+    requires { ⌜ PartOf from to (length (now list)) ⌝ }
     ensures { λ r. ⌜ r ≡ all (within farthest) (drop from (take to (now (list .entry)))) ⌝ }
 {
     for i in from..to {
@@ -59,8 +60,8 @@ fn coordinates_fit(list: &[f64], from: usize, to: usize) -> bool
 
 // A coordinate for each dimension, and zero bits past it.
 fn point_sound(points: &[f64], at: usize, d: usize) -> bool
-    requires { ⌜ (d ≤ 4) × (at + 4 ≤ length (now points)) ⌝ }
-    ensures { λ r. ⌜ r ≡ pointWords d (take 4 (drop at (now (points .entry)))) ⌝ }
+    requires { ⌜ PointThere (now points) at d ⌝ }
+    ensures { λ r. ⌜ r ≡ pointWords d (take (desk .dimensions) (drop at (now (points .entry)))) ⌝ }
 {
     if !coordinates_fit(points, at, at + d) {
         return false;
@@ -70,7 +71,7 @@ fn point_sound(points: &[f64], at: usize, d: usize) -> bool
 
 // The vertices in use, and zero bits past them.
 fn points_sound(points: &[f64], d: usize, v: usize) -> bool
-    requires { ⌜ (d ≤ 4) × (v ≤ 256) × (length (now points) ≡ 1024) ⌝ }
+    requires { ⌜ PointsThere (now points) d v ⌝ }
     ensures { λ r. ⌜ r ≡ pointsSound desk d v (now (points .entry)) ⌝ }
 {
     for i in 0..v {
@@ -83,8 +84,8 @@ fn points_sound(points: &[f64], d: usize, v: usize) -> bool
 
 // A unit normal, zero bits past the dimension, and a distance from -262,144 to 262,144.
 fn plane_sound(planes: &[f64], k: HyperplaneId, d: usize) -> bool
-    requires { ⌜ (d ≤ 4) × (k .0 < 64) × (length (now planes) ≡ 320) ⌝ }
-    ensures { λ r. ⌜ r ≡ planeWords desk d (take 5 (drop (k .0 * 5) (now (planes .entry)))) ⌝ }
+    requires { ⌜ PlaneThere (now planes) (k .0) d ⌝ }
+    ensures { λ r. ⌜ r ≡ planeWords desk d (take (planeWidth desk) (drop (k .0 * planeWidth desk) (now (planes .entry)))) ⌝ }
 {
     let h = hyperplane_at(planes, k);
     let normal = h.normal;
@@ -96,7 +97,7 @@ fn plane_sound(planes: &[f64], k: HyperplaneId, d: usize) -> bool
 
 // The hyperplanes in use, and zero bits past them.
 fn planes_sound(planes: &[f64], d: usize, h: usize) -> bool
-    requires { ⌜ (d ≤ 4) × (h ≤ 64) × (length (now planes) ≡ 320) ⌝ }
+    requires { ⌜ PlanesThere (now planes) d h ⌝ }
     ensures { λ r. ⌜ r ≡ planesSound desk d h (now (planes .entry)) ⌝ }
 {
     for i in 0..h {
@@ -109,7 +110,7 @@ fn planes_sound(planes: &[f64], d: usize, h: usize) -> bool
 
 // The two slices of floats.
 fn floats_along(points: &[f64], planes: &[f64], d: usize, v: usize, h: usize) -> bool
-    requires { ⌜ (d ≤ 4) × (v ≤ 256) × (h ≤ 64) × (length (now points) ≡ 1024) × (length (now planes) ≡ 320) ⌝ }
+    requires { ⌜ FloatsReady (now points) (now planes) d v h ⌝ }
     ensures { λ r. ⌜ r ≡ floatsSound desk d v h (now (points .entry)) (now (planes .entry)) ⌝ }
 {
     if !points_sound(points, d, v) {
@@ -120,7 +121,7 @@ fn floats_along(points: &[f64], planes: &[f64], d: usize, v: usize, h: usize) ->
 
 // The same; with the dimension as a number the axes are gone over with no loop.
 pub fn floats_sound(points: &[f64], planes: &[f64], d: usize, v: usize, h: usize) -> bool
-    requires { ⌜ (d ≤ 4) × (v ≤ 256) × (h ≤ 64) × (length (now points) ≡ 1024) × (length (now planes) ≡ 320) ⌝ }
+    requires { ⌜ FloatsReady (now points) (now planes) d v h ⌝ }
     ensures { λ r. ⌜ r ≡ floatsSound desk d v h (now (points .entry)) (now (planes .entry)) ⌝ }
 {
     if d == 2 {

@@ -24,6 +24,7 @@ ghost use Rattle.rules.specs.Limits.{desk};
 ghost use Rattle.rules.specs.Memory.{soundMemory};
 ghost use Rattle.rules.specs.Held.{memoryOf};
 ghost use Rattle.rules.specs.Replies.{isSoundReply};
+ghost use Rattle.space.specs.Numbers.{rowWidth};
 ghost use Rattle.space.specs.Chains.{Indexed, storedRow};
 ghost use Rattle.soundness.specs.Words.{blankWords, countsFit, Mask, PastSeen, facetWords, polytopeWords, rowSound, rowsInUse, rowsDistinct, rowsSound};
 ghost use Rattle.soundness.specs.Tests.{PartOf, Kept, MovesOn, PastReady, CornerReady, CornerTested, RowThere, EdgeTested};
@@ -99,7 +100,7 @@ fn gather_past(
     seen: &mut [u16; BOUNDARY],
 )
     requires { ⌜ PastReady (now elements) at n (now past) (now seen) ⌝ }
-    ensures { λ _. ⌜ PastSeen (take 36 (drop at (now (elements .entry)))) (now (seen .entry)) (now (seen .exit)) ⌝ }
+    ensures { λ _. ⌜ PastSeen (take rowWidth (drop at (now (elements .entry)))) (now (seen .entry)) (now (seen .exit)) ⌝ }
 {
     for j in 0..BOUNDARY {
         seen[j] = seen[j] | kept(elements[at + HEAD + j], past[BOUNDARY - n + j]);
@@ -108,8 +109,8 @@ fn gather_past(
 
 // How far the row of a vertex element moves the next vertex on.
 fn one_if_corner(elements: &[u16], at: usize) -> usize
-    requires { ⌜ at + 36 ≤ length (now elements) ⌝ }
-    ensures { λ r. ⌜ MovesOn (take 36 (drop at (now (elements .entry)))) r ⌝ }
+    requires { ⌜ at + rowWidth ≤ length (now elements) ⌝ }
+    ensures { λ r. ⌜ MovesOn (take rowWidth (drop at (now (elements .entry)))) r ⌝ }
 {
     if elements[at] == 0 { 1 } else { 0 }
 }

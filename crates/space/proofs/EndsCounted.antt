@@ -2,10 +2,10 @@
 use Prim.Native.Nat.{ℕ, _+_, suc, zero, _<_, _*_, _≤_}
 use mathlib.Core.Bool.{cond, Bool, true, false, _&&_}
 use mathlib.Core.List.{List, _∷_, []}
-use mathlib.Core.Path.{_≡_, sym, ap, _∙_, refl, subst}
+use mathlib.Core.Path.{_≡_, sym, ap, ap₂, _∙_, refl, subst}
 use native.Mathlib.Nat.{zero-add}
 use native.Mathlib.Omega.{arith}
-use lib.Dec.{eqb, ltb}
+use lib.Dec.{eqb, ltb, lit≤}
 use lib.ListN.{length, drop, getD, set, length-set}
 use lib.Seq.{drop-length, getD-set-same, getD-set-other}
 use borrow.Author.Tests.{ltb-true, lt-ltb, le-ltb}
@@ -13,7 +13,7 @@ use Rattle.rules.specs.Lists.{occurrences, all}
 use Rattle.rules.proofs.FaceEdges.{of-all}
 use Rattle.rules.proofs.Laws.{eq-test, test-eq, not-eq, unlike-eq, and-true, refute}
 use Rattle.rules.proofs.RingWalked.{all-of}
-use Rattle.space.specs.Closed.{EndsLow, Unmet, firstEnd, secondEnd, rawEnds, metTwice, metNext, meeting, isSecond, bothMet, seconds}
+use Rattle.space.specs.Closed.{CornerMet, EndsMet, EndsLow, Unmet, firstEnd, secondEnd, rawEnds, metTwice, metNext, meeting, isSecond, bothMet, seconds}
 use Rattle.space.proofs.Meetings.{times-cons, bit, ends-on, met-in, in-met, spare, spare-none, spares, more-is, spares-more}
 use Rattle.space.proofs.Sums.{sum-zeros, zeros-sum}
 use Rattle.space.proofs.Webs.{more}
@@ -87,6 +87,24 @@ counts-go s c met twice ends a C low = record {
         ap (λ (x : ℕ). getD (set met a (metNext s (getD met a 0))) x 0) q ∙ getD-set-same met a (metNext s (getD met a 0)) 0 (omega arith) ∙ ap (λ (x : ℕ). metNext s (getD met x 0)) (sym q) in
         subst (λ (m : ℕ). Word s (suc (c v)) m) (sym p) (word-next s (c v) (getD met v 0) (C .word v h))
     go v h false e = subst (λ (m : ℕ). Word s (c v) m) (sym (getD-set-other met a v (metNext s (getD met a 0)) 0 (unlike-eq v a e))) (C .word v h)
+
+-- ---- both ends of an edge
+
+-- one after the other, each 1 at most
+pub ends-met : (s : ℕ) (es met one after : List ℕ) (e a b f g : ℕ) → a ≡ firstEnd es e → b ≡ secondEnd es e → CornerMet s met a f one → CornerMet s one b g after → EndsMet s es met e (f + g) after
+unfolding seconds bothMet
+ends-met s es met one after e a b f g p q A B = record {
+  count = ap₂ (λ (x y : ℕ). x + y) (A .count ∙ ap (isSecond s met) p) (B .count ∙ ap₂ (isSecond s) first q);
+  words = B .words ∙ ap₂ (meeting s) first q;
+  most = let x = A .count in let y = B .count in let u = few (eqb (getD met a 0) s) in let v = few (eqb (getD one b 0) s) in omega arith;
+}
+  where
+    first : one ≡ meeting s met (firstEnd es e)
+    first = A .words ∙ ap (meeting s met) p
+
+    few : (t : Bool) → cond t 1 0 ≤ 1
+    few true = lit≤ tt
+    few false = lit≤ tt
 
 -- ---- a round of edges
 

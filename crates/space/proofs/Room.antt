@@ -5,7 +5,7 @@ use mathlib.Core.List.{map, List, _∷_, [], _++_, append-nil}
 use mathlib.Core.Path.{_≡_, refl, ap, sym, _∙_, subst}
 use native.Mathlib.Nat.{mul-le-mul-right, add-zero, suc-mul, le-of-eq, le-trans}
 use native.Mathlib.Omega.{arith}
-use lib.Dec.{leb}
+use lib.Dec.{leb, eqb}
 use lib.Ieee.{Float}
 use lib.ListN.{length, getD, List·getD-append, replicate, set, length-append}
 use lib.Seq.{sets}
@@ -15,12 +15,11 @@ use Rattle.rules.specs.Held.{countsOf, pointsOf, planesOf, elementsOf, Fits, el
 use Rattle.rules.specs.Limits.{Limits, Readable}
 use Rattle.rules.specs.Lists.{pad, all}
 use Rattle.rules.specs.Memory.{encode, elementWidth, planeWidth, planeRow, elementRow, planeNumber}
-use Rattle.rules.specs.Sound.{soundPoint, soundPlane}
 use Rattle.rules.specs.Table.{Table, element, elementCount, Plane, Element, corner, polytope, rank, rankOf, boundaryOf, isPrimordial, planeOf}
 use Rattle.rules.proofs.Good.{Good}
 use Rattle.rules.proofs.Growing.{all-snoc}
 use Rattle.rules.proofs.Laws.{le-test, and-right, and-left, and-true}
-use Rattle.rules.proofs.RoundTrip.{element-long, element-fits, point-long, dim-fits, plane-long}
+use Rattle.rules.proofs.RoundTrip.{Shaped, good-shaped, element-long, axes-long, row-long}
 use Rattle.rules.proofs.Rows.{wide-map}
 use Rattle.space.proofs.Laid.{laid-size, laid-read, laid-append, map-append, wide-append, wide-left, length-padded, laid-back}
 
@@ -28,16 +27,19 @@ pub encode-parts : (L : Limits) (t : Table) → encode L t ≡ record { counts =
 unfolding encode countsOf pointsOf planesOf elementsOf
 encode-parts L t = refl
 
-pub good-fits : (L : Limits) (U : Readable L) (t : Table) → Good L t → Fits L t
-good-fits L U t g = record {
-  elementRoom = le-test (elementCount t) (L .elements) (g .elementRoom);
-  pointRoom = le-test (length (t .points)) (L .vertices) (g .vertexRoom);
-  planeRoom = le-test (length (t .planes)) (L .hyperplanes) (g .planeRoom);
-  elements = wide-map (elementWidth L) (elementWords L) (fitting L) (element-long L U) (t .elements) (element-fits L U t g);
-  kinds = element-fits L U t g;
-  points = wide-map (L .dimensions) (pad plusZero (L .dimensions)) (soundPoint (t .dimension)) (point-long L U (t .dimension) (dim-fits L U t g)) (t .points) (g .points);
-  planes = wide-map (planeWidth L) (planeRow L) (soundPlane (t .dimension)) (plane-long L U (t .dimension) (dim-fits L U t g)) (t .planes) (g .planes);
+pub shaped-fits : (L : Limits) (U : Readable L) (t : Table) → Shaped L U t → Fits L t
+shaped-fits L U t g = record {
+  elementRoom = g .elementRoom;
+  pointRoom = g .pointRoom;
+  planeRoom = g .planeRoom;
+  elements = wide-map (elementWidth L) (elementWords L) (fitting L) (element-long L U) (t .elements) (g .elements);
+  kinds = g .elements;
+  points = wide-map (L .dimensions) (pad plusZero (L .dimensions)) (λ p. eqb (length p) (t .dimension)) (axes-long L U (t .dimension) (g .dimension)) (t .points) (g .points);
+  planes = wide-map (planeWidth L) (planeRow L) (λ h. eqb (length (h .normal)) (t .dimension)) (row-long L U (t .dimension) (g .dimension)) (t .planes) (g .planes);
 }
+
+pub good-fits : (L : Limits) (U : Readable L) (t : Table) → Good L t → Fits L t
+good-fits L U t g = shaped-fits L U t (good-shaped L U t g)
 
 -- a row that is as long as its room
 pub full : {A : Type 0} (z : A) (ys : List A) (n : ℕ) → length ys ≡ n → ys ≡ pad z n ys

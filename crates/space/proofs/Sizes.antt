@@ -10,6 +10,14 @@ use Rattle.rules.specs.Held.{memoryOf}
 use Rattle.rules.specs.Limits.{desk}
 use Rattle.rules.specs.Memory.{rightSize}
 use Rattle.rules.proofs.Laws.{and-left, and-right, eq-test}
+use Rattle.space.specs.Numbers.{pointSlice, planeSlice, elementSlice}
+
+-- the lengths of the four slices
+pub record Lengths (cs : List ℕ) (ps hs : List Float) (es : List ℕ) : Type 0 where
+  pub counts : length cs ≡ 4
+  pub points : length ps ≡ pointSlice
+  pub planes : length hs ≡ planeSlice
+  pub elements : length es ≡ elementSlice
 
 module _ (cs : List ℕ) (ps hs : List Float) (es : List ℕ) where
   pub size-of : (a b c e : Bool) → eqb (length cs) 4 ≡ a → eqb (length ps) 1024 ≡ b → eqb (length hs) 320 ≡ c → eqb (length es) 18432 ≡ e
@@ -17,7 +25,7 @@ module _ (cs : List ℕ) (ps hs : List Float) (es : List ℕ) where
   unfolding rightSize
   size-of a b c e p q r s i = sym p i && sym q i && sym r i && sym s i
 
-  pub size-known : rightSize desk (memoryOf cs ps hs es) ≡ true → (length cs ≡ 4) × (length ps ≡ 1024) × (length hs ≡ 320) × (length es ≡ 18432)
+  pub size-known : rightSize desk (memoryOf cs ps hs es) ≡ true → Lengths cs ps hs es
   unfolding rightSize
   size-known h =
       let a = eqb (length cs) 4 in
@@ -26,4 +34,9 @@ module _ (cs : List ℕ) (ps hs : List Float) (es : List ℕ) where
       let e = eqb (length es) 18432 in
       let abc = and-left (a && b && c) e h in
       let ab = and-left (a && b) c abc in
-      (eq-test _ 4 (and-left a b ab), eq-test _ 1024 (and-right a b ab), eq-test _ 320 (and-right (a && b) c abc), eq-test _ 18432 (and-right (a && b && c) e h))
+      record {
+        counts = eq-test _ 4 (and-left a b ab);
+        points = eq-test _ 1024 (and-right a b ab);
+        planes = eq-test _ 320 (and-right (a && b) c abc);
+        elements = eq-test _ 18432 (and-right (a && b && c) e h);
+      }

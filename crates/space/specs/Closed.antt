@@ -139,6 +139,21 @@ joined s es paths e = joinWords s paths (firstEnd es e) (secondEnd es e) (farEnd
 abbrev pub stampRoom : ℕ
 stampRoom = 1000000
 
+-- corner v is met under a stamp
+pub record MeetReady (v s : ℕ) : Type 0 where
+  pub room : v < desk .elements
+  pub stamp : s < stampRoom
+
+-- 1 where it is for the second time, and its word
+pub record CornerMet (s : ℕ) (met : List ℕ) (v reply : ℕ) (met′ : List ℕ) : Type 0 where
+  pub count : reply ≡ isSecond s met v
+  pub words : met′ ≡ meeting s met v
+
+-- the path that ends in corner v is followed
+pub record PathReady (s : ℕ) (paths : List ℕ) (v : ℕ) : Type 0 where
+  pub room : v < desk .elements
+  pub stamped : Stamped s paths
+
 -- the ends of edge e are taken up under a stamp
 pub record EdgeReady (es : List ℕ) (e s : ℕ) : Type 0 where
   pub elements : length es ≡ elementSlice
@@ -151,6 +166,11 @@ pub record EndsMet (s : ℕ) (es met : List ℕ) (e reply : ℕ) (met′ : List 
   pub count : reply ≡ seconds s es met e
   pub words : met′ ≡ bothMet s es met e
   pub most : reply ≤ 2
+
+-- and they are the ends of paths
+pub record JoinEndsReady (es : List ℕ) (e s : ℕ) (paths : List ℕ) : Type 0 where
+  pub edge : EdgeReady es e s
+  pub stamped : Stamped s paths
 
 -- they join paths; nothing is written where the edge joins none
 pub record EndsJoined (s : ℕ) (es paths : List ℕ) (e reply : ℕ) (paths′ : List ℕ) : Type 0 where

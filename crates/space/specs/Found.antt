@@ -49,6 +49,11 @@ pub record RowAdded (cs es row : List ℕ) (r : Placed) (cs′ es′ : List ℕ)
   pub of : (ps hs : List Float) (t : Table) (e : Element) → Holds desk cs ps hs es t → row ≡ elementWords desk e → fitting desk e ≡ true
       → Came placedAt placed.Refused (Holds desk cs′ ps hs es′) t (addElement desk e t) r
 
+-- and the rows in use are indexed then
+pub record RowIndexed (cs es row : List ℕ) (r : Placed) (cs′ es′ ix′ : List ℕ) : Type 0 where
+  pub added : RowAdded cs es row r cs′ es′
+  pub index : Indexed es′ (getD cs′ 1 0) ix′
+
 -- the row stored behind n others, its count, and its chain
 pub record RowAppended (cs es row : List ℕ) (n : ℕ) (cs′ es′ ix′ : List ℕ) : Type 0 where
   pub count : cs′ ≡ set cs 1 (n + 1)

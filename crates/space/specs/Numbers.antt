@@ -1,5 +1,6 @@
--- The numbers of the room that the contracts cite, worked out from its limits. Definitions only.
-use Prim.Native.Nat.{ℕ, _*_}
+-- The numbers that the contracts cite: those of the room, worked out from its limits, and those that functions answer. Definitions only.
+use Prim.Native.Nat.{ℕ, _*_, _<_}
+use mathlib.Core.Path.{_≡_}
 use Rattle.rules.specs.Limits.{desk}
 use Rattle.rules.specs.Memory.{elementWidth, planeWidth}
 
@@ -16,3 +17,8 @@ planeSlice = desk .hyperplanes * planeWidth desk
 
 abbrev pub elementSlice : ℕ
 elementSlice = desk .elements * rowWidth
+
+-- a number that a function answers: which it is, and below what it lies
+pub record NumberBelow (reply x top : ℕ) : Type 0 where
+  pub value : reply ≡ x
+  pub bound : reply < top

@@ -1,4 +1,4 @@
--- What a function asks of its caller: one record for each that asks more than two things. Definitions only.
+-- What a function asks of its caller: one record for each that asks more than one thing. Definitions only.
 -- A slice's field is its length; `room` says that no more entries are in use than there is room for.
 use Prim.Native.Nat.{ℕ, _+_, _≤_, _<_}
 use mathlib.Core.Path.{_≡_}
@@ -13,6 +13,33 @@ use Rattle.space.specs.Closed.{Low, LowEnds}
 use Rattle.space.specs.Shared.{VertexInRoom}
 
 -- ---- rows
+
+-- the row of element e read
+pub record ElementReady (es : List ℕ) (e : ℕ) : Type 0 where
+  pub elements : length es ≡ elementSlice
+  pub room : e < desk .elements
+
+-- and place i of its boundary
+pub record BoundaryAtReady (es : List ℕ) (e i : ℕ) : Type 0 where
+  pub elements : length es ≡ elementSlice
+  pub room : e < desk .elements
+  pub place : i < desk .boundary
+
+-- a row stored from word `at` on
+pub record PutRowReady (es : List ℕ) (at : ℕ) (w : List ℕ) : Type 0 where
+  pub place : at + rowWidth ≤ length es
+  pub row : length w ≡ rowWidth
+
+-- a row made, whose boundary is the first n numbers of a set's words
+pub record PolytopeRowReady (set : List ℕ) (n r : ℕ) : Type 0 where
+  pub words : length set ≡ desk .boundary + 2
+  pub size : n ≤ desk .boundary
+  pub rank : r < 65536
+
+-- a row of the elements compared with one of some words
+pub record SameRowReady (es : List ℕ) (at : ℕ) (words : List ℕ) (from : ℕ) : Type 0 where
+  pub stored : at + rowWidth ≤ length es
+  pub row : from + rowWidth ≤ length words
 
 -- a search among the first n rows, for the row that stands at a place of some words
 pub record SearchReady (es : List ℕ) (n : ℕ) (words : List ℕ) (from : ℕ) (ix : List ℕ) : Type 0 where
@@ -45,6 +72,11 @@ pub record AddRowReady (cs es ix w : List ℕ) : Type 0 where
 
 -- ---- vertices
 
+-- the point of vertex v read
+pub record PointReady (ps : List Float) (v : ℕ) : Type 0 where
+  pub points : length ps ≡ pointSlice
+  pub room : v < desk .vertices
+
 -- a vertex shared, once it is searched for
 pub record ShareReady (cs : List ℕ) (ps : List Float) (es ix : List ℕ) (m : FoundVertex) : Type 0 where
   pub counts : length cs ≡ 4
@@ -64,6 +96,11 @@ pub record VertexReady (cs : List ℕ) (ps : List Float) (es ix : List ℕ) : Ty
   pub index : Indexed es (getD cs 1 0) ix
 
 -- ---- hyperplanes
+
+-- a hyperplane shared, once it is searched for
+pub record ShareHyperplaneReady (cs : List ℕ) (hs : List Float) : Type 0 where
+  pub counts : length cs ≡ 4
+  pub planes : length hs ≡ planeSlice
 
 -- a hyperplane added
 pub record HyperplaneReady (cs : List ℕ) (hs : List Float) : Type 0 where

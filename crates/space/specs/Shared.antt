@@ -82,8 +82,9 @@ pub record VertexShared (cs : List ℕ) (ps : List Float) (es : List ℕ) (p : L
       → Came placedAt placed.Refused (Holds desk cs′ ps′ hs es′) t (shareVertex desk q (vertexNumber m) t) r
 
 -- and the rows in use are indexed then
-abbrev pub SharedIndexed : List ℕ → List Float → List ℕ → List Float → FoundVertex → Placed → List ℕ → List Float → List ℕ → List ℕ → Type 0
-SharedIndexed cs ps es p m r cs′ ps′ es′ ix′ = VertexShared cs ps es p m r cs′ ps′ es′ × Indexed es′ (getD cs′ 1 0) ix′
+pub record SharedIndexed (cs : List ℕ) (ps : List Float) (es : List ℕ) (p : List Float) (m : FoundVertex) (r : Placed) (cs′ : List ℕ) (ps′ : List Float) (es′ ix′ : List ℕ) : Type 0 where
+  pub shared : VertexShared cs ps es p m r cs′ ps′ es′
+  pub index : Indexed es′ (getD cs′ 1 0) ix′
 
 -- the same of the whole step, on a sound table
 pub record VertexAdded (cs : List ℕ) (ps : List Float) (es : List ℕ) (p : List Float) (r : Placed) (cs′ : List ℕ) (ps′ : List Float) (es′ : List ℕ) : Type 0 where
@@ -91,8 +92,9 @@ pub record VertexAdded (cs : List ℕ) (ps : List Float) (es : List ℕ) (p : Li
   pub of : (hs : List Float) (t : Table) (q : List Float) → Holds desk cs ps hs es t → sound desk t ≡ true → p ≡ pad plusZero (desk .dimensions) q → soundPoint (t .dimension) q ≡ true
       → Came placedAt placed.Refused (Holds desk cs′ ps′ hs es′) t (addVertex desk q t) r
 
-abbrev pub VertexIndexed : List ℕ → List Float → List ℕ → List Float → Placed → List ℕ → List Float → List ℕ → List ℕ → Type 0
-VertexIndexed cs ps es p r cs′ ps′ es′ ix′ = VertexAdded cs ps es p r cs′ ps′ es′ × Indexed es′ (getD cs′ 1 0) ix′
+pub record VertexIndexed (cs : List ℕ) (ps : List Float) (es : List ℕ) (p : List Float) (r : Placed) (cs′ : List ℕ) (ps′ : List Float) (es′ ix′ : List ℕ) : Type 0 where
+  pub added : VertexAdded cs ps es p r cs′ ps′ es′
+  pub index : Indexed es′ (getD cs′ 1 0) ix′
 
 -- ---- hyperplanes
 
@@ -179,5 +181,6 @@ pub record PolytopeAdded (cs es : List ℕ) (rank : ℕ) (b : List ℕ) (plane :
   pub of : (ps hs : List Float) (t : Table) → Holds desk cs ps hs es t → (rank < length b → 1 ≤ rank) → (rank ≡ 2 → Edges t b)
       → Came added.Made added.Refused (Holds desk cs′ ps hs es′) t (addPolytope desk rank b (planeNamed plane) mark t) r
 
-abbrev pub PolytopeIndexed : List ℕ → List ℕ → ℕ → List ℕ → ℕ → Bool → Added → List ℕ → List ℕ → List ℕ → Type 0
-PolytopeIndexed cs es rank b plane mark r cs′ es′ ix′ = PolytopeAdded cs es rank b plane mark r cs′ es′ × Indexed es′ (getD cs′ 1 0) ix′
+pub record PolytopeIndexed (cs es : List ℕ) (rank : ℕ) (b : List ℕ) (plane : ℕ) (mark : Bool) (r : Added) (cs′ es′ ix′ : List ℕ) : Type 0 where
+  pub added : PolytopeAdded cs es rank b plane mark r cs′ es′
+  pub index : Indexed es′ (getD cs′ 1 0) ix′

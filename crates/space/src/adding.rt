@@ -9,9 +9,7 @@ use crate::words::ELEMENTS;
 use crate::words::WIDTH;
 use crate::words::wide;
 use rules::ElementId;
-ghost use lib.ListN.{getD};
-ghost use Rattle.space.specs.Chains.{Indexed};
-ghost use Rattle.space.specs.Found.{RowAdded, RowAppended};
+ghost use Rattle.space.specs.Found.{RowIndexed, RowAppended};
 ghost use Rattle.space.specs.Ready.{AppendReady, AddRowReady};
 
 // The row stored behind the last, and at the start of its chain.
@@ -28,7 +26,7 @@ fn append_row(counts: &mut [u16], elements: &mut [u16], index: &mut [u16], row: 
 // The element of an equal row, which is there already; or the row appended (9).
 pub fn add_row(counts: &mut [u16], elements: &mut [u16], index: &mut [u16], row: &[u16]) -> Placed
     requires { ⌜ AddRowReady (now counts) (now elements) (now index) (now row) ⌝ }
-    ensures { λ r. ⌜ RowAdded (now (counts .entry)) (now (elements .entry)) (now (row .entry)) r (now (counts .exit)) (now (elements .exit)) × Indexed (now (elements .exit)) (getD (now (counts .exit)) 1 0) (now (index .exit)) ⌝ }
+    ensures { λ r. ⌜ RowIndexed (now (counts .entry)) (now (elements .entry)) (now (row .entry)) r (now (counts .exit)) (now (elements .exit)) (now (index .exit)) ⌝ }
 {
     let n = wide(counts[1]);
     let found = find_row(elements, n, row, 0, index);

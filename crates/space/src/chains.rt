@@ -3,15 +3,15 @@
 use crate::words::WIDTH;
 use crate::words::wide;
 use rules::ElementId;
-ghost use Prim.Native.Nat.{_+_, _<_, _≤_};
+ghost use Prim.Native.Nat.{_+_, _≤_};
 ghost use mathlib.Core.Path.{_≡_};
 ghost use lib.Dec.{eqb};
 ghost use lib.ListN.{length, take, drop};
 ghost use Rattle.rules.specs.Lists.{alike, find, rows};
 ghost use Rattle.space.specs.Chains.{keyOf, keys, numberOf, newStart};
 ghost use Rattle.space.specs.Found.{elementNumber};
-ghost use Rattle.space.specs.Numbers.{rowWidth};
-ghost use Rattle.space.specs.Ready.{SearchReady, JoinReady};
+ghost use Rattle.space.specs.Numbers.{rowWidth, NumberBelow};
+ghost use Rattle.space.specs.Ready.{SearchReady, SameRowReady, JoinReady};
 
 // Room for a chain's start for each key, and for a link for each row behind them.
 const KEYS: usize = 1024;
@@ -31,7 +31,7 @@ pub enum FoundElement {
 // The row's first two boundary numbers, mixed: equal rows share it. A remainder, so that any words are a place in the index.
 pub fn key_of(words: &[u16], at: usize) -> usize
     requires { ⌜ at + rowWidth ≤ length (now words) ⌝ }
-    ensures { λ r. ⌜ (r ≡ keyOf (take rowWidth (drop at (now (words .entry))))) × (r < keys) ⌝ }
+    ensures { λ r. ⌜ NumberBelow r (keyOf (take rowWidth (drop at (now (words .entry))))) keys ⌝ }
 {
     let first = wide(words[at + 4]);
     let second = wide(words[at + 5]);
@@ -40,7 +40,7 @@ pub fn key_of(words: &[u16], at: usize) -> usize
 
 // The row that stands at a place of some words is the table's row.
 fn same_row(elements: &[u16], at: usize, words: &[u16], from: usize) -> bool
-    requires { ⌜ (at + rowWidth ≤ length (now elements)) × (from + rowWidth ≤ length (now words)) ⌝ }
+    requires { ⌜ SameRowReady (now elements) at (now words) from ⌝ }
     ensures { λ r. ⌜ r ≡ alike eqb (take rowWidth (drop from (now (words .entry)))) (take rowWidth (drop at (now (elements .entry)))) ⌝ }
 {
     // rows on one chain nearly always are told apart by their first boundary number

@@ -27,8 +27,7 @@ ghost use Rattle.rules.specs.Memory.{planeWidth};
 ghost use Rattle.rules.specs.Table.{corner};
 ghost use Rattle.rules.specs.Table as table;
 ghost use Rattle.rules.specs.Held.{elementWords};
-ghost use Rattle.space.specs.Numbers.{pointSlice, planeSlice};
-ghost use Rattle.space.specs.Ready.{ShareReady, VertexReady, HyperplaneReady, PolytopeReady};
+ghost use Rattle.space.specs.Ready.{PointReady, ShareReady, VertexReady, ShareHyperplaneReady, HyperplaneReady, PolytopeReady};
 ghost use Rattle.space.specs.Shared.{storedPoint, four, SharedIndexed, VertexIndexed, rowOf, five, HyperplaneShared, HyperplaneAdded, PolytopeIndexed};
 
 // What adding a hyperplane gives.
@@ -44,7 +43,7 @@ pub enum Added {
 }
 
 pub fn read_point(points: &[f64], v: VertexId) -> [f64; AXES]
-    requires { ⌜ (length (now points) ≡ pointSlice) × (v .0 < desk .vertices) ⌝ }
+    requires { ⌜ PointReady (now points) (v .0) ⌝ }
     ensures { λ r. ⌜ r ≡ storedPoint (now (points .entry)) (v .0) ⌝ }
 {
     let at = v.0 * AXES;
@@ -161,7 +160,7 @@ fn share_hyperplane(
     row: [f64; PLANE_WIDTH],
     m: FoundHyperplane,
 ) -> PlacedHyperplane
-    requires { ⌜ (length (now counts) ≡ 4) × (length (now planes) ≡ planeSlice) ⌝ }
+    requires { ⌜ ShareHyperplaneReady (now counts) (now planes) ⌝ }
     ensures { λ r. ⌜ HyperplaneShared (now (counts .entry)) (now (planes .entry)) row m r (now (counts .exit)) (now (planes .exit)) ⌝ }
 {
     match m {

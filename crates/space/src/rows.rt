@@ -3,17 +3,18 @@ use crate::words::SET;
 use crate::words::WIDTH;
 use crate::words::wide;
 use rules::ElementId;
-ghost use Prim.Native.Nat.{_+_, _*_, _<_, _≤_};
+ghost use Prim.Native.Nat.{_+_, _*_};
 ghost use mathlib.Core.Bool.{cond};
 ghost use mathlib.Core.Path.{_≡_};
 ghost use lib.Dec.{eqb};
 ghost use lib.Seq.{sets};
-ghost use lib.ListN.{length, getD, take};
+ghost use lib.ListN.{getD, take};
 ghost use Rattle.rules.specs.Limits.{desk};
 ghost use Rattle.rules.specs.Table.{polytope};
 ghost use Rattle.rules.specs.Memory.{planeNamed};
 ghost use Rattle.rules.specs.Held.{elementWords};
-ghost use Rattle.space.specs.Numbers.{rowWidth, elementSlice};
+ghost use Rattle.space.specs.Numbers.{rowWidth};
+ghost use Rattle.space.specs.Ready.{ElementReady, BoundaryAtReady, PutRowReady, PolytopeRowReady};
 
 // What adding an element gives.
 pub enum Placed {
@@ -22,7 +23,7 @@ pub enum Placed {
 }
 
 pub fn rank_of(elements: &[u16], e: ElementId) -> usize
-    requires { ⌜ (length (now elements) ≡ elementSlice) × (e .0 < desk .elements) ⌝ }
+    requires { ⌜ ElementReady (now elements) (e .0) ⌝ }
     ensures { λ r. ⌜ r ≡ getD (now (elements .entry)) (e .0 * rowWidth) 0 ⌝ }
 {
     let at = e.0 * WIDTH;
@@ -30,7 +31,7 @@ pub fn rank_of(elements: &[u16], e: ElementId) -> usize
 }
 
 pub fn is_primordial(elements: &[u16], e: ElementId) -> bool
-    requires { ⌜ (length (now elements) ≡ elementSlice) × (e .0 < desk .elements) ⌝ }
+    requires { ⌜ ElementReady (now elements) (e .0) ⌝ }
     ensures { λ r. ⌜ r ≡ eqb (getD (now (elements .entry)) (e .0 * rowWidth + 1) 0) 1 ⌝ }
 {
     let at = e.0 * WIDTH;
@@ -39,7 +40,7 @@ pub fn is_primordial(elements: &[u16], e: ElementId) -> bool
 
 // A hyperplane's number, or FFFF where there is none.
 pub fn plane_of(elements: &[u16], e: ElementId) -> u16
-    requires { ⌜ (length (now elements) ≡ elementSlice) × (e .0 < desk .elements) ⌝ }
+    requires { ⌜ ElementReady (now elements) (e .0) ⌝ }
     ensures { λ r. ⌜ r ≡ getD (now (elements .entry)) (e .0 * rowWidth + 2) 0 ⌝ }
 {
     let at = e.0 * WIDTH;
@@ -47,7 +48,7 @@ pub fn plane_of(elements: &[u16], e: ElementId) -> u16
 }
 
 pub fn size_of(elements: &[u16], e: ElementId) -> usize
-    requires { ⌜ (length (now elements) ≡ elementSlice) × (e .0 < desk .elements) ⌝ }
+    requires { ⌜ ElementReady (now elements) (e .0) ⌝ }
     ensures { λ r. ⌜ r ≡ getD (now (elements .entry)) (e .0 * rowWidth + 3) 0 ⌝ }
 {
     let at = e.0 * WIDTH;
@@ -56,7 +57,7 @@ pub fn size_of(elements: &[u16], e: ElementId) -> usize
 
 // An element's number; of a corner, its vertex's number.
 pub fn boundary_at(elements: &[u16], e: ElementId, i: usize) -> u16
-    requires { ⌜ (length (now elements) ≡ elementSlice) × (e .0 < desk .elements) × (i < desk .boundary) ⌝ }
+    requires { ⌜ BoundaryAtReady (now elements) (e .0) i ⌝ }
     ensures { λ r. ⌜ r ≡ getD (now (elements .entry)) (e .0 * rowWidth + (4 + i)) 0 ⌝ }
 {
     let at = e.0 * WIDTH;
@@ -64,7 +65,7 @@ pub fn boundary_at(elements: &[u16], e: ElementId, i: usize) -> u16
 }
 
 pub fn put_row(elements: &mut [u16], at: usize, row: &[u16])
-    requires { ⌜ (at + rowWidth ≤ length (now elements)) × (length (now row) ≡ rowWidth) ⌝ }
+    requires { ⌜ PutRowReady (now elements) at (now row) ⌝ }
     ensures { λ r. ⌜ now (elements .exit) ≡ sets (now (elements .entry)) at (now (row .entry)) ⌝ }
 {
     for j in 0..WIDTH {
@@ -86,7 +87,7 @@ pub fn polytope_row(
     plane: u16,
     mark: bool,
 ) -> [u16; WIDTH]
-    requires { ⌜ (length (now list) ≡ desk .boundary + 2) × (n ≤ desk .boundary) × (rank < 65536) ⌝ }
+    requires { ⌜ PolytopeRowReady (now list) n rank ⌝ }
     ensures { λ r. ⌜ r ≡ elementWords desk (polytope rank (take n (now (list .entry))) (planeNamed plane) mark) ⌝ }
 {
     let mut row = [0u16; WIDTH];

@@ -1,9 +1,9 @@
 // The room of a table in the four slices, and their words as numbers.
-ghost use Prim.Native.Nat.{_<_};
 ghost use mathlib.Core.Path.{_≡_};
 ghost use Rattle.rules.specs.Limits.{desk};
 ghost use Rattle.rules.specs.Memory.{rightSize};
 ghost use Rattle.rules.specs.Held.{memoryOf};
+ghost use Rattle.space.specs.Numbers.{NumberBelow};
 
 // Room for so many vertices, elements and hyperplanes.
 pub const VERTICES: usize = 256;
@@ -43,7 +43,7 @@ pub const NO_PLANE: u16 = 65535;
 
 // A word as a number to count and index with.
 pub fn wide(x: u16) -> usize
-    ensures { λ r. ⌜ (r ≡ x) × (r < 65536) ⌝ }
+    ensures { λ r. ⌜ NumberBelow r x 65536 ⌝ }
 {
     x as usize
 }

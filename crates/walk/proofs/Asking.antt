@@ -17,6 +17,7 @@ use Rattle.rules.specs.Held.{Holds, memoryOf}
 use Rattle.rules.specs.Questions.{Asked, no-answer}
 use Rattle.rules.specs.Replies.{asked}
 use Rattle.rules.proofs.Good.{Good, sound-good}
+use Rattle.space.specs.Ready.{ElementReady}
 use Rattle.space.proofs.Lent.{memory-holds, memory-sound-table}
 use Rattle.space.proofs.Room.{rank-word}
 use Rattle.space.proofs.RowAdds.{readable-desk}
@@ -60,8 +61,8 @@ module _ (cs : List ℕ) (ps hs : List Float) (es : List ℕ) where
       pub in-use : root < elementCount tableOf
       in-use = le-trans l (le-of-eq (e ∙ count-is))
 
-      pub rank-asked : (length es ≡ 18432) × (root < 512)
-      rank-asked = (slices holds .elements, le-trans in-use (holds .fits .elementRoom))
+      pub rank-asked : ElementReady es root
+      rank-asked = record { elements = slices holds .elements; room = le-trans in-use (holds .fits .elementRoom) }
 
       pub rank-is : (r : ℕ) → r ≡ getD es (root * 36) 0 → r ≡ rank tableOf root
       rank-is r h = h ∙ ap (λ (k : List ℕ). getD k (root * 36) 0) (holds .elements) ∙ rank-word desk tableOf (holds .fits) root in-use

@@ -7,6 +7,7 @@ use lib.Dec.{ltb, eqb}
 use lib.ListN.{length, getD}
 use Rattle.rules.specs.Lists.{if_then_else_, keep}
 use Rattle.rules.specs.Held.{AllOf}
+use Rattle.space.specs.Ready.{ElementReady}
 use Rattle.walk.specs.Boundaries.{rowBoundary, BoundaryFits}
 
 -- ---- an edge's two ends
@@ -68,10 +69,10 @@ wordsInOrder es xs = numbersFrom (length xs) es xs (lowestEnd es noEdge xs) (fir
 
 -- ---- what the walk needs
 
--- the row of element e stands in the lent memory
-pub record RowFits (es : List ℕ) (e : ℕ) : Type 0 where
-  pub long : length es ≡ 18432
-  pub used : e < 512
+-- an end of edge e is read
+pub record EndReady (es : List ℕ) (e i : ℕ) : Type 0 where
+  pub edge : ElementReady es e
+  pub end : i < 2
 
 -- r is the number in the row of the vertex element v
 pub record VertexOf (es : List ℕ) (v r : ℕ) : Type 0 where

@@ -7,7 +7,7 @@ use rules::VertexId;
 use soundness::sound::memory_sound;
 use space::rows;
 use space::words::wide;
-ghost use Prim.Native.Nat.{_+_, _*_, _<_};
+ghost use Prim.Native.Nat.{_+_, _*_};
 ghost use mathlib.Core.Path.{_≡_};
 ghost use mathlib.Core.Bool.{not, _&&_};
 ghost use lib.Dec.{eqb};
@@ -17,16 +17,17 @@ ghost use Rattle.rules.specs.Limits.{desk};
 ghost use Rattle.rules.specs.Held.{memoryOf};
 ghost use Rattle.rules.specs.Questions.{answer};
 ghost use Rattle.rules.specs.Replies.{listed, edgesInOrderReply};
+ghost use Rattle.space.specs.Ready.{ElementReady};
 ghost use Rattle.walk.specs.Boundaries.{rowBoundary, BoundaryFits};
 ghost use Rattle.walk.specs.Walks as words;
-ghost use Rattle.walk.specs.Walks.{hasEnd, endAcross, edgeBeside, lowestEnd, noEdge, firstWay, numbersRound, wordsInOrder, RowFits, VertexOf, FaceFits, WalkFits};
+ghost use Rattle.walk.specs.Walks.{hasEnd, endAcross, edgeBeside, lowestEnd, noEdge, firstWay, numbersRound, wordsInOrder, EndReady, VertexOf, FaceFits, WalkFits};
 
 // No element has this number.
 const NO_EDGE: usize = 65535;
 
 // One of an edge's two ends, which are vertex elements.
 fn end_at(elements: &[u16], e: ElementId, i: usize) -> ElementId
-    requires { ⌜ RowFits (now elements) (e .0) × (i < 2) ⌝ }
+    requires { ⌜ EndReady (now elements) (e .0) i ⌝ }
     ensures { λ r. ⌜ r .0 ≡ getD (now (elements .entry)) (e .0 * 36 + (4 + i)) 0 ⌝ }
 {
     ElementId(wide(rows::boundary_at(elements, e, i)))
@@ -34,14 +35,14 @@ fn end_at(elements: &[u16], e: ElementId, i: usize) -> ElementId
 
 // The vertex that a vertex element names.
 fn vertex_of(elements: &[u16], v: ElementId) -> VertexId
-    requires { ⌜ RowFits (now elements) (v .0) ⌝ }
+    requires { ⌜ ElementReady (now elements) (v .0) ⌝ }
     ensures { λ r. ⌜ VertexOf (now (elements .entry)) (v .0) (r .0) ⌝ }
 {
     VertexId(wide(rows::boundary_at(elements, v, 0)))
 }
 
 fn has_end(elements: &[u16], v: ElementId, e: ElementId) -> bool
-    requires { ⌜ RowFits (now elements) (e .0) ⌝ }
+    requires { ⌜ ElementReady (now elements) (e .0) ⌝ }
     ensures { λ r. ⌜ r ≡ hasEnd (now (elements .entry)) (v .0) (e .0) ⌝ }
 {
     let a = end_at(elements, e, 0);
@@ -53,7 +54,7 @@ fn has_end(elements: &[u16], v: ElementId, e: ElementId) -> bool
 }
 
 fn end_across(elements: &[u16], v: ElementId, e: ElementId) -> ElementId
-    requires { ⌜ RowFits (now elements) (e .0) ⌝ }
+    requires { ⌜ ElementReady (now elements) (e .0) ⌝ }
     ensures { λ r. ⌜ r .0 ≡ endAcross (now (elements .entry)) (v .0) (e .0) ⌝ }
 {
     let a = end_at(elements, e, 0);
@@ -65,7 +66,7 @@ fn end_across(elements: &[u16], v: ElementId, e: ElementId) -> ElementId
 
 // Whether x is an edge at the corner v other than e.
 fn is_beside(elements: &[u16], e: ElementId, v: ElementId, x: ElementId) -> bool
-    requires { ⌜ RowFits (now elements) (x .0) ⌝ }
+    requires { ⌜ ElementReady (now elements) (x .0) ⌝ }
     ensures { λ r. ⌜ r ≡ (not (eqb (x .0) (e .0)) && hasEnd (now (elements .entry)) (v .0) (x .0)) ⌝ }
 {
     if x.0 == e.0 {

@@ -15,7 +15,7 @@ pub const POINTS: usize = VERTEX_ROOM * POINT_WIDTH;
 pub const PLANES: usize = HYPERPLANE_ROOM * PLANE_WIDTH;
 pub const ELEMENTS: usize = ELEMENT_ROOM * ELEMENT_WIDTH;
 
-const NO_HYPERPLANE: u16 = 0xffff;
+pub const NO_HYPERPLANE: u16 = 0xffff;
 
 #[derive(Clone, Debug)]
 pub struct Memory {

@@ -68,7 +68,7 @@ cast-polytope-row c =
 polytope-row-requires : tie.Need-polytope-row-requires
 polytope-row-requires c κs =
     let k = few (faced (c .before .before .before)) in
-    (search needs, omega (arith, k), omega (arith, k))
+    record { words = search needs; size = omega (arith, k); rank = omega (arith, k) }
 
 returns-2 : tie.Need-returns-2
 returns-2 c =
@@ -80,7 +80,7 @@ returns-2 c =
 polytope-row-requires-2 : tie.Need-polytope-row-requires-2
 polytope-row-requires-2 c κs =
     let k = few (faced (c .before .before)) in
-    (search needs, omega (arith, k), omega (arith, k))
+    record { words = search needs; size = omega (arith, k); rank = omega (arith, k) }
 
 returns-3 : tie.Need-returns-3
 returns-3 c =

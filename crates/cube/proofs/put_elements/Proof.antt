@@ -79,7 +79,7 @@ put-row-requires : tie.Need-put-row-requires Inv-loop μ-loop
 put-row-requires c κs =
     let z = c .before .before .before .before .loop .inv .long in
     let q = c .before .before .before .before .loop .inv .all .few in
-    (omega (arith, z, q), search needs)
+    record { place = omega (arith, z, q); row = search needs }
 
 is-corner-requires : tie.Need-is-corner-requires Inv-loop μ-loop
 is-corner-requires c κs =

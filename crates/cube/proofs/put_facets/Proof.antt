@@ -1,28 +1,15 @@
 -- The invariant: the hyperplanes of the elements so far.
-use mathlib.Core.Path.{_≡_, refl, ap, _∙_}
-use mathlib.Core.List.{List}
-use Prim.Native.Nat.{ℕ, _≤_, _-_, _^_}
+use Prim.Native.Nat.{_-_}
 use native.Mathlib.Omega.{arith}
-use lib.Ieee.{Float}
-use lib.ListN.{length}
-use Rattle.rules.specs.Cube.{isFacet, chosen}
-use Rattle.cube.specs.Cubes.{CubeSize}
-use Rattle.cube.specs.Writing.{cubePlanes}
 use borrow.Author.Needs.{needs}
+use Rattle.rules.specs.Cube.{isFacet}
+use Rattle.cube.specs.Writing.{cubePlanes}
+use Rattle.cube.proofs.Written.{Written, begun, in-cube, one-more, complete}
 use Rattle.cube.proofs.put_facets.Statement.{statement}
 use Rattle.cube.proofs.put_facets.Tie as tie
 
-record Written (d : ℕ) (radius : Float) (size : ℕ) (old new : List Float) (n e : ℕ) : Type 0 where
-  so-far : e ≤ size
-  axes : d ≤ 4
-  all : CubeSize d size
-  long : length new ≡ 320
-  room : length old ≡ 320
-  count : n ≡ length (chosen isFacet d e)
-  slice : new ≡ cubePlanes d radius e
-
 abbrev Inv-loop : tie.InvT-loop
-Inv-loop planes₀ d radius size h₀ e₀ planes h e = Written d radius size planes₀ planes (h .0) e
+Inv-loop planes₀ d radius size h₀ e₀ planes h e = Written isFacet (cubePlanes d radius) 320 d size planes₀ planes (h .0) e
 
 abbrev μ-loop : tie.MeasureT-loop
 μ-loop planes₀ d radius size h₀ e₀ planes h e = size - e
@@ -31,16 +18,7 @@ cube-size-requires : tie.Need-cube-size-requires Inv-loop μ-loop
 cube-size-requires c κs = search needs
 
 loop-holds : tie.Need-loop-holds Inv-loop μ-loop
-loop-holds c =
-    record {
-      so-far = omega arith;
-      axes = search needs;
-      all = c .cube-size .ensures;
-      long = search needs;
-      room = search needs;
-      count = refl;
-      slice = c .before .before .pre .clear;
-    }
+loop-holds c = begun (c .cube-size .ensures) (search needs) (search needs) (c .before .before .pre .clear)
 
 cast-t10 : tie.Need-cast-t10 Inv-loop μ-loop
 cast-t10 c = search needs
@@ -48,8 +26,7 @@ cast-t10 c = search needs
 put-facet-requires : tie.Need-put-facet-requires Inv-loop μ-loop
 put-facet-requires c κs =
     let at = c .before .before .loop .inv in
-    let q = at .all .power in
-    record { inCube = record { axes = at .axes; used = omega (arith, q) }; long = at .long; count = at .count }
+    record { inCube = in-cube at (omega arith); long = at .kept; count = at .count }
 
 add-e : tie.Need-add-e Inv-loop μ-loop
 add-e c = search needs
@@ -61,42 +38,14 @@ loop-again : tie.Need-loop-again Inv-loop μ-loop
 loop-again c =
     let at = c .before .before .before .before .before .loop .inv in
     let one = c .before .before .put-facet .ensures in
-    record {
-      so-far = search needs;
-      axes = search needs;
-      all = at .all;
-      long = search needs;
-      room = search needs;
-      count = one .count;
-      slice = one .planes (at .slice);
-    }
+    one-more at (omega arith) (search needs) (one .count) (one .planes (at .there))
 
 same-length : tie.Need-same-length Inv-loop μ-loop
 same-length c = search needs
 
 returns : tie.Need-returns Inv-loop μ-loop
-returns c =
-    let args = c .before .before .before .before .args in
-    let at = c .before .loop in
-    let q = at .inv .all .power in
-    let t : at .e ≡ 3 ^ args .d = omega (arith, q) in
-    record {
-      count = at .inv .count ∙ ap (λ n. length (chosen isFacet (args .d) n)) t;
-      planes = at .inv .slice ∙ ap (cubePlanes (args .d) (args .radius)) t;
-    }
+returns c = let all = complete (c .before .loop .inv) (omega arith) in record { count = all .0; planes = all .1 }
 
 pub put-facets-spec : {M : Type 1} → statement M
 put-facets-spec =
-    tie.close
-    (tie.spec
-    Inv-loop
-    μ-loop
-    cube-size-requires
-    loop-holds
-    cast-t10
-    put-facet-requires
-    add-e
-    loop-less
-    loop-again
-    same-length
-    returns)
+    tie.close (tie.spec Inv-loop μ-loop cube-size-requires loop-holds cast-t10 put-facet-requires add-e loop-less loop-again same-length returns)

@@ -55,7 +55,7 @@ put-cube-requires : tie.Need-put-cube-requires
 put-cube-requires c κs =
     let e = c .before .before .before .before in
     let s = size-known _ _ _ _ (sym (e .before .right-size .ensures) ∙ not-false _ (e .if4 .left)) in
-    record { axes = omega arith; counts = s .0; points = s .1; planes = s .2; elements = s .3 }
+    record { axes = omega arith; counts = s .counts; points = s .points; planes = s .planes; elements = s .elements }
 
 same-length-5 : tie.Need-same-length-5
 same-length-5 c = search needs

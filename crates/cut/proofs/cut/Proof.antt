@@ -62,10 +62,10 @@ sound-told : (c : tie.After-index2) → c .before .memory-indexed .result ≡ is
 sound-told c = c .before .memory-indexed .ensures .told
 
 count-told : (c : tie.After-struct-known) → c .before .wide .result ≡ inUse (start (sound c .before))
-count-told c = c .before .wide .ensures .0
+count-told c = c .before .wide .ensures .value
 
 unit-told : (c : tie.After-is-unit) → isUnit (start (sound (used c .before) .before)) ≡ c .is-unit .result
-unit-told c = ap (λ k. unitNormal k (start (sound (used c .before) .before) .args .divider .normal)) (sym (c .before .wide2 .ensures .0)) ∙ sym (c .is-unit .ensures)
+unit-told c = ap (λ k. unitNormal k (start (sound (used c .before) .before) .args .divider .normal)) (sym (c .before .wide2 .ensures .value)) ∙ sym (c .is-unit .ensures)
 
 is-sound : (c : tie.Else1) → isSound (start (c .before)) ≡ true
 is-sound c = sym (sound-told (c .before)) ∙ not-false _ (c .if1 .left)

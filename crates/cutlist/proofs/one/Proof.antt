@@ -4,6 +4,19 @@ use borrow.Author.Needs.{needs}
 use Rattle.cutlist.proofs.one.Statement.{statement}
 use Rattle.cutlist.proofs.one.Tie as tie
 
+-- where the function began, where all was lent, where the turn was made, and where what was lent came back
+abbrev start : tie.After-slice-known5 → tie.Start
+start c = c .before .before .before .before .before .before
+
+abbrev lent : tie.After-turn-arg6 → tie.After-slice-known5
+lent c = c .before .before .before .before .before .before
+
+abbrev turned : tie.After-slice-known8 → tie.After-turn
+turned c = c .before .before .before .before .before .before
+
+abbrev given-back : tie.After-reply → tie.After-slice-known8
+given-back c = c .before .before .before .before .before .before
+
 sub-turn : tie.Need-sub-turn
 sub-turn c = search needs
 
@@ -92,7 +105,13 @@ same-length-15 : tie.Need-same-length-15
 same-length-15 c = search needs
 
 returns-3 : tie.Need-returns-3
-returns-3 c = let p = c .go-on .ensures in let l = same-length-11 c in let q = c .before .before .before .before .before .before .before .before .before .before .before .before .before .before .before .before .before .before .before .before .before .before .before .before .before .before .before .pre in omega (arith, p, l, q)
+returns-3 c =
+    let p = c .go-on .ensures in
+    let begun = start (lent (turned (given-back (c .before .before)) .before)) in
+    record {
+      input = record { order = p .input .order; read = omega (arith, p .input .read, begun .pre .input .read) };
+      output = omega (arith, p .output, same-length-11 c);
+    }
 
 pub one-spec : {M : Type 1} → statement M
 one-spec =

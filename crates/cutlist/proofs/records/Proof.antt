@@ -1,15 +1,21 @@
 -- The measure counts down; every turn stays in its two blocks.
-use Prim.Native.Nat.{_≤_}
 use mathlib.Core.Path.{_≡_}
 use lib.ListN.{length}
 use borrow.Author.Needs.{needs}
-use Rattle.cutlist.specs.Places.{InBlock}
+use Rattle.cutlist.specs.Places.{InBlocks}
 use Rattle.cutlist.proofs.records.Statement.{statement}
 use Rattle.cutlist.proofs.records.Tie as tie
 
 abbrev Inv-loop : tie.InvT-loop
 Inv-loop input output₀ counts₀ points₀ planes₀ elements₀ at₀ left₀ output counts points planes elements at left =
-    InBlock at (length input) × (at .line ≤ length output) × (length output ≡ length output₀) × (length counts ≡ length counts₀) × (length points ≡ length points₀) × (length planes ≡ length planes₀) × (length elements ≡ length elements₀)
+    record {
+      blocks : InBlocks at (length input) (length output);
+      output-long : length output ≡ length output₀;
+      counts-long : length counts ≡ length counts₀;
+      points-long : length points ≡ length points₀;
+      planes-long : length planes ≡ length planes₀;
+      elements-long : length elements ≡ length elements₀;
+    }
 
 abbrev μ-loop : tie.MeasureT-loop
 μ-loop input output₀ counts₀ points₀ planes₀ elements₀ at₀ left₀ output counts points planes elements at left = left

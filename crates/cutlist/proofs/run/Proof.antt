@@ -2,14 +2,21 @@
 use mathlib.Core.Path.{_≡_}
 use lib.ListN.{length}
 use borrow.Author.Needs.{needs}
-use Rattle.cutlist.specs.Places.{InBlock}
+use Rattle.cutlist.specs.Places.{BetweenBlocks}
 use Rattle.cutlist.proofs.run.Statement.{statement}
 use Rattle.cutlist.proofs.run.Tie as tie
 
 abbrev Inv-loop : tie.InvT-loop
 Inv-loop input₀ output₀ counts₀ points₀ planes₀ elements₀ at₀ turns₀ input output counts points planes elements at turns =
-    InBlock at (length input) × (at .line ≡ 0) × (length input ≡ length input₀) × (length output ≡ length output₀)
-    × (length counts ≡ length counts₀) × (length points ≡ length points₀) × (length planes ≡ length planes₀) × (length elements ≡ length elements₀)
+    record {
+      between : BetweenBlocks at (length input);
+      input-long : length input ≡ length input₀;
+      output-long : length output ≡ length output₀;
+      counts-long : length counts ≡ length counts₀;
+      points-long : length points ≡ length points₀;
+      planes-long : length planes ≡ length planes₀;
+      elements-long : length elements ≡ length elements₀;
+    }
 
 abbrev μ-loop : tie.MeasureT-loop
 μ-loop input₀ output₀ counts₀ points₀ planes₀ elements₀ at₀ turns₀ input output counts points planes elements at turns = turns

@@ -10,7 +10,7 @@ returns : tie.Need-returns
 returns c = sym (ap outputWord (c .enum-told .given .1))
 
 returns-2 : tie.Need-returns-2
-returns-2 c = places-word _ _ _ _ (c .before .before .before .before .a .given .1) _ _ _ (c .before .before .element-word .ensures .0) (c .before .element-word2 .ensures .0) (c .element-word3 .ensures .0)
+returns-2 c = places-word _ _ _ _ (c .before .before .before .before .a .given .1) _ _ _ (c .before .before .element-word .ensures .value) (c .before .element-word2 .ensures .value) (c .element-word3 .ensures .value)
 
 enum-told : tie.Need-enum-told
 enum-told c = search needs

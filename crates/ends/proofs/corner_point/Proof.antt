@@ -15,7 +15,7 @@ read-point-requires : tie.Need-read-point-requires
 read-point-requires c κs = search needs
 
 returns : tie.Need-returns
-returns c = c .read-point .ensures ∙ ap (storedPoint (c .before .before .before .before .before .args .points .now)) (c .before .wide .ensures .0 ∙ c .before .before .boundary-at .ensures)
+returns c = c .read-point .ensures ∙ ap (storedPoint (c .before .before .before .before .before .args .points .now)) (c .before .wide .ensures .value ∙ c .before .before .boundary-at .ensures)
 
 pub corner-point-spec : {M : Type 1} → statement M
 corner-point-spec =

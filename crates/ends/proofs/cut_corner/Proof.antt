@@ -22,7 +22,7 @@ corner-answer-requires : tie.Need-corner-answer-requires
 corner-answer-requires c κs = search needs
 
 returns : tie.Need-returns
-returns c = corner-cut _ _ _ (c .before .before .before .before .wide .ensures .0) (c .before .before .before .corner-point .ensures) (c .before .signed-distance .ensures) (c .corner-answer .ensures)
+returns c = corner-cut _ _ _ (c .before .before .before .before .wide .ensures .value) (c .before .before .before .corner-point .ensures) (c .before .signed-distance .ensures) (c .corner-answer .ensures)
 
 pub cut-corner-spec : {M : Type 1} → statement M
 cut-corner-spec =

@@ -43,7 +43,7 @@ cast-flush : tie.Need-cast-flush
 cast-flush c =
     let p = placed c in
     let a = added (p .before .before) in
-    omega (arith, crossed-low (a .add-vertex .ensures .0) _ (p .placed2 .given .1) (start (a .before) .pre .ready))
+    omega (arith, crossed-low (a .add-vertex .ensures .added) _ (p .placed2 .given .1) (start (a .before) .pre .ready))
 
 element-write-flush-2 : tie.Need-element-write-flush-2
 element-write-flush-2 c = search needs
@@ -53,7 +53,7 @@ rule6-requires c κs =
     let p = placed (asked c) in
     let a = added (p .before .before) in
     let R = start (a .before) .pre .ready in
-    (crossed-ready (a .add-vertex .ensures .0) _ (p .placed2 .given .1) (crossed _ _ _ _ _ (R .fit .sized .flush)) R, a .add-vertex .ensures .1)
+    crossed-ready (a .add-vertex .ensures .added) _ (p .placed2 .given .1) (crossed _ _ _ _ _ (R .fit .sized .flush)) R (a .add-vertex .ensures .index)
 
 same-length : tie.Need-same-length
 same-length c = search needs
@@ -70,7 +70,7 @@ same-length-4 c = search needs
 returns : tie.Need-returns
 returns c =
     let a = added (c .before .before .before) in
-    record { cut = crossed-refused (a .add-vertex .ensures .0) _ (c .before .placed .given .1); indexed = a .add-vertex .ensures .1 }
+    record { cut = crossed-refused (a .add-vertex .ensures .added) _ (c .before .placed .given .1); indexed = a .add-vertex .ensures .index }
 
 same-length-5 : tie.Need-same-length-5
 same-length-5 c = search needs
@@ -90,10 +90,7 @@ returns-2 c =
     let p = placed (asked (r .before)) in
     let a = added (p .before .before) in
     let R = start (a .before) .pre .ready in
-    record {
-      cut = crossed-done (a .add-vertex .ensures .0) _ (p .placed2 .given .1) (crossed _ _ _ _ _ (R .fit .sized .flush)) (r .rule6 .ensures .0);
-      indexed = r .rule6 .ensures .1;
-    }
+    crossed-done (a .add-vertex .ensures .added) _ (p .placed2 .given .1) (crossed _ _ _ _ _ (R .fit .sized .flush)) (r .rule6 .ensures)
 
 pub cut-crossed-spec : {M : Type 1} → statement M
 cut-crossed-spec =

@@ -83,11 +83,9 @@ rule6-requires : tie.Need-rule6-requires
 rule6-requires c κs =
     let g = missed c .before .before in
     let z = ends-tested g in
-    let r = ends-read z in (
-      missed-ready _ _ _ _ _ (counted r .wide .ensures .0) (r .read-ends .ensures) (z .before .before .signed-distance .ensures) (z .before .signed-distance2 .ensures)
-          (g .gather-ends .ensures) (asked-for g .pre .ready),
-      asked-for g .pre .indexed,
-    )
+    let r = ends-read z in
+    missed-ready _ _ _ _ _ (counted r .wide .ensures .value) (r .read-ends .ensures) (z .before .before .signed-distance .ensures) (z .before .signed-distance2 .ensures)
+    (g .gather-ends .ensures) (asked-for g .pre)
 
 enum-known-crossing : tie.Need-enum-known-crossing
 enum-known-crossing c = search needs
@@ -102,7 +100,7 @@ cut-crossed-requires c κs =
     let z = ends-tested g in
     let r = ends-read z in
     record {
-      ready = crossing-ready _ _ _ _ _ (counted r .wide .ensures .0) (r .read-ends .ensures) (z .before .before .signed-distance .ensures) (z .before .signed-distance2 .ensures)
+      ready = crossing-ready _ _ _ _ _ (counted r .wide .ensures .value) (r .read-ends .ensures) (z .before .before .signed-distance .ensures) (z .before .signed-distance2 .ensures)
           (g .gather-ends .ensures) _ _ (x .crossing-point .ensures) (asked-for g .pre .ready);
       indexed = asked-for g .pre .indexed;
     }
@@ -126,11 +124,8 @@ returns c =
     let g = m .before .before in
     let z = ends-tested g in
     let r = ends-read z in
-    record {
-      cut = missed-cut _ _ _ _ _ (counted r .wide .ensures .0) (r .read-ends .ensures) (z .before .before .signed-distance .ensures) (z .before .signed-distance2 .ensures)
-          (g .gather-ends .ensures) _ (z .edge-test .ensures) (m .enum-told .given .1) (a .rule6 .ensures .0);
-      indexed = a .rule6 .ensures .1;
-    }
+    missed-cut _ _ _ _ _ (counted r .wide .ensures .value) (r .read-ends .ensures) (z .before .before .signed-distance .ensures) (z .before .signed-distance2 .ensures)
+    (g .gather-ends .ensures) _ (z .edge-test .ensures) (m .enum-told .given .1) (a .rule6 .ensures)
 
 same-length-5 : tie.Need-same-length-5
 same-length-5 c = search needs
@@ -153,7 +148,7 @@ returns-2 c =
     let z = ends-tested g in
     let r = ends-read z in
     record {
-      cut = crossing-cut _ _ _ _ _ (counted r .wide .ensures .0) (r .read-ends .ensures) (z .before .before .signed-distance .ensures) (z .before .signed-distance2 .ensures)
+      cut = crossing-cut _ _ _ _ _ (counted r .wide .ensures .value) (r .read-ends .ensures) (z .before .before .signed-distance .ensures) (z .before .signed-distance2 .ensures)
           (g .gather-ends .ensures) _ _ (x .crossing-point .ensures) _ (z .edge-test .ensures) (m .crossing .given .1) (l .cut-crossed .ensures .cut);
       indexed = l .cut-crossed .ensures .indexed;
     }

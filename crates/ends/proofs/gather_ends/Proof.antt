@@ -19,7 +19,7 @@ gather-in-requires : tie.Need-gather-in-requires
 gather-in-requires c κs =
     let a = first c in
     let s = a .before in
-    (sized-more 0 31 (lit≤ tt) (s .pre .nothing .sized), s .pre .first, answer-room _ (s .args .sa) (s .pre .first) (a .corner-answer .ensures))
+    record { sized = sized-more 0 31 (lit≤ tt) (s .pre .nothing .sized); element = s .pre .first; answer = answer-room _ (s .args .sa) (s .pre .first) (a .corner-answer .ensures) }
 
 corner-answer-requires-2 : tie.Need-corner-answer-requires-2
 corner-answer-requires-2 c κs = search needs
@@ -29,7 +29,11 @@ gather-in-requires-2 c κs =
     let b = second c in
     let g = b .before in
     let s = first (g .before) .before in
-    (sized-more 1 31 (lit≤ tt) (g .gather-in .ensures .sized 0 (s .pre .nothing .sized)), s .pre .second, answer-room _ (s .args .sb) (s .pre .second) (b .corner-answer2 .ensures))
+    record {
+      sized = sized-more 1 31 (lit≤ tt) (g .gather-in .ensures .sized 0 (s .pre .nothing .sized));
+      element = s .pre .second;
+      answer = answer-room _ (s .args .sb) (s .pre .second) (b .corner-answer2 .ensures);
+    }
 
 returns : tie.Need-returns
 returns c =

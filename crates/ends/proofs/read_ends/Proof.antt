@@ -23,10 +23,10 @@ wide-requires-2 : tie.Need-wide-requires-2
 wide-requires-2 c κs = search needs
 
 corner-point-requires : tie.Need-corner-point-requires
-corner-point-requires c κs = end-asked (start c .pre) 0 _ (lit≤ tt) (c .before .before .wide .ensures .0 ∙ c .before .before .before .boundary-at .ensures)
+corner-point-requires c κs = end-asked (start c .pre) 0 _ (lit≤ tt) (c .before .before .wide .ensures .value ∙ c .before .before .before .boundary-at .ensures)
 
 corner-point-requires-2 : tie.Need-corner-point-requires-2
-corner-point-requires-2 c κs = end-asked (start (c .before) .pre) 1 _ (lit≤ tt) (c .before .wide2 .ensures .0 ∙ c .before .before .boundary-at2 .ensures)
+corner-point-requires-2 c κs = end-asked (start (c .before) .pre) 1 _ (lit≤ tt) (c .before .wide2 .ensures .value ∙ c .before .before .boundary-at2 .ensures)
 
 returns : tie.Need-returns
 returns c = search needs

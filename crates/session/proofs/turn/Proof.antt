@@ -54,7 +54,7 @@ is-cube-requires c κs = search needs
 cube-turn-requires : tie.Need-cube-turn-requires
 cube-turn-requires c κs =
     let here = a-cube-here c in
-    (sym (here .before .is-cube .ensures) ∙ here .if2 .taken, (omega arith))
+    record { asked = sym (here .before .is-cube .ensures) ∙ here .if2 .taken; room = omega arith }
 
 same-length : tie.Need-same-length
 same-length c = search needs
@@ -103,7 +103,7 @@ returns-4 c =
 cut-turn-requires : tie.Need-cut-turn-requires
 cut-turn-requires c κs =
     let here = a-cut-here c in
-    (sym (here .before .is-cut .ensures) ∙ not-false _ (here .if4 .left), (omega arith))
+    record { asked = sym (here .before .is-cut .ensures) ∙ not-false _ (here .if4 .left); room = omega arith }
 
 same-length-7 : tie.Need-same-length-7
 same-length-7 c = search needs

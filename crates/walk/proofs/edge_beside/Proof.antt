@@ -48,8 +48,8 @@ is-beside-requires c κs =
     let p = start (c .before .before .before) .pre in
     let at = c .before .before .before .loop in
     record {
-      long = p .long;
-      used = number-low (a .elements .now) (a .f .0) _ p (at .inv .size) (at .i) _ (search needs) (c .wide .ensures .0 ∙ c .before .boundary-at .ensures);
+      elements = p .long;
+      room = number-low (a .elements .now) (a .f .0) _ p (at .inv .size) (at .i) _ (search needs) (c .wide .ensures .value ∙ c .before .boundary-at .ensures);
     }
 
 returns : tie.Need-returns Inv-loop μ-loop
@@ -57,7 +57,7 @@ returns c =
     let a = start (here (c .before)) .args in
     let at = here (c .before) .loop in
     beside-here (a .elements .now) (a .f .0) _ (start (here (c .before)) .pre) (at .inv .size) (a .e .0) (a .v .0) _ (at .i) _
-    (c .before .before .wide .ensures .0 ∙ c .before .before .before .boundary-at .ensures) (search needs) (at .inv .same)
+    (c .before .before .wide .ensures .value ∙ c .before .before .before .boundary-at .ensures) (search needs) (at .inv .same)
     (sym (c .before .is-beside .ensures) ∙ c .if1 .taken)
 
 add-i : tie.Need-add-i Inv-loop μ-loop
@@ -74,7 +74,7 @@ loop-again c =
       low = search needs;
       size = at .inv .size;
       same = beside-go (a .elements .now) (a .f .0) _ (start (here (c .before)) .pre) (at .inv .size) (a .e .0) (a .v .0) _ (at .i) _
-          (c .before .before .wide .ensures .0 ∙ c .before .before .before .boundary-at .ensures) (search needs) (at .inv .same)
+          (c .before .before .wide .ensures .value ∙ c .before .before .before .boundary-at .ensures) (search needs) (at .inv .same)
           (sym (c .before .is-beside .ensures) ∙ c .if1 .left);
     }
 

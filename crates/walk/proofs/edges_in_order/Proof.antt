@@ -37,27 +37,27 @@ returns-2 : tie.Need-returns-2
 returns-2 c =
     let n = c .before .before in
     let s = passed n in
-    unused _ _ _ _ _ _ (sym (s .before .memory-sound .ensures) ∙ not-false _ (s .if1 .left)) _ (n .wide .ensures .0) (c .if2 .taken)
+    unused _ _ _ _ _ _ (sym (s .before .memory-sound .ensures) ∙ not-false _ (s .if1 .left)) _ (n .wide .ensures .value) (c .if2 .taken)
 
 rank-of-requires : tie.Need-rank-of-requires
 rank-of-requires c κs =
     let n = c .before .before in
     let s = passed n in
-    rank-asked _ _ _ _ (sym (s .before .memory-sound .ensures) ∙ not-false _ (s .if1 .left)) _ _ (n .wide .ensures .0) (c .if2 .left)
+    rank-asked _ _ _ _ (sym (s .before .memory-sound .ensures) ∙ not-false _ (s .if1 .left)) _ _ (n .wide .ensures .value) (c .if2 .left)
 
 returns-3 : tie.Need-returns-3
 returns-3 c =
     let r = c .before in
     let n = counted r in
     let s = passed n in
-    no-face _ _ _ _ _ _ (sym (s .before .memory-sound .ensures) ∙ not-false _ (s .if1 .left)) _ (n .wide .ensures .0) (r .before .if2 .left) _ (r .rank-of .ensures) (c .if3 .taken)
+    no-face _ _ _ _ _ _ (sym (s .before .memory-sound .ensures) ∙ not-false _ (s .if1 .left)) _ (n .wide .ensures .value) (r .before .if2 .left) _ (r .rank-of .ensures) (c .if3 .taken)
 
 face-in-order-requires : tie.Need-face-in-order-requires
 face-in-order-requires c κs =
     let r = c .before .before in
     let n = counted r in
     let s = passed n in
-    face-asked _ _ _ _ _ [] (sym (s .before .memory-sound .ensures) ∙ not-false _ (s .if1 .left)) _ (n .wide .ensures .0) (r .before .if2 .left) _ (r .rank-of .ensures) (c .before .if3 .left)
+    face-asked _ _ _ _ _ [] (sym (s .before .memory-sound .ensures) ∙ not-false _ (s .if1 .left)) _ (n .wide .ensures .value) (r .before .if2 .left) _ (r .rank-of .ensures) (c .before .if3 .left)
 
 same-length : tie.Need-same-length
 same-length c = search needs
@@ -67,7 +67,7 @@ returns-4 c =
     let r = ranked c in
     let n = counted r in
     let s = passed n in
-    face-replied _ _ _ _ _ _ (sym (s .before .memory-sound .ensures) ∙ not-false _ (s .if1 .left)) _ (n .wide .ensures .0) (r .before .if2 .left) _
+    face-replied _ _ _ _ _ _ (sym (s .before .memory-sound .ensures) ∙ not-false _ (s .if1 .left)) _ (n .wide .ensures .value) (r .before .if2 .left) _
     (r .rank-of .ensures) (c .before .before .before .before .if3 .left) (c .before .before .face-in-order .ensures)
 
 pub edges-in-order-spec : {M : Type 1} → statement M

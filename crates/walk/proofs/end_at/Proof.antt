@@ -11,7 +11,7 @@ wide-requires : tie.Need-wide-requires
 wide-requires c κs = search needs
 
 returns : tie.Need-returns
-returns c = c .wide .ensures .0 ∙ c .before .boundary-at .ensures
+returns c = c .wide .ensures .value ∙ c .before .boundary-at .ensures
 
 pub end-at-spec : {M : Type 1} → statement M
 end-at-spec = tie.close (tie.spec boundary-at-requires wide-requires returns)

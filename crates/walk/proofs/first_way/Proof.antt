@@ -20,12 +20,12 @@ edge-beside-requires-2 c κs = search needs
 end-across-requires : tie.Need-end-across-requires
 end-across-requires c κs =
     let p = c .before .before .before .pre in
-    record { long = p .bounds .long; used = beside-fits _ _ _ _ _ p (c .before .edge-beside .ensures) .used }
+    record { elements = p .bounds .long; room = beside-fits _ _ _ _ _ p (c .before .edge-beside .ensures) .used }
 
 end-across-requires-2 : tie.Need-end-across-requires-2
 end-across-requires-2 c κs =
     let p = c .before .before .before .before .pre in
-    record { long = p .bounds .long; used = beside-fits _ _ _ _ _ p (c .before .edge-beside2 .ensures) .used }
+    record { elements = p .bounds .long; room = beside-fits _ _ _ _ _ p (c .before .edge-beside2 .ensures) .used }
 
 returns : tie.Need-returns
 returns c =

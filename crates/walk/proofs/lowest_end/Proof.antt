@@ -47,8 +47,8 @@ end-at-requires c κs =
     let a = start (c .before .before .before) .args in
     let p = start (c .before .before .before) .pre in
     let at = c .before .before .before .loop in
-    let x = number-low (a .elements .now) (a .f .0) _ p (at .inv .size) (at .i) _ (search needs) (c .wide .ensures .0 ∙ c .before .boundary-at .ensures) in
-    (record { long = p .long; used = x }, search needs)
+    let x = number-low (a .elements .now) (a .f .0) _ p (at .inv .size) (at .i) _ (search needs) (c .wide .ensures .value ∙ c .before .boundary-at .ensures) in
+    record { edge = record { elements = p .long; room = x }; end = search needs }
 
 lower-requires : tie.Need-lower-requires Inv-loop μ-loop
 lower-requires c κs = search needs
@@ -67,7 +67,7 @@ loop-again c =
       low = search needs;
       size = at .inv .size;
       same = edge.lowest-go (a .elements .now) (a .f .0) _ (start (here (c .before)) .pre) (at .inv .size) (at .m .0) _ (at .i) _ _ _
-          (c .before .before .wide .ensures .0 ∙ c .before .before .before .boundary-at .ensures) (search needs) (c .before .end-at .ensures) (c .lower .ensures) (at .inv .same);
+          (c .before .before .wide .ensures .value ∙ c .before .before .before .boundary-at .ensures) (search needs) (c .before .end-at .ensures) (c .lower .ensures) (at .inv .same);
     }
 
 returns : tie.Need-returns Inv-loop μ-loop

@@ -11,7 +11,7 @@ wide-requires : tie.Need-wide-requires
 wide-requires c κs = search needs
 
 returns : tie.Need-returns
-returns c = record { named = c .wide .ensures .0 ∙ c .before .boundary-at .ensures; small = c .wide .ensures .1 }
+returns c = record { named = c .wide .ensures .value ∙ c .before .boundary-at .ensures; small = c .wide .ensures .bound }
 
 pub vertex-of-spec : {M : Type 1} → statement M
 vertex-of-spec = tie.close (tie.spec boundary-at-requires wide-requires returns)

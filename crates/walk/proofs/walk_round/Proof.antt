@@ -60,14 +60,14 @@ loop-holds c =
     }
 
 end-across-requires : tie.Need-end-across-requires Inv-loop μ-loop
-end-across-requires c κs = record { long = begin (c .before) .pre .face .bounds .long; used = c .before .loop .inv .edge .used }
+end-across-requires c κs = record { elements = begin (c .before) .pre .face .bounds .long; room = c .before .loop .inv .edge .used }
 
 vertex-of-requires : tie.Need-vertex-of-requires Inv-loop μ-loop
-vertex-of-requires c κs = record { long = begin (c .before .before) .pre .face .bounds .long; used = c .before .before .loop .inv .corner }
+vertex-of-requires c κs = record { elements = begin (c .before .before) .pre .face .bounds .long; room = c .before .before .loop .inv .corner }
 
 vertex-of-requires-2 : tie.Need-vertex-of-requires-2 Inv-loop μ-loop
 vertex-of-requires-2 c κs =
-    record { long = begin (c .before .before .before) .pre .face .bounds .long; used = across-fits _ _ _ _ (c .before .before .before .loop .inv .edge) (c .before .end-across .ensures) }
+    record { elements = begin (c .before .before .before) .pre .face .bounds .long; room = across-fits _ _ _ _ (c .before .before .before .loop .inv .edge) (c .before .end-across .ensures) }
 
 cast-list : tie.Need-cast-list Inv-loop μ-loop
 cast-list c = search needs

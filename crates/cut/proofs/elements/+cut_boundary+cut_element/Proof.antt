@@ -132,7 +132,7 @@ module _ (t : ℕ) where
   -- the number is the boundary's
   number : (c : In-round cut-boundary-lts.After-wide)
       → c .wide .result ≡ getD (looked-up c .before .loop .elements) (round-start (looked-up c .before .before) .args .e .0 * 36 + (4 + looked-up c .before .loop .i)) 0
-  number c = c .wide .ensures .0 ∙ c .before .boundary-at .ensures
+  number c = c .wide .ensures .value ∙ c .before .boundary-at .ensures
 
   -- where its answer was told, and was read from the words
   abbrev told : In-round cut-boundary-lts.After-output-at → In-round cut-boundary-lts.After-enum-told
@@ -144,7 +144,7 @@ module _ (t : ℕ) where
   cut-boundary-size-of-requires : In-round cut-boundary-lts.Need-size-of-requires
   cut-boundary-size-of-requires c κs =
       let R = round-asked (c .before .before .before .before .before) .ready in
-      (round.ready-words R, ask-low R)
+      record { elements = round.ready-words R; room = ask-low R }
 
   cut-boundary-loop-holds : In-round cut-boundary-lts.Need-loop-holds
   cut-boundary-loop-holds c =
@@ -167,7 +167,7 @@ module _ (t : ℕ) where
       let n = l .before .before in
       let R = round-asked (round-start n) in
       let m = round.round-most R _ (n .size-of .ensures) in
-      (l .before .loop .inv .elements-long ∙ round.ready-words (R .ready), ask-low (R .ready), omega (arith, m, l .loop-test .taken))
+      record { elements = l .before .loop .inv .elements-long ∙ round.ready-words (R .ready); room = ask-low (R .ready); place = omega (arith, m, l .loop-test .taken) }
 
   cut-boundary-cut-element-requires : In-round cut-boundary-lts.Need-cut-element-requires
   cut-boundary-cut-element-requires c κs =
@@ -219,11 +219,13 @@ module _ (t : ℕ) where
       let at = l .before .loop in
       let h = l .loop-test .taken in
       let R = round-asked (round-start n) in
-      let m = round.round-most R _ (n .size-of .ensures) in (
-        sized-more (at .i) 31 (omega (arith, m, h)) (at .inv .sized),
-        ask-low (round.next-ready (at .inv .more) (at .inv .going) _ (n .size-of .ensures) (R .ready) h _ (number w) (at .inv .indexed)),
-        round.answer-room (at .inv .more) (at .inv .going) _ (n .size-of .ensures) h _ (number w) (s .cut-element .ensures) (told a .enum-told .given .1) _ (a .output-at .ensures) (R .ready),
-      )
+      let m = round.round-most R _ (n .size-of .ensures) in
+      record {
+        sized = sized-more (at .i) 31 (omega (arith, m, h)) (at .inv .sized);
+        element = ask-low (round.next-ready (at .inv .more) (at .inv .going) _ (n .size-of .ensures) (R .ready) h _ (number w) (at .inv .indexed));
+        answer =
+            round.answer-room (at .inv .more) (at .inv .going) _ (n .size-of .ensures) h _ (number w) (s .cut-element .ensures) (told a .enum-told .given .1) _ (a .output-at .ensures) (R .ready);
+      }
 
   cut-boundary-add-i : In-round cut-boundary-lts.Need-add-i
   cut-boundary-add-i c =
@@ -339,14 +341,14 @@ module _ (t : ℕ) where
   cut-element-cut-boundary-requires c κs =
       let h = higher (blank c) in
       let s = start (h .before .before) in
-      (omega (arith, s .pre .0), record { ready = ready s; more = h .if2 .left; nothing = nothing-gathered })
+      (omega (arith, s .pre), record { ready = ready s; more = h .if2 .left; nothing = nothing-gathered })
 
   cut-element-rule6-requires : In-element cut-element-lts.Need-rule6-requires
   cut-element-rule6-requires c κs =
       let g = gathered c in
       let b = round-cut (g .before .before) in
       let h = higher (blank (b .before)) in
-      (round.rule6-ready (h .if2 .left) (b .cut-boundary .ensures) (g .enum-told .given .1) (ready (start (h .before .before))), b .cut-boundary .ensures .indexed)
+      round.rule6-ready (h .if2 .left) (b .cut-boundary .ensures) (g .enum-told .given .1) (ready (start (h .before .before)))
 
   cut-element-keep-requires-2 : In-element cut-element-lts.Need-keep-requires-2
   cut-element-keep-requires-2 c κs =
@@ -354,7 +356,7 @@ module _ (t : ℕ) where
       let g = gathered (w .before) in
       let b = round-cut (g .before .before) in
       let h = higher (blank (b .before)) in
-      round.element-keep (h .if2 .left) (b .cut-boundary .ensures) (g .enum-told .given .1) (w .rule6 .ensures .0) (ready (start (h .before .before)))
+      round.element-keep (h .if2 .left) (b .cut-boundary .ensures) (g .enum-told .given .1) (w .rule6 .ensures) (ready (start (h .before .before)))
 
   cut-element-returns-3 : In-element cut-element-lts.Need-returns-3
   cut-element-returns-3 c =
@@ -378,7 +380,7 @@ module _ (t : ℕ) where
       let w = whole (c .before) in
       let g = gathered (w .before) in
       let b = round-cut (g .before .before) in
-      round.element-answered (higher (blank (b .before)) .if2 .left) (b .cut-boundary .ensures) (g .enum-told .given .1) (w .rule6 .ensures .0) (w .rule6 .ensures .1) (c .keep2 .ensures)
+      round.element-answered (higher (blank (b .before)) .if2 .left) (b .cut-boundary .ensures) (g .enum-told .given .1) (w .rule6 .ensures) (c .keep2 .ensures)
 
 pub +cut-boundary+cut-element-spec : {M : Type 1} → statement M
 +cut-boundary+cut-element-spec = close μ-cut-boundary μ-cut-element (λ t. cut-boundary-lts.spec (cut-boundary-claims t) (cut-boundary-at t) cut-boundary.Post cut-boundary-Inv-loop cut-boundary-μ-loop

@@ -29,19 +29,19 @@ enum-known-answer c = search needs
 word-of-requires : tie.Need-word-of-requires
 word-of-requires c κs =
     let s = answered c in
-    reply-room _ _ _ _ _ (s .before .reply2 .given .1) (c .before .answer .given .1) (start s .pre .room) .0
+    reply-room _ _ _ _ _ (s .before .reply2 .given .1) (c .before .answer .given .1) (start s .pre .room) .inside
 
 word-of-requires-2 : tie.Need-word-of-requires-2
 word-of-requires-2 c κs =
     let a = c .before in
     let s = answered a in
-    reply-room _ _ _ _ _ (s .before .reply2 .given .1) (a .before .answer .given .1) (start s .pre .room) .1
+    reply-room _ _ _ _ _ (s .before .reply2 .given .1) (a .before .answer .given .1) (start s .pre .room) .outside
 
 word-of-requires-3 : tie.Need-word-of-requires-3
 word-of-requires-3 c κs =
     let a = c .before .before in
     let s = answered a in
-    reply-room _ _ _ _ _ (s .before .reply2 .given .1) (a .before .answer .given .1) (start s .pre .room) .2
+    reply-room _ _ _ _ _ (s .before .reply2 .given .1) (a .before .answer .given .1) (start s .pre .room) .intersection
 
 put-words-requires-2 : tie.Need-put-words-requires-2
 put-words-requires-2 c κs = search needs

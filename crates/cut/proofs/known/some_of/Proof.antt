@@ -11,7 +11,7 @@ wide-requires : tie.Need-wide-requires
 wide-requires c κs = search needs
 
 returns-2 : tie.Need-returns-2
-returns-2 c = some-is _ _ (c .before .if1 .left) (c .wide .ensures .0)
+returns-2 c = some-is _ _ (c .before .if1 .left) (c .wide .ensures .value)
 
 pub some-of-spec : {M : Type 1} → statement M
 some-of-spec = tie.close (tie.spec returns wide-requires returns-2)

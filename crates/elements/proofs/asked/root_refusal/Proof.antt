@@ -31,14 +31,14 @@ returns-2 c =
     let n = c .before .before in
     let e = passed n in
     let s = sym (e .before .memory-sound .ensures) ∙ not-false _ (e .if1 .left) in
-    four _ _ _ _ _ s (root-unused _ _ _ (c .if2 .taken) (n .wide .ensures .0 ∙ count-known _ _ _ _ s))
+    four _ _ _ _ _ s (root-unused _ _ _ (c .if2 .taken) (n .wide .ensures .value ∙ count-known _ _ _ _ s))
 
 returns-3 : tie.Need-returns-3
 returns-3 c =
     let n = c .before .before in
     let e = passed n in
     let s = sym (e .before .memory-sound .ensures) ∙ not-false _ (e .if1 .left) in
-    none-refused _ _ _ _ _ s (root-in-use _ _ _ (omega arith) (n .wide .ensures .0 ∙ count-known _ _ _ _ s))
+    none-refused _ _ _ _ _ s (root-in-use _ _ _ (omega arith) (n .wide .ensures .value ∙ count-known _ _ _ _ s))
 
 pub root-refusal-spec : {M : Type 1} → statement M
 root-refusal-spec =

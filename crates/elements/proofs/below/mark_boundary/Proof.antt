@@ -29,7 +29,7 @@ turn c = c .before .before .before .before
 
 size-of-requires : tie.Need-size-of-requires Inv-loop μ-loop
 size-of-requires c κs =
-    let p = c .before .pre in (p .long, p .inRoom)
+    let p = c .before .pre in record { elements = p .long; room = p .inRoom }
 
 loop-holds : tie.Need-loop-holds Inv-loop μ-loop
 loop-holds c = record { low = search needs; size = c .size-of .ensures; ready = c .before .before .pre; marks = marking-start _ _ _ _ (c .size-of .ensures) }
@@ -39,7 +39,7 @@ boundary-at-requires c κs =
     let at = c .before .loop .inv in
     let a = at .ready .few in
     let b = at .size in
-    (at .ready .long, at .ready .inRoom, search (needs, a, b))
+    record { elements = at .ready .long; room = at .ready .inRoom; place = search (needs, a, b) }
 
 wide-requires : tie.Need-wide-requires Inv-loop μ-loop
 wide-requires c κs = search needs
@@ -48,7 +48,7 @@ mark-requires : tie.Need-mark-requires Inv-loop μ-loop
 mark-requires c κs =
     let at = turn c .loop in
     let q = at .inv .ready .low (at .i) (let l = at .inv .size in search (needs, l)) in
-    let e = c .before .wide .ensures .0 ∙ c .before .before .boundary-at .ensures in
+    let e = c .before .wide .ensures .value ∙ c .before .before .boundary-at .ensures in
     omega (arith, q, e)
 
 add-i : tie.Need-add-i Inv-loop μ-loop
@@ -64,7 +64,7 @@ loop-again c =
       low = search needs;
       size = at .size;
       ready = at .ready;
-      marks = marking-next _ _ _ _ _ _ (at .marks) _ _ (search needs) (c .before .before .wide .ensures .0 ∙ c .before .before .before .boundary-at .ensures) (c .mark .ensures);
+      marks = marking-next _ _ _ _ _ _ (at .marks) _ _ (search needs) (c .before .before .wide .ensures .value ∙ c .before .before .before .boundary-at .ensures) (c .mark .ensures);
     }
 
 returns : tie.Need-returns Inv-loop μ-loop

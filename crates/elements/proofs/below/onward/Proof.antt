@@ -22,7 +22,7 @@ returns c = record { of = λ t l u root P. not-below _ t l _ u root _ P (sym (c 
 rank-of-requires : tie.Need-rank-of-requires
 rank-of-requires c κs =
     let p = c .before .before .before .before .pre in
-    (lent-long _ _ (p .lent), in-room _ _ (p .lent) _ (p .used))
+    record { elements = lent-long _ _ (p .lent); room = in-room _ _ (p .lent) _ (p .used) }
 
 returns-2 : tie.Need-returns-2
 returns-2 c = record { of = λ t l u root P. a-vertex _ t l _ u root _ P (sym (c .before .rank-of .ensures) ∙ c .if2 .taken) }

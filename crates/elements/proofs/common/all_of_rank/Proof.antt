@@ -53,14 +53,17 @@ wide-requires c κs = search needs
 rank-of-requires : tie.Need-rank-of-requires Inv-loop μ-loop
 rank-of-requires c κs =
     let at = c .before .before .before .loop in
-    (lent-long _ _ (at .inv .used .lent), used-in-room _ _ (roots-used-at _ _ (at .i) _ (at .inv .used) (search needs) (c .wide .ensures .0)))
+    record {
+      elements = lent-long _ _ (at .inv .used .lent);
+      room = used-in-room _ _ (roots-used-at _ _ (at .i) _ (at .inv .used) (search needs) (c .wide .ensures .value));
+    }
 
 returns : tie.Need-returns Inv-loop μ-loop
 returns c =
     let r = c .before in
     let t = turn r in
     let a = start t .args in
-    let word = r .rank-of .ensures ∙ ap (λ (e : ℕ). getD (a .elements .now) (e * 36) 0) (r .before .wide .ensures .0) in
+    let word = r .rank-of .ensures ∙ ap (λ (e : ℕ). getD (a .elements .now) (e * 36) 0) (r .before .wide .ensures .value) in
     all-no (hasRank (a .elements .now) (a .rank)) 0 (a .roots .now) (t .loop .i) (t .loop .inv .same) (search needs) (not-eq _ _ (λ q. c .if1 .taken (word ∙ q)))
 
 add-i : tie.Need-add-i Inv-loop μ-loop
@@ -74,7 +77,7 @@ loop-again c =
     let r = c .before in
     let t = turn r in
     let a = start t .args in
-    let word = r .rank-of .ensures ∙ ap (λ (e : ℕ). getD (a .elements .now) (e * 36) 0) (r .before .wide .ensures .0) in
+    let word = r .rank-of .ensures ∙ ap (λ (e : ℕ). getD (a .elements .now) (e * 36) 0) (r .before .wide .ensures .value) in
     record {
       low = search needs;
       size = search needs;

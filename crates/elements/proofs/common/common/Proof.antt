@@ -39,7 +39,7 @@ wide-requires c κs = search needs
 below-requires : tie.Need-below-requires Inv-loop μ-loop
 below-requires c κs =
     let p = start c .pre in
-    roots-used-at _ _ 0 _ (p .every) (p .some) (c .wide .ensures .0)
+    roots-used-at _ _ 0 _ (p .every) (p .some) (c .wide .ensures .value)
 
 loop-holds : tie.Need-loop-holds Inv-loop μ-loop
 loop-holds c =
@@ -49,7 +49,7 @@ loop-holds c =
       low = search (needs, some);
       size = search needs;
       used = p .every;
-      marks = narrowing-start _ _ _ _ some (c .before .wide .ensures .0) (c .below .ensures);
+      marks = narrowing-start _ _ _ _ some (c .before .wide .ensures .value) (c .below .ensures);
     }
 
 mul-wide : tie.Need-mul-wide Inv-loop μ-loop
@@ -62,7 +62,7 @@ wide-requires-2 : tie.Need-wide-requires-2 Inv-loop μ-loop
 wide-requires-2 c κs = search needs
 
 below-requires-2 : tie.Need-below-requires-2 Inv-loop μ-loop
-below-requires-2 c κs = roots-used-at _ _ _ _ (c .before .before .before .loop .inv .used) (search needs) (c .wide2 .ensures .0)
+below-requires-2 c κs = roots-used-at _ _ _ _ (c .before .before .before .loop .inv .used) (search needs) (c .wide2 .ensures .value)
 
 both-requires : tie.Need-both-requires Inv-loop μ-loop
 both-requires c κs = search needs
@@ -81,7 +81,7 @@ loop-again c =
       low = search needs;
       size = search needs;
       used = at .used;
-      marks = narrowing-next _ _ _ _ _ _ _ (search needs) (b .before .wide2 .ensures .0) (b .below2 .ensures) (c .both .ensures) (at .marks);
+      marks = narrowing-next _ _ _ _ _ _ _ (search needs) (b .before .wide2 .ensures .value) (b .below2 .ensures) (c .both .ensures) (at .marks);
     }
 
 returns : tie.Need-returns Inv-loop μ-loop

@@ -39,8 +39,8 @@ boundary-at-requires : tie.Need-boundary-at-requires Inv-loop μ-loop
 boundary-at-requires c κs =
     let at = c .before .before .before .loop .inv in
     let low = naming-low _ _ _ _ _ (at .asked .few) (at .names) (at .asked .low) (search needs) in
-    let e = c .wide .ensures .0 in
-    (at .asked .long, omega (arith, low, e), omega arith)
+    let e = c .wide .ensures .value in
+    record { elements = at .asked .long; room = omega (arith, low, e); place = omega arith }
 
 mul-list : tie.Need-mul-list Inv-loop μ-loop
 mul-list c = search needs
@@ -64,7 +64,7 @@ loop-again c =
     record {
       so-far = search needs;
       asked = at .asked;
-      names = naming-next _ _ _ _ _ (at .asked .few) (at .names) _ _ (search needs) (c .before .wide .ensures .0) (c .boundary-at .ensures);
+      names = naming-next _ _ _ _ _ (at .asked .few) (at .names) _ _ (search needs) (c .before .wide .ensures .value) (c .boundary-at .ensures);
     }
 
 same-length : tie.Need-same-length Inv-loop μ-loop

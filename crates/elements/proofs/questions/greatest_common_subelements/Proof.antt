@@ -55,7 +55,10 @@ wide-requires c κs = search needs
 rank-of-requires : tie.Need-rank-of-requires
 rank-of-requires c κs =
     let w = used (c .before .before .before) in
-    (lent-long _ _ (w .lent), used-in-room _ _ (roots-used-at _ _ 0 _ w (pos-of-ne-zero (c .before .before .if2 .left)) (c .wide .ensures .0)))
+    record {
+      elements = lent-long _ _ (w .lent);
+      room = used-in-room _ _ (roots-used-at _ _ 0 _ w (pos-of-ne-zero (c .before .before .if2 .left)) (c .wide .ensures .value));
+    }
 
 all-of-rank-requires : tie.Need-all-of-rank-requires
 all-of-rank-requires c κs = used (passed c)
@@ -65,7 +68,7 @@ returns-3 c =
     let r = c .before .before in
     let e = passed r in
     let a = start (e .before .before) .args in
-    let rank = r .rank-of .ensures ∙ ap (λ (x : ℕ). getD (a .elements .now) (x * 36) 0) (r .before .wide .ensures .0) in
+    let rank = r .rank-of .ensures ∙ ap (λ (x : ℕ). getD (a .elements .now) (x * 36) 0) (r .before .wide .ensures .value) in
     let same = sym (c .before .all-of-rank .ensures) ∙ not-true _ (c .if3 .taken) in
     roots-answered _ _ _ _ (a .roots .now) _ (e .before .roots-refusal .ensures) (a .list .now) (e .if1 .left) (no-answer 6) _ refl
     (λ t l u. unlike-roots _ t l _ (a .roots .now) u rank same)
@@ -92,7 +95,7 @@ returns-4 c =
     let e = passed r in
     let a = start (e .before .before) .args in
     let some = pos-of-ne-zero (r .before .before .before .if2 .left) in
-    let rank = r .rank-of .ensures ∙ ap (λ (x : ℕ). getD (a .elements .now) (x * 36) 0) (r .before .wide .ensures .0) in
+    let rank = r .rank-of .ensures ∙ ap (λ (x : ℕ). getD (a .elements .now) (x * 36) 0) (r .before .wide .ensures .value) in
     let same = sym (k .before .all-of-rank .ensures) ∙ not-false _ (k .if3 .left) in
     let numbers = markedNumbers (g .greatest .result .words) in
     roots-answered _ _ _ _ (a .roots .now) _ (e .before .roots-refusal .ensures) (a .list .now) (e .if1 .left) (answer numbers) _ (c .before .before .list-marks .ensures)

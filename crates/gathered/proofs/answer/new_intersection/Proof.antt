@@ -34,7 +34,7 @@ add-polytope-requires : tie.Need-add-polytope-requires
 add-polytope-requires c κs =
     let size = sized c in
     let plane = named size in
-    intersection-asks (start (plane .before .before) .pre) _ (size .wide .ensures .0)
+    intersection-asks (start (plane .before .before) .pre) _ (size .wide .ensures .value)
 
 same-length : tie.Need-same-length
 same-length c = search needs
@@ -49,7 +49,7 @@ returns : tie.Need-returns
 returns c =
     let added = c .before .before .before .before .before .before in
     let size = sized (added .before) in
-    intersection-made _ _ (size .wide .ensures .0) (named size .plane-of-intersection .ensures) (added .add-polytope .ensures .0) (added .add-polytope .ensures .1)
+    intersection-made _ _ (size .wide .ensures .value) (named size .plane-of-intersection .ensures) (added .add-polytope .ensures .added) (added .add-polytope .ensures .index)
 
 pub new-intersection-spec : {M : Type 1} → statement M
 new-intersection-spec =

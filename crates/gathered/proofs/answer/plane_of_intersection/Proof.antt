@@ -21,12 +21,12 @@ returns : tie.Need-returns
 returns c =
     let wide = c .before .before in
     let start = wide .before .before .before in
-    sym (ap (λ (b : Bool). if b then start .args .number .0 else noPlane) (eq-eqb _ _ (c .before .if1 .taken ∙ wide .wide .ensures .0)))
+    sym (ap (λ (b : Bool). if b then start .args .number .0 else noPlane) (eq-eqb _ _ (c .before .if1 .taken ∙ wide .wide .ensures .value)))
 
 returns-2 : tie.Need-returns-2
 returns-2 c =
     let start = c .before .before .before .before in
-    sym (ap (λ (b : Bool). if b then start .args .number .0 else noPlane) (ne-eqb _ _ (λ q. c .if1 .left (q ∙ sym (c .before .wide .ensures .0)))))
+    sym (ap (λ (b : Bool). if b then start .args .number .0 else noPlane) (ne-eqb _ _ (λ q. c .if1 .left (q ∙ sym (c .before .wide .ensures .value)))))
 
 pub plane-of-intersection-spec : {M : Type 1} → statement M
 plane-of-intersection-spec =

@@ -22,13 +22,13 @@ abbrev known : tie.After-rule7-arg10 → tie.After-middle2
 known c = c .before .before .before .before .before .before
 
 element-copy-out-flushes : tie.Need-element-copy-out-flushes
-element-copy-out-flushes c = omega (arith, c .before .before .before .pre .0 .fit .sized .flush)
+element-copy-out-flushes c = omega (arith, c .before .before .before .pre .fit .sized .flush)
 
 returns : tie.Need-returns
-returns c = (rule6-flush (c .if1 .taken), start (c .before) .pre .1)
+returns c = rule6-flush (c .if1 .taken) (start (c .before) .pre .indexed)
 
 element-copy-out-wide : tie.Need-element-copy-out-wide
-element-copy-out-wide c = omega (arith, start (c .before .before) .pre .0 .fit .sized .flush)
+element-copy-out-wide c = omega (arith, start (c .before .before) .pre .fit .sized .flush)
 
 wide-requires : tie.Need-wide-requires
 wide-requires c κs = search needs
@@ -37,8 +37,7 @@ rule7-requires : tie.Need-rule7-requires
 rule7-requires c κs =
     let read = one c in
     let single = read .before .before in
-    let claims = start (single .before .before) .pre in
-    flush-ready (single .if2 .taken) _ (read .wide .ensures .0) (claims .0) (claims .1)
+    flush-ready (single .if2 .taken) _ (read .wide .ensures .value) (start (single .before .before) .pre)
 
 same-length : tie.Need-same-length
 same-length c = search needs
@@ -53,13 +52,10 @@ returns-2 : tie.Need-returns-2
 returns-2 c =
     let answered = c .before .before .before .before .before .before in
     let read = one (answered .before) in
-    let done = answered .rule7 .ensures in
-    (rule6-one (read .before .before .if2 .taken) _ (read .wide .ensures .0) done, done .indexed)
+    rule6-one (read .before .before .if2 .taken) _ (read .wide .ensures .value) (answered .rule7 .ensures)
 
 new-intersection-requires : tie.Need-new-intersection-requires
-new-intersection-requires c κs =
-    let claims = start (none c .before .before) .pre in
-    intersection-ready (claims .0) (claims .1)
+new-intersection-requires c κs = intersection-ready (start (none c .before .before) .pre)
 
 enum-known-middle : tie.Need-enum-known-middle
 enum-known-middle c = search needs
@@ -72,8 +68,7 @@ rule7-requires-2 c κs =
     let middle = known c in
     let worked = worked-out (middle .before .before) in
     let asked = none (worked .before) in
-    let claims = start (asked .before .before) .pre in
-    intersection-known (asked .before .if1 .left) (asked .if2 .left) (worked .new-intersection .ensures) _ (middle .middle2 .given .1) (claims .0)
+    intersection-known (asked .before .if1 .left) (asked .if2 .left) (worked .new-intersection .ensures) _ (middle .middle2 .given .1) (start (asked .before .before) .pre)
 
 same-length-4 : tie.Need-same-length-4
 same-length-4 c = search needs
@@ -89,8 +84,7 @@ returns-3 c =
     let refused = c .before in
     let worked = worked-out (refused .before .before) in
     let asked = none (worked .before) in
-    let made = worked .new-intersection .ensures in
-    (intersection-refused (asked .before .if1 .left) (asked .if2 .left) made _ (refused .middle .given .1), made .indexed)
+    intersection-refused (asked .before .if1 .left) (asked .if2 .left) (worked .new-intersection .ensures) _ (refused .middle .given .1)
 
 same-length-7 : tie.Need-same-length-7
 same-length-7 c = search needs
@@ -107,8 +101,7 @@ returns-4 c =
     let middle = known (answered .before) in
     let worked = worked-out (middle .before .before) in
     let asked = none (worked .before) in
-    let done = answered .rule72 .ensures in
-    (rule6-none (asked .before .if1 .left) (asked .if2 .left) (worked .new-intersection .ensures) _ (middle .middle2 .given .1) done, done .indexed)
+    rule6-none (asked .before .if1 .left) (asked .if2 .left) (worked .new-intersection .ensures) _ (middle .middle2 .given .1) (answered .rule72 .ensures)
 
 pub rule6-spec : {M : Type 1} → statement M
 rule6-spec =

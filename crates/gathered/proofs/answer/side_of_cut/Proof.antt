@@ -62,13 +62,13 @@ returns-2 c =
     let size = sized (told .before) in
     let set = with size in
     let keep = kept (plane (mark set)) in
-    side-own (start keep .pre) _ _ (size .wide .ensures .0) (not-false _ (keep .if1 .left)) (set .include .ensures) (told .is-own .ensures .only (c .if2 .taken))
+    side-own (start keep .pre) _ _ (size .wide .ensures .value) (not-false _ (keep .if1 .left)) (set .include .ensures) (told .is-own .ensures .only (c .if2 .taken))
 
 add-polytope-requires : tie.Need-add-polytope-requires
 add-polytope-requires c κs =
     let size = sized (own c .before) in
     let set = with size in
-    side-asks (first set .pre) _ (set .include .ensures) _ (size .wide .ensures .0)
+    side-asks (first set .pre) _ (set .include .ensures) _ (size .wide .ensures .value)
 
 same-length-2 : tie.Need-same-length-2
 same-length-2 c = search needs
@@ -86,8 +86,8 @@ returns-3 c =
     let set = with size in
     let marked = mark set in
     let named = plane marked in
-    side-kept _ _ _ _ (size .wide .ensures .0) (not-false _ (kept named .if1 .left)) (named .plane-of .ensures) (marked .is-primordial .ensures) (set .include .ensures)
-    (added .add-polytope .ensures .0) (added .add-polytope .ensures .1)
+    side-kept _ _ _ _ (size .wide .ensures .value) (not-false _ (kept named .if1 .left)) (named .plane-of .ensures) (marked .is-primordial .ensures) (set .include .ensures)
+    (added .add-polytope .ensures .added) (added .add-polytope .ensures .index)
 
 pub side-of-cut-spec : {M : Type 1} → statement M
 side-of-cut-spec =

@@ -36,26 +36,26 @@ include-requires : tie.Need-include-requires
 include-requires c κs =
     let sides = told c in
     let claims = start sides .pre in
-    include-ready (claims .0 .inside) (sides-room _ _ _ (sides .a .given .1) (claims .2) .inside)
+    include-ready (claims .sized .inside) (sides-room _ _ _ (sides .a .given .1) (claims .answer) .inside)
 
 include-requires-2 : tie.Need-include-requires-2
 include-requires-2 c κs =
     let sides = told (c .before .before) in
     let claims = start sides .pre in
-    include-ready (claims .0 .outside) (sides-room _ _ _ (sides .a .given .1) (claims .2) .outside)
+    include-ready (claims .sized .outside) (sides-room _ _ _ (sides .a .given .1) (claims .answer) .outside)
 
 include-requires-3 : tie.Need-include-requires-3
 include-requires-3 c κs =
     let sides = told (c .before .before .before .before) in
     let claims = start sides .pre in
-    include-ready (claims .0 .intersections) (sides-room _ _ _ (sides .a .given .1) (claims .2) .intersection)
+    include-ready (claims .sized .intersections) (sides-room _ _ _ (sides .a .given .1) (claims .answer) .intersection)
 
 returns : tie.Need-returns
 returns c =
     let flush = c .before .before in
     let first = flush .before .before in
     let a = first .args in
-    gather-flush (a .flush .now) (a .inside .now) (a .outside .now) (a .intersections .now) (a .b .0) (a .a) (first .pre .0 .flush) (flush .enum-told .given .1)
+    gather-flush (a .flush .now) (a .inside .now) (a .outside .now) (a .intersections .now) (a .b .0) (a .a) (first .pre .sized .flush) (flush .enum-told .given .1)
 
 returns-2 : tie.Need-returns-2
 returns-2 c =

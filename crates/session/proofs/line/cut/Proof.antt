@@ -2,7 +2,8 @@
 use native.Mathlib.Omega.{arith}
 use lib.ListN.{drop}
 use borrow.Author.Needs.{needs}
-use Rattle.session.proofs.Puts.{put-length, then, then-line, element-short}
+use Rattle.lent_bytes.proofs.Puts.{then}
+use Rattle.session.proofs.Puts.{Far, far-word, far-element, far-left, then-line}
 use Rattle.session.proofs.line.cut.Statement.{statement}
 use Rattle.session.proofs.line.cut.Tie as tie
 
@@ -19,6 +20,25 @@ before-outside c = c .before .before .before .before
 abbrev before-intersection : tie.After-element3 → tie.After-element2
 before-intersection c = c .before .before .before .before
 
+-- how far the line has come behind the name, and behind each element
+abbrev far-name : (c : tie.After-word) → Far (c .word .last .1 .0) (c .word .result) 3
+far-name c = far-word (start c .pre .room) (c .word .ensures)
+
+abbrev far-inside : (c : tie.After-element) → Far (c .element .last .1 .0) (c .element .result) 9
+far-inside c = let first = start (name c) in far-element (first .args .inside) (first .pre .inside) (far-name (name c)) (c .element .ensures)
+
+abbrev far-outside : (c : tie.After-element2) → Far (c .element2 .last .1 .0) (c .element2 .result) 15
+far-outside c =
+    let inside = before-outside c in
+    let first = start (name inside) in
+    far-element (first .args .outside) (first .pre .outside) (far-inside inside) (c .element2 .ensures)
+
+abbrev far-intersection : (c : tie.After-element3) → Far (c .element3 .last .1 .0) (c .element3 .result) 21
+far-intersection c =
+    let outside = before-intersection c in
+    let first = start (name (before-outside outside)) in
+    far-element (first .args .intersection) (first .pre .intersection) (far-outside outside) (c .element3 .ensures)
+
 slice-aggregate-word : tie.Need-slice-aggregate-word
 slice-aggregate-word c = search needs
 
@@ -31,56 +51,15 @@ element-requires c κs = search needs
 element-requires-2 : tie.Need-element-requires-2
 element-requires-2 c κs =
     let inside = c .before .before .before in
-    let word = name inside in
-    let first = start word in
-    let claims = first .pre .0 in
-    let a = word .word .ensures in
-    let i = inside .element .ensures in
-    let l = put-length a in
-    let m = put-length i in
-    let e = a .place in
-    let q = element-short (first .args .inside) (claims .0) i in
-    (claims .1, omega (arith, l, m, e, q))
+    record { element = start (name inside) .pre .outside; room = far-left 21 (far-inside inside) (omega arith) }
 
 element-requires-3 : tie.Need-element-requires-3
 element-requires-3 c κs =
     let outside = c .before .before .before in
-    let inside = before-outside outside in
-    let word = name inside in
-    let first = start word in
-    let claims = first .pre .0 in
-    let a = word .word .ensures in
-    let i = inside .element .ensures in
-    let o = outside .element2 .ensures in
-    let l = put-length a in
-    let m = put-length i in
-    let n = put-length o in
-    let e = a .place in
-    let q = element-short (first .args .inside) (claims .0) i in
-    let r = element-short (first .args .outside) (claims .1) o in
-    (claims .2, omega (arith, l, m, n, e, q, r))
+    record { element = start (name (before-outside outside)) .pre .intersection; room = far-left 21 (far-outside outside) (omega arith) }
 
 counts-end-requires : tie.Need-counts-end-requires
-counts-end-requires c κs =
-    let intersection = c .before .before .before in
-    let outside = before-intersection intersection in
-    let inside = before-outside outside in
-    let word = name inside in
-    let first = start word in
-    let claims = first .pre .0 in
-    let a = word .word .ensures in
-    let i = inside .element .ensures in
-    let o = outside .element2 .ensures in
-    let x = intersection .element3 .ensures in
-    let l = put-length a in
-    let m = put-length i in
-    let n = put-length o in
-    let k = put-length x in
-    let e = a .place in
-    let q = element-short (first .args .inside) (claims .0) i in
-    let r = element-short (first .args .outside) (claims .1) o in
-    let s = element-short (first .args .intersection) (claims .2) x in
-    omega (arith, l, m, n, k, e, q, r, s)
+counts-end-requires c κs = record { counts = search needs; room = far-left 34 (far-intersection (c .before .before .before)) (omega arith) }
 
 same-length : tie.Need-same-length
 same-length c = search needs

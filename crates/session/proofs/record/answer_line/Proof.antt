@@ -4,11 +4,12 @@ use mathlib.Core.List.{List}
 use mathlib.Core.Path.{sym, ap, subst}
 use lib.ListN.{drop}
 use borrow.Author.Needs.{needs}
+use Rattle.rules.specs.Limits.{desk}
 use Rattle.rules.specs.declared.CutReply.the-variants.{Answered}
 use Rattle.rules.specs.declared.ElementCutOutput.{ElementCutOutput}
 use Rattle.rules.specs.Session.{text, cutText}
 use Rattle.rules.specs.Promises.{NamesBelow}
-use Rattle.session.proofs.Puts.{put-as}
+use Rattle.lent_bytes.proofs.Puts.{put-as}
 use Rattle.session.proofs.record.answer_line.Statement.{statement}
 use Rattle.session.proofs.record.answer_line.Tie as tie
 
@@ -35,7 +36,8 @@ cut-requires : tie.Need-cut-requires
 cut-requires c κs =
     let told = c .before .before in
     let claims = start (told .before .before) .pre in
-    (subst (NamesBelow 512) (told .answer .given .1) (claims .0), claims .1)
+    let names = subst (NamesBelow (desk .elements)) (told .answer .given .1) (claims .names) in
+    record { inside = names .0; outside = names .1; intersection = names .2; counts = claims .counts; room = claims .room }
 
 same-length : tie.Need-same-length
 same-length c = search needs

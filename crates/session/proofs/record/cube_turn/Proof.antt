@@ -22,13 +22,13 @@ called c = planes-back c .before .before .before .before .before
 one-requires : tie.Need-one-requires
 one-requires c κs =
     let first = start c in
-    let l = cube-long (first .args .input .now) (first .pre .0) in
+    let l = cube-long (first .args .input .now) (first .pre .asked) in
     omega (arith, l)
 
 float-requires : tie.Need-float-requires
 float-requires c κs =
     let first = start (c .before) in
-    cube-long (first .args .input .now) (first .pre .0)
+    cube-long (first .args .input .now) (first .pre .asked)
 
 with-primordial-cube-radius-requires : tie.Need-with-primordial-cube-radius-requires
 with-primordial-cube-radius-requires c κs = search needs
@@ -41,7 +41,7 @@ counted-requires c κs =
     let made = c .before .before .before in
     let call = called (made .before) in
     let first = start (read call .before .before) in
-    (lit≤ tt, (cube-counts _ _ _ _ _ (call .with-primordial-cube-radius .ensures) (made .if1 .taken), first .pre .1))
+    record { name = lit≤ tt; counts = cube-counts _ _ _ _ _ (call .with-primordial-cube-radius .ensures) (made .if1 .taken); room = first .pre .room }
 
 same-length : tie.Need-same-length
 same-length c = search needs
@@ -65,7 +65,7 @@ returns c =
     let call = called (made .before) in
     let radius = read call in
     let first = start (radius .before .before) .args in
-    cube-made (first .input .now) _ _ (first .stands) _ _ _ _ _ (radius .before .one .ensures .0) (radius .float .ensures) (call .with-primordial-cube-radius .ensures) _
+    cube-made (first .input .now) _ _ (first .stands) _ _ _ _ _ (radius .before .one .ensures .value) (radius .float .ensures) (call .with-primordial-cube-radius .ensures) _
     (made .if1 .taken) (put .counted .ensures)
 
 slice-aggregate-numbered : tie.Need-slice-aggregate-numbered
@@ -99,7 +99,7 @@ returns-2 c =
     let call = called (refused .before) in
     let radius = read call in
     let first = start (radius .before .before) .args in
-    cube-refused (first .input .now) _ _ (first .stands) _ _ _ _ _ (radius .before .one .ensures .0) (radius .float .ensures) (call .with-primordial-cube-radius .ensures) _
+    cube-refused (first .input .now) _ _ (first .stands) _ _ _ _ _ (radius .before .one .ensures .value) (radius .float .ensures) (call .with-primordial-cube-radius .ensures) _
     (refused .if1 .left) (put .numbered .ensures)
 
 pub cube-turn-spec : {M : Type 1} → statement M

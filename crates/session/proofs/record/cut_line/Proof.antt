@@ -5,7 +5,7 @@ use borrow.Author.Needs.{needs}
 use Rattle.rules.specs.declared.CutReply.{CutReply}
 use Rattle.rules.specs.Session.{text, cutText}
 use Rattle.session.specs.Written.{LineFits}
-use Rattle.session.proofs.Puts.{put-as}
+use Rattle.lent_bytes.proofs.Puts.{put-as}
 use Rattle.session.proofs.record.cut_line.Statement.{statement}
 use Rattle.session.proofs.record.cut_line.Tie as tie
 
@@ -32,8 +32,8 @@ answer-line-requires : tie.Need-answer-line-requires
 answer-line-requires c κs =
     let told = c .before .before in
     let first = start (told .before .before) in
-    let fits = subst (λ (r : CutReply). LineFits r (first .args .counts .now)) (told .reply2 .given .1) (first .pre .0) in
-    (fits .0, (fits .1, first .pre .1))
+    let fits = subst (λ (r : CutReply). LineFits r (first .args .counts .now)) (told .reply2 .given .1) (first .pre .fits) in
+    record { names = fits .names; counts = fits .counts; room = first .pre .room }
 
 same-length : tie.Need-same-length
 same-length c = search needs

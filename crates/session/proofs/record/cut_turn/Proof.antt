@@ -36,12 +36,13 @@ divider-at-requires : tie.Need-divider-at-requires
 divider-at-requires c κs =
     let first = start c in
     let bytes = first .args .input .now in
-    (c .dimension-of .ensures .1, subst (λ (k : ℕ). cutLength k ≤ length bytes) (sym (c .dimension-of .ensures .0)) (cut-long bytes _ (first .pre .0)))
+    let d = c .dimension-of .ensures in
+    record { word = d .bound; record-there = subst (λ (k : ℕ). cutLength k ≤ length bytes) (sym (d .value)) (cut-long bytes _ (first .pre .asked)) }
 
 one-requires : tie.Need-one-requires
 one-requires c κs =
     let first = start (c .before) in
-    let l = cut-long (first .args .input .now) _ (first .pre .0) in
+    let l = cut-long (first .args .input .now) _ (first .pre .asked) in
     omega (arith, l)
 
 fate-requires : tie.Need-fate-requires
@@ -53,7 +54,7 @@ fate-requires-2 c κs = search needs
 two-requires : tie.Need-two-requires
 two-requires c κs =
     let first = start (c .before .before .before .before) in
-    let l = cut-long (first .args .input .now) _ (first .pre .0) in
+    let l = cut-long (first .args .input .now) _ (first .pre .asked) in
     omega (arith, l)
 
 cut-requires : tie.Need-cut-requires
@@ -62,7 +63,7 @@ cut-requires c κs = search needs
 cut-line-requires : tie.Need-cut-line-requires
 cut-line-requires c κs =
     let done = cut-done (c .before .before) in
-    (line-fits _ _ _ _ _ _ _ (done .cut .ensures), start (dimension (root done)) .pre .1)
+    record { fits = line-fits _ _ _ _ _ _ _ (done .cut .ensures); room = start (dimension (root done)) .pre .room }
 
 mul-t19 : tie.Need-mul-t19
 mul-t19 c = search needs
@@ -94,8 +95,8 @@ returns c =
     let inside = outside .before in
     let kept = inside .before in
     let divider = kept .before in
-    cut-taken _ _ _ _ _ _ _ _ _ _ _ _ _ (done .cut .ensures) (divider .before .dimension-of .ensures .0) (divider .divider-at .ensures) (kept .one .ensures .0)
-    (inside .fate .ensures) (outside .fate2 .ensures) (two .two .ensures .0) (put .cut-line .ensures)
+    cut-taken _ _ _ _ _ _ _ _ _ _ _ _ _ (done .cut .ensures) (divider .before .dimension-of .ensures .value) (divider .divider-at .ensures) (kept .one .ensures .value)
+    (inside .fate .ensures) (outside .fate2 .ensures) (two .two .ensures .value) (put .cut-line .ensures)
 
 pub cut-turn-spec : {M : Type 1} → statement M
 cut-turn-spec =

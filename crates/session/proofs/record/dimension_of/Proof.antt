@@ -8,7 +8,7 @@ use Rattle.session.proofs.record.dimension_of.Statement.{statement}
 use Rattle.session.proofs.record.dimension_of.Tie as tie
 
 returns : tie.Need-returns
-returns c = (sym (List·getD-eq-default (c .before .before .args .counts .now) 0 {n = 0} (omega arith)), lit≤ tt)
+returns c = record { value = sym (List·getD-eq-default (c .before .before .args .counts .now) 0 {n = 0} (omega arith)); bound = lit≤ tt }
 
 shared-slice-read-wide : tie.Need-shared-slice-read-wide
 shared-slice-read-wide c = search needs

@@ -26,7 +26,7 @@ returns : tie.Need-returns
 returns c =
     let read = c .before in
     let bytes = start read .args .input .now in
-    subst (λ (d : ℕ). false ≡ isCut d bytes) (read .dimension-of .ensures .0) (cut-short bytes (read .dimension-of .result) (omega arith))
+    subst (λ (d : ℕ). false ≡ isCut d bytes) (read .dimension-of .ensures .value) (cut-short bytes (read .dimension-of .result) (omega arith))
 
 one-requires : tie.Need-one-requires
 one-requires c κs = search needs
@@ -35,7 +35,7 @@ returns-2 : tie.Need-returns-2
 returns-2 c =
     let kept = c .before in
     let read = kept .before .before in
-    cut-unkept (start read .args .input .now) _ (subst (λ (k : ℕ). 3 < k) (kept .one .ensures .0) (omega arith))
+    cut-unkept (start read .args .input .now) _ (subst (λ (k : ℕ). 3 < k) (kept .one .ensures .value) (omega arith))
 
 is-marked-requires : tie.Need-is-marked-requires
 is-marked-requires c κs = search needs
@@ -45,8 +45,8 @@ returns-3 c =
     let kept = c .before .before in
     let read = kept .before .before in
     let bytes = start read .args .input .now in
-    subst (λ (d : ℕ). c .is-marked .result ≡ isCut d bytes) (read .dimension-of .ensures .0)
-    (cut-marked bytes (read .dimension-of .result) (omega arith) (subst (λ (k : ℕ). k ≤ 3) (kept .one .ensures .0) (omega arith)) (c .is-marked .ensures))
+    subst (λ (d : ℕ). c .is-marked .result ≡ isCut d bytes) (read .dimension-of .ensures .value)
+    (cut-marked bytes (read .dimension-of .result) (omega arith) (subst (λ (k : ℕ). k ≤ 3) (kept .one .ensures .value) (omega arith)) (c .is-marked .ensures))
 
 pub is-cut-spec : {M : Type 1} → statement M
 is-cut-spec =

@@ -2,7 +2,7 @@
 use mathlib.Core.Path.{sym, ap}
 use borrow.Author.Needs.{needs}
 use Rattle.rules.specs.Session.{place}
-use Rattle.session.proofs.Puts.{put-as}
+use Rattle.lent_bytes.proofs.Puts.{put-as}
 use Rattle.session.proofs.write.element.Statement.{statement}
 use Rattle.session.proofs.write.element.Tie as tie
 
@@ -18,8 +18,8 @@ word-requires c κs = search needs
 enum-known-e : tie.Need-enum-known-e
 enum-known-e c = search needs
 
-number-requires : tie.Need-number-requires
-number-requires c κs = search needs
+spaced-number-requires : tie.Need-spaced-number-requires
+spaced-number-requires c κs = search needs
 
 same-length : tie.Need-same-length
 same-length c = search needs
@@ -31,7 +31,7 @@ same-length-2 : tie.Need-same-length-2
 same-length-2 c = search needs
 
 returns-2 : tie.Need-returns-2
-returns-2 c = put-as (sym (ap place (c .before .before .before .before .before .e .given .1))) (c .before .before .number .ensures)
+returns-2 c = put-as (sym (ap place (c .before .before .before .before .before .e .given .1))) (c .before .before .spaced-number .ensures)
 
 pub element-spec : {M : Type 1} → statement M
 element-spec =
@@ -41,7 +41,7 @@ element-spec =
     slice-aggregate-word
     word-requires
     enum-known-e
-    number-requires
+    spaced-number-requires
     same-length
     returns
     same-length-2

@@ -35,7 +35,7 @@ shared-slice-read-wide : tie.Need-shared-slice-read-wide
 shared-slice-read-wide c =
     let p = late (c .before .before .before) .pre in
     let q = c .before .if2 .left in
-    omega (arith, q, p .0, p .1)
+    omega (arith, q, p .long, p .room)
 
 wide-requires : tie.Need-wide-requires
 wide-requires c κs = search needs
@@ -48,7 +48,7 @@ returns-3 c =
     let f = c .before .before .before .before in
     let a = late f .args in
     number-is (a .elements .now) (a .e .0) (a .rank) (a .low) (a .x) true true _ (le-leb _ _ (f .if1 .left)) (lt-ltb _ _ (c .before .before .if2 .left))
-    (ap (λ (y : ℕ). eqb y (a .rank)) (sym (ap (λ (y : ℕ). y + 1) (c .wide .ensures .0) ∙ add-one _)))
+    (ap (λ (y : ℕ). eqb y (a .rank)) (sym (ap (λ (y : ℕ). y + 1) (c .wide .ensures .value) ∙ add-one _)))
 
 pub number-fits-spec : {M : Type 1} → statement M
 number-fits-spec =

@@ -52,7 +52,7 @@ returns c =
     let at = f .before .loop in
     let s = start (f .before) in
     let a = s .args in
-    fits-no (a .elements .now) (a .to) (a .e .0) (a .rank) (s .pre .part .end) (at .low) (at .i) _ (at .inv .rest) (c .before .before .wide .ensures .0) (f .loop-test .taken)
+    fits-no (a .elements .now) (a .to) (a .e .0) (a .rank) (s .pre .part .end) (at .low) (at .i) _ (at .inv .rest) (c .before .before .wide .ensures .value) (f .loop-test .taken)
     (sym (c .before .number-fits .ensures) ∙ not-true _ (c .if1 .taken))
 
 add-low : tie.Need-add-low Inv-loop μ-loop
@@ -72,7 +72,7 @@ loop-again c =
     let a = s .args in
     record {
       bound = search needs;
-      rest = fits-go (a .elements .now) (a .to) (a .e .0) (a .rank) (s .pre .part .end) (at .low) (at .i) _ (at .inv .rest) (c .before .before .wide .ensures .0) (f .loop-test .taken)
+      rest = fits-go (a .elements .now) (a .to) (a .e .0) (a .rank) (s .pre .part .end) (at .low) (at .i) _ (at .inv .rest) (c .before .before .wide .ensures .value) (f .loop-test .taken)
           (sym (c .before .number-fits .ensures) ∙ not-false _ (c .if1 .left));
     }
 

@@ -47,7 +47,7 @@ key-of-requires c κs =
 join-requires : tie.Need-join-requires
 join-requires c κs =
     let p = start (missed (c .before)) .pre in
-    record { index = p .earlier .long; key = c .before .key-of .ensures .1; room = p .inRoom }
+    record { index = p .earlier .long; key = c .before .key-of .ensures .bound; room = p .inRoom }
 
 same-length : tie.Need-same-length
 same-length c = search needs
@@ -78,8 +78,8 @@ returns-2 c =
       told = row-unmet (a .elements .now) (a .e .0) (ap elementNumber (sym (k .before .enum-told2 .given .1)) ∙ f .find-row .ensures);
       indexed = λ t.
           subst (λ (l : List ℕ). Indexed (a .elements .now) (a .e .0 + 1) l) (sym after)
-          (index-joined (a .elements .now) (a .e .0) (a .index .now) (k .key-of .result) (p .earlier) (key .0) (key .1) (p .inRoom));
-      joins = λ t. after ∙ ap (λ (m : ℕ). newStart (a .index .now) m (a .e .0)) (key .0);
+          (index-joined (a .elements .now) (a .e .0) (a .index .now) (k .key-of .result) (p .earlier) (key .value) (key .bound) (p .inRoom));
+      joins = λ t. after ∙ ap (λ (m : ℕ). newStart (a .index .now) m (a .e .0)) (key .value);
       stays = λ t. absurd (false≢true (sym t));
     }
 

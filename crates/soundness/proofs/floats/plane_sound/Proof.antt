@@ -23,7 +23,7 @@ is-unit-requires c κs = search needs
 returns : tie.Need-returns
 returns c =
     let a = c .before .before .before .before .before .args in
-    plane-is (a .d) (take 5 (drop (a .k .0 * 5) (a .planes .now))) (c .before .before .before .before .before .pre .0) false _
+    plane-is (a .d) (take 5 (drop (a .k .0 * 5) (a .planes .now))) (c .before .before .before .before .before .pre .dimension) false _
     (ap (λ (h : Hyperplane). unitNormal (a .d) (h .normal)) (sym (c .before .before .before .hyperplane-at .ensures))
     ∙ sym (c .before .is-unit .ensures) ∙ not-true _ (c .if1 .taken)) refl
 
@@ -34,7 +34,7 @@ returns-2 : tie.Need-returns-2
 unfolding ofBits
 returns-2 c =
     let a = c .before .before .before .before .before .before .args in
-    plane-is (a .d) (take 5 (drop (a .k .0 * 5) (a .planes .now))) (c .before .before .before .before .before .before .pre .0) true _
+    plane-is (a .d) (take 5 (drop (a .k .0 * 5) (a .planes .now))) (c .before .before .before .before .before .before .pre .dimension) true _
     (ap (λ (h : Hyperplane). unitNormal (a .d) (h .normal)) (sym (c .before .before .before .before .hyperplane-at .ensures))
     ∙ sym (c .before .before .is-unit .ensures) ∙ not-false _ (c .before .if1 .left))
     (ap (λ (h : Hyperplane). within farthestPlane (h .distance)) (sym (c .before .before .before .before .hyperplane-at .ensures)) ∙ sym (c .is-within .ensures))

@@ -16,7 +16,7 @@ coordinates-fit-requires c κs = search needs
 returns : tie.Need-returns
 returns c =
     let a = c .before .before .before .args in
-    point-is (a .d) (a .at) (a .points .now) false _ (c .before .before .before .pre .0) (sym (not-true _ (c .if1 .taken)) ∙ c .before .coordinates-fit .ensures) refl
+    point-is (a .d) (a .at) (a .points .now) false _ (c .before .before .before .pre .dimension) (sym (not-true _ (c .if1 .taken)) ∙ c .before .coordinates-fit .ensures) refl
 
 add-blank-floats : tie.Need-add-blank-floats
 add-blank-floats c = search needs
@@ -30,7 +30,7 @@ blank-floats-requires c κs = search needs
 returns-2 : tie.Need-returns-2
 returns-2 c =
     let a = c .before .before .before .before .args in
-    point-is (a .d) (a .at) (a .points .now) true _ (c .before .before .before .before .pre .0)
+    point-is (a .d) (a .at) (a .points .now) true _ (c .before .before .before .before .pre .dimension)
     (sym (not-false _ (c .before .if1 .left)) ∙ c .before .before .coordinates-fit .ensures) (c .blank-floats .ensures)
 
 pub point-sound-spec : {M : Type 1} → statement M

@@ -1,7 +1,9 @@
 -- The rows that are left are sound exactly when all are, until one is not.
-use Prim.Native.Nat.{_-_, _≤_, _*_}
+use Prim.Native.Nat.{ℕ, _-_, _≤_, _*_}
 use mathlib.Core.Bool.{_&&_}
+use mathlib.Core.List.{List}
 use mathlib.Core.Path.{_≡_, sym, _∙_}
+use lib.Ieee.{Float}
 use lib.ListN.{drop}
 use Rattle.rules.specs.Limits.{desk}
 use Rattle.rules.specs.Lists.{all, rows}
@@ -12,14 +14,19 @@ use borrow.Author.Needs.{needs}
 use Rattle.soundness.proofs.floats.points_sound.Statement.{statement}
 use Rattle.soundness.proofs.floats.points_sound.Tie as tie
 
+-- from row i on they are sound exactly when all are
+record SoFar (points : List Float) (d v i : ℕ) : Type 0 where
+  bound : i ≤ v
+  rest : pointsSound desk d v points ≡ (all (pointWords d) (rows (v - i) (desk .dimensions) (drop (i * desk .dimensions) points)) && blankFloats (drop (v * desk .dimensions) points))
+
 abbrev Inv-loop : tie.InvT-loop
-Inv-loop points d v i₀ i = (i ≤ v) × (pointsSound desk d v points ≡ (all (pointWords d) (rows (v - i) 4 (drop (i * 4) points)) && blankFloats (drop (v * 4) points)))
+Inv-loop points d v i₀ i = SoFar points d v i
 
 abbrev μ-loop : tie.MeasureT-loop
 μ-loop points d v i₀ i = v - i
 
 loop-holds : tie.Need-loop-holds Inv-loop μ-loop
-loop-holds c = (search needs, points-start (c .before .args .d) (c .before .args .v) (c .before .args .points .now))
+loop-holds c = let a = c .before .args in record { bound = search needs; rest = points-start (a .d) (a .v) (a .points .now) }
 
 mul-point-sound : tie.Need-mul-point-sound Inv-loop μ-loop
 mul-point-sound c = search needs
@@ -31,7 +38,7 @@ returns : tie.Need-returns Inv-loop μ-loop
 returns c =
     let a = c .before .before .before .before .before .args in
     let at = c .before .before .before .loop in
-    row-no (pointWords (a .d)) 4 (a .v) (a .points .now) (blankFloats (drop (a .v * 4) (a .points .now))) (at .i) (at .inv .1) (search needs)
+    row-no (pointWords (a .d)) 4 (a .v) (a .points .now) (blankFloats (drop (a .v * 4) (a .points .now))) (at .i) (at .inv .rest) (search needs)
     (sym (c .before .point-sound .ensures) ∙ not-true _ (c .if1 .taken))
 
 add-i : tie.Need-add-i Inv-loop μ-loop
@@ -43,11 +50,12 @@ loop-less c = search needs
 loop-again : tie.Need-loop-again Inv-loop μ-loop
 loop-again c =
     let a = c .before .before .before .before .before .args in
-    let at = c .before .before .before .loop in (
-      search needs,
-      row-go (pointWords (a .d)) 4 (a .v) (a .points .now) (blankFloats (drop (a .v * 4) (a .points .now))) (at .i) (at .inv .1) (search needs)
-          (sym (c .before .point-sound .ensures) ∙ not-false _ (c .if1 .left)),
-    )
+    let at = c .before .before .before .loop in
+    record {
+      bound = search needs;
+      rest = row-go (pointWords (a .d)) 4 (a .v) (a .points .now) (blankFloats (drop (a .v * 4) (a .points .now))) (at .i) (at .inv .rest) (search needs)
+          (sym (c .before .point-sound .ensures) ∙ not-false _ (c .if1 .left));
+    }
 
 mul-blank-floats : tie.Need-mul-blank-floats Inv-loop μ-loop
 mul-blank-floats c = search needs
@@ -59,8 +67,8 @@ returns-2 : tie.Need-returns-2 Inv-loop μ-loop
 returns-2 c =
     let a = c .before .before .before .before .args in
     let at = c .before .before .loop in
-    c .blank-floats .ensures ∙ whole-room blankFloats (a .v * 4) 1024 (a .points .now) (c .before .before .before .before .pre .2) ∙ row-end (pointWords (a .d)) 4 (a .v)
-    (a .points .now) (blankFloats (drop (a .v * 4) (a .points .now))) (at .i) (at .inv .1) (search needs)
+    c .blank-floats .ensures ∙ whole-room blankFloats (a .v * 4) 1024 (a .points .now) (c .before .before .before .before .pre .long) ∙ row-end (pointWords (a .d)) 4 (a .v)
+    (a .points .now) (blankFloats (drop (a .v * 4) (a .points .now))) (at .i) (at .inv .rest) (search needs)
 
 pub points-sound-spec : {M : Type 1} → statement M
 points-sound-spec =

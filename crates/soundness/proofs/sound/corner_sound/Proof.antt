@@ -103,7 +103,7 @@ returns-4 c =
     let a = start m .args in
     record {
       told = corner-is (a .elements .now) (a .at) (a .k .0) true true true _ (start m .pre .corner) (test-eq 0 _ (sym (m .if1 .left))) (test-eq 65535 _ (sym (p .if2 .left)))
-          (test-eq 1 _ (sym (n .if3 .left))) (ap (λ (x : ℕ). eqb x (a .k .0)) (sym (c .before .wide .ensures .0)));
+          (test-eq 1 _ (sym (n .if3 .left))) (ap (λ (x : ℕ). eqb x (a .k .0)) (sym (c .before .wide .ensures .value)));
       past = λ t. c .before .before .before .gather-past .ensures;
     }
 

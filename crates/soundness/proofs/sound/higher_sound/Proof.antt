@@ -33,7 +33,7 @@ returns c =
     let begun = c .before .before .before .before .before in
     let a = begun .args in
     record {
-      told = polytope-many (a .elements .now) (a .d) (a .e .0) _ (c .before .wide .ensures .0) (a .rank) (c .if1 .taken);
+      told = polytope-many (a .elements .now) (a .d) (a .e .0) _ (c .before .wide .ensures .value) (a .rank) (c .if1 .taken);
       unmet = λ t. absurd (false≢true t);
       past = λ t. absurd (false≢true t);
     }
@@ -42,7 +42,7 @@ gather-past-requires : tie.Need-gather-past-requires
 gather-past-requires c κs =
     let f = c .before in
     let p = start f .pre .ready .there in
-    record { row = omega (arith, p .long, p .inRoom); count = f .before .wide .ensures .0; fits = f .if1 .left; mask = p .mask; places = p .places }
+    record { row = omega (arith, p .long, p .inRoom); count = f .before .wide .ensures .value; fits = f .if1 .left; mask = p .mask; places = p .places }
 
 add-boundary-sound : tie.Need-add-boundary-sound
 add-boundary-sound c = search needs
@@ -68,7 +68,7 @@ returns-2 c =
     let f = counted g in
     let a = start f .args in
     record {
-      told = polytope-few (a .elements .now) (a .d) (a .e .0) _ (f .before .wide .ensures .0) (a .rank) (f .if1 .left) (c .boundary-sound .ensures .told);
+      told = polytope-few (a .elements .now) (a .d) (a .e .0) _ (f .before .wide .ensures .value) (a .rank) (f .if1 .left) (c .boundary-sound .ensures .told);
       unmet = c .boundary-sound .ensures .unmet;
       past = λ t. g .gather-past .ensures;
     }

@@ -58,7 +58,7 @@ returns c =
 shared-slice-read-wide : tie.Need-shared-slice-read-wide
 shared-slice-read-wide c =
     let s = c .before in
-    let long = size-known _ _ _ _ (sym (s .before .right-size .ensures) ∙ not-false _ (s .if1 .left)) .0 in
+    let long = size-known _ _ _ _ (sym (s .before .right-size .ensures) ∙ not-false _ (s .if1 .left)) .counts in
     omega (arith, long)
 
 wide-requires : tie.Need-wide-requires
@@ -67,7 +67,7 @@ wide-requires c κs = search needs
 shared-slice-read-wide-2 : tie.Need-shared-slice-read-wide-2
 shared-slice-read-wide-2 c =
     let s = sized (c .before) in
-    let long = size-known _ _ _ _ (sym (s .before .right-size .ensures) ∙ not-false _ (s .if1 .left)) .0 in
+    let long = size-known _ _ _ _ (sym (s .before .right-size .ensures) ∙ not-false _ (s .if1 .left)) .counts in
     omega (arith, long)
 
 wide-requires-2 : tie.Need-wide-requires-2
@@ -76,7 +76,7 @@ wide-requires-2 c κs = search needs
 shared-slice-read-wide-3 : tie.Need-shared-slice-read-wide-3
 shared-slice-read-wide-3 c =
     let s = sized (first (c .before)) in
-    let long = size-known _ _ _ _ (sym (s .before .right-size .ensures) ∙ not-false _ (s .if1 .left)) .0 in
+    let long = size-known _ _ _ _ (sym (s .before .right-size .ensures) ∙ not-false _ (s .if1 .left)) .counts in
     omega (arith, long)
 
 wide-requires-3 : tie.Need-wide-requires-3
@@ -85,7 +85,7 @@ wide-requires-3 c κs = search needs
 shared-slice-read-wide-4 : tie.Need-shared-slice-read-wide-4
 shared-slice-read-wide-4 c =
     let s = sized (first (second (c .before))) in
-    let long = size-known _ _ _ _ (sym (s .before .right-size .ensures) ∙ not-false _ (s .if1 .left)) .0 in
+    let long = size-known _ _ _ _ (sym (s .before .right-size .ensures) ∙ not-false _ (s .if1 .left)) .counts in
     omega (arith, long)
 
 wide-requires-4 : tie.Need-wide-requires-4
@@ -106,11 +106,11 @@ returns-2 c =
     let no = sym (c .before .counts-fit .ensures) ∙ not-true _ (c .if2 .taken) in
     record {
       told = memory-is (a .counts .now) (a .points .now) (a .planes .now) (a .elements .now) _ _ _ _ true false _ _
-          (d .wide .ensures .0) (n .wide2 .ensures .0) (v .wide3 .ensures .0) (h .wide4 .ensures .0) size no refl refl;
+          (d .wide .ensures .value) (n .wide2 .ensures .value) (v .wide3 .ensures .value) (h .wide4 .ensures .value) size no refl refl;
       indexed = λ t. absurd (false≢true t);
       read = ap (λ (m : ℕ). withRows (a .elements .now) m (a .index .now))
           (memory-read (a .counts .now) (a .points .now) (a .planes .now) (a .elements .now) _ _ _ _ true false _
-          (d .wide .ensures .0) (n .wide2 .ensures .0) (v .wide3 .ensures .0) (h .wide4 .ensures .0) size no refl);
+          (d .wide .ensures .value) (n .wide2 .ensures .value) (v .wide3 .ensures .value) (h .wide4 .ensures .value) size no refl);
     }
 
 floats-sound-requires : tie.Need-floats-sound-requires
@@ -118,7 +118,7 @@ floats-sound-requires c κs =
     let s = sized (first (second (third (fitted c)))) in
     let long = size-known _ _ _ _ (sym (s .before .right-size .ensures) ∙ not-false _ (s .if1 .left)) in
     let f = fit-counts _ _ _ _ (sym (c .before .counts-fit .ensures) ∙ not-false _ (c .if2 .left)) in
-    (f .dimension, f .vertices, f .hyperplanes, long .1, long .2)
+    record { dimension = f .dimension; vertices = f .vertices; hyperplanes = f .hyperplanes; points = long .points; planes = long .planes }
 
 returns-3 : tie.Need-returns-3
 returns-3 c =
@@ -134,11 +134,11 @@ returns-3 c =
     let no = sym (c .before .floats-sound .ensures) ∙ not-true _ (c .if3 .taken) in
     record {
       told = memory-is (a .counts .now) (a .points .now) (a .planes .now) (a .elements .now) _ _ _ _ true true false _
-          (d .wide .ensures .0) (n .wide2 .ensures .0) (v .wide3 .ensures .0) (h .wide4 .ensures .0) size fits no refl;
+          (d .wide .ensures .value) (n .wide2 .ensures .value) (v .wide3 .ensures .value) (h .wide4 .ensures .value) size fits no refl;
       indexed = λ t. absurd (false≢true t);
       read = ap (λ (m : ℕ). withRows (a .elements .now) m (a .index .now))
           (memory-read (a .counts .now) (a .points .now) (a .planes .now) (a .elements .now) _ _ _ _ true true false
-          (d .wide .ensures .0) (n .wide2 .ensures .0) (v .wide3 .ensures .0) (h .wide4 .ensures .0) size fits no);
+          (d .wide .ensures .value) (n .wide2 .ensures .value) (v .wide3 .ensures .value) (h .wide4 .ensures .value) size fits no);
     }
 
 rows-sound-requires : tie.Need-rows-sound-requires
@@ -147,7 +147,7 @@ rows-sound-requires c κs =
     let s = sized (first (second (third (fitted f)))) in
     let long = size-known _ _ _ _ (sym (s .before .right-size .ensures) ∙ not-false _ (s .if1 .left)) in
     let fits = fit-counts _ _ _ _ (sym (f .before .counts-fit .ensures) ∙ not-false _ (f .if2 .left)) in
-    record { long = long .3; fits = fits .elements; empty = start (s .before) .pre }
+    record { long = long .elements; fits = fits .elements; empty = start (s .before) .pre }
 
 same-length : tie.Need-same-length
 same-length c = search needs
@@ -168,12 +168,12 @@ returns-4 c =
     let floats = sym (g .before .floats-sound .ensures) ∙ not-false _ (g .if3 .left) in
     record {
       told = memory-is (a .counts .now) (a .points .now) (a .planes .now) (a .elements .now) _ _ _ _ true true true _
-          (d .wide .ensures .0) (n .wide2 .ensures .0) (v .wide3 .ensures .0) (h .wide4 .ensures .0) size fits floats (sym (w .rows-sound .ensures .told));
-      indexed = λ t. index-count _ _ _ _ (n .wide2 .ensures .0) (w .rows-sound .ensures .indexed t);
+          (d .wide .ensures .value) (n .wide2 .ensures .value) (v .wide3 .ensures .value) (h .wide4 .ensures .value) size fits floats (sym (w .rows-sound .ensures .told));
+      indexed = λ t. index-count _ _ _ _ (n .wide2 .ensures .value) (w .rows-sound .ensures .indexed t);
       read = w .rows-sound .ensures .read
           ∙ ap (λ (m : ℕ). withRows (a .elements .now) m (a .index .now))
           (memory-read (a .counts .now) (a .points .now) (a .planes .now) (a .elements .now) _ _ _ _ true true true
-          (d .wide .ensures .0) (n .wide2 .ensures .0) (v .wide3 .ensures .0) (h .wide4 .ensures .0) size fits floats);
+          (d .wide .ensures .value) (n .wide2 .ensures .value) (v .wide3 .ensures .value) (h .wide4 .ensures .value) size fits floats);
     }
 
 pub memory-indexed-spec : {M : Type 1} → statement M

@@ -43,14 +43,14 @@ corner-sound-requires : tie.Need-corner-sound-requires
 corner-sound-requires c κs =
     let f = c .before in
     let p = named f .pre .there in
-    record { row = omega (arith, p .long, p .inRoom); corner = sym (f .before .wide .ensures .0) ∙ f .if1 .taken; mask = p .mask; places = p .places }
+    record { row = omega (arith, p .long, p .inRoom); corner = sym (f .before .wide .ensures .value) ∙ f .if1 .taken; mask = p .mask; places = p .places }
 
 returns : tie.Need-returns
 returns c =
     let f = c .before .before in
     let a = named f .args in
     record {
-      told = row-corner (a .elements .now) (a .d) (a .h) (a .k .0) (a .e .0) _ (f .before .wide .ensures .0) (f .if1 .taken) (c .corner-sound .ensures .told);
+      told = row-corner (a .elements .now) (a .d) (a .h) (a .k .0) (a .e .0) _ (f .before .wide .ensures .value) (f .if1 .taken) (c .corner-sound .ensures .told);
       unmet = λ t. unmet-next (a .e .0) (a .met .now) (named f .pre .unmet);
       past = c .corner-sound .ensures .past;
     }
@@ -69,7 +69,7 @@ returns-2 c =
     let r = c .before .before in
     let a = start r .args in
     record {
-      told = row-polytope (a .elements .now) (a .d) (a .h) (a .k .0) (a .e .0) _ (r .before .wide .ensures .0) _ _ false _ _ _ (r .if1 .left) refl refl
+      told = row-polytope (a .elements .now) (a .d) (a .h) (a .k .0) (a .e .0) _ (r .before .wide .ensures .value) _ _ false _ _ _ (r .if1 .left) refl refl
           (lt-leb _ 1 (c .if2 .taken)) refl refl refl;
       unmet = λ t. absurd (false≢true t);
       past = λ t. absurd (false≢true t);
@@ -80,7 +80,7 @@ returns-3 c =
     let r = c .before .before .before in
     let a = start r .args in
     record {
-      told = row-polytope (a .elements .now) (a .d) (a .h) (a .k .0) (a .e .0) _ (r .before .wide .ensures .0) _ _ true false _ _ (r .if1 .left) refl refl
+      told = row-polytope (a .elements .now) (a .d) (a .h) (a .k .0) (a .e .0) _ (r .before .wide .ensures .value) _ _ true false _ _ (r .if1 .left) refl refl
           (test-le _ 1 (c .before .if2 .left)) (lt-leb _ (a .d) (c .if3 .taken)) refl refl;
       unmet = λ t. absurd (false≢true t);
       past = λ t. absurd (false≢true t);
@@ -96,7 +96,7 @@ returns-4 c =
     let r = ranked t in
     let a = start r .args in
     record {
-      told = row-polytope (a .elements .now) (a .d) (a .h) (a .k .0) (a .e .0) _ (r .before .wide .ensures .0) _ _ true true false _ (r .if1 .left) refl refl
+      told = row-polytope (a .elements .now) (a .d) (a .h) (a .k .0) (a .e .0) _ (r .before .wide .ensures .value) _ _ true true false _ (r .if1 .left) refl refl
           (test-le _ 1 (t .before .if2 .left)) (test-le _ (a .d) (t .if3 .left)) (sym (w .polytope-sound .ensures .told) ∙ not-true _ (c .if4 .taken)) refl;
       unmet = λ t. absurd (false≢true t);
       past = λ t. absurd (false≢true t);
@@ -139,8 +139,8 @@ returns-5 c =
     let a = start r .args in
     let yes = not-false _ (b .if4 .left) in
     record {
-      told = row-polytope (a .elements .now) (a .d) (a .h) (a .k .0) (a .e .0) _ (r .before .wide .ensures .0) _ _ true true true _ (r .if1 .left)
-          (q .wide2 .ensures .0) (c .before .wide3 .ensures .0) (test-le _ 1 (t .before .if2 .left)) (test-le _ (a .d) (t .if3 .left))
+      told = row-polytope (a .elements .now) (a .d) (a .h) (a .k .0) (a .e .0) _ (r .before .wide .ensures .value) _ _ true true true _ (r .if1 .left)
+          (q .wide2 .ensures .value) (c .before .wide3 .ensures .value) (test-le _ 1 (t .before .if2 .left)) (test-le _ (a .d) (t .if3 .left))
           (sym (w .polytope-sound .ensures .told) ∙ yes) (sym (c .facet-sound .ensures));
       unmet = λ t. w .polytope-sound .ensures .unmet yes;
       past = λ t. w .polytope-sound .ensures .past yes;

@@ -34,7 +34,7 @@ find-row-requires : tie.Need-find-row-requires
 find-row-requires c κs =
     let w = c .before .before in
     let p = start w .pre in
-    let e = w .wide .ensures .0 in
+    let e = w .wide .ensures .value in
     record { elements = p .elements; room = omega (arith, e, p .room); row = omega (arith, p .row); index = index-count _ _ _ _ (sym e) (p .index) }
 
 enum-known-found : tie.Need-enum-known-found
@@ -57,7 +57,10 @@ returns c =
     let p = start w .pre in
     let n = w .wide .result in
     let q = row-whole (a .elements .now) (a .row .now) n (p .row) (f .find-row .ensures) in
-    (row-full (a .counts .now) (a .elements .now) (a .row .now) n (f .find-row .result) (w .wide .ensures .0) q (c .before .enum-told .given .1) (c .if1 .taken), p .index)
+    record {
+      added = row-full (a .counts .now) (a .elements .now) (a .row .now) n (f .find-row .result) (w .wide .ensures .value) q (c .before .enum-told .given .1) (c .if1 .taken);
+      index = p .index;
+    }
 
 append-row-requires : tie.Need-append-row-requires
 append-row-requires c κs =
@@ -65,7 +68,7 @@ append-row-requires c κs =
     let w = counted (sought r) in
     let p = start w .pre in
     let l = r .if1 .left in
-    record { counts = p .counts; elements = p .elements; room = omega (arith, l); row = p .row; index = index-count _ _ _ _ (sym (w .wide .ensures .0)) (p .index) }
+    record { counts = p .counts; elements = p .elements; room = omega (arith, l); row = p .row; index = index-count _ _ _ _ (sym (w .wide .ensures .value)) (p .index) }
 
 same-length-3 : tie.Need-same-length-3
 same-length-3 c = search needs
@@ -81,7 +84,10 @@ returns-2 c =
     let p = start w .pre in
     let n = w .wide .result in
     let q = row-whole (a .elements .now) (a .row .now) n (p .row) (f .find-row .ensures) in
-    (row-found (a .counts .now) (a .elements .now) (a .row .now) n (f .find-row .result) (w .wide .ensures .0) q _ (c .before .found .given .1), p .index)
+    record {
+      added = row-found (a .counts .now) (a .elements .now) (a .row .now) n (f .find-row .result) (w .wide .ensures .value) q _ (c .before .found .given .1);
+      index = p .index;
+    }
 
 same-length-5 : tie.Need-same-length-5
 same-length-5 c = search needs
@@ -103,10 +109,12 @@ returns-3 c =
     let n = w .wide .result in
     let q = row-whole (a .elements .now) (a .row .now) n (p .row) (f .find-row .ensures) in
     let l = r .if1 .left in
-    let s = u .append-row .ensures in (
-      row-new (a .counts .now) (a .elements .now) (a .row .now) n (f .find-row .result) (w .wide .ensures .0) q _ _ (r .before .enum-told .given .1) (omega (arith, l)) (s .count) (s .stored),
-      index-count _ _ _ _ (sym (ap (λ (cs : List ℕ). getD cs 1 0) (s .count) ∙ getD-set-same (a .counts .now) 1 (n + 1) 0 (omega (arith, p .counts)))) (s .index),
-    )
+    let s = u .append-row .ensures in
+    record {
+      added = row-new (a .counts .now) (a .elements .now) (a .row .now) n (f .find-row .result) (w .wide .ensures .value) q _ _ (r .before .enum-told .given .1) (omega (arith, l)) (s .count)
+          (s .stored);
+      index = index-count _ _ _ _ (sym (ap (λ (cs : List ℕ). getD cs 1 0) (s .count) ∙ getD-set-same (a .counts .now) 1 (n + 1) 0 (omega (arith, p .counts)))) (s .index);
+    }
 
 pub add-row-spec : {M : Type 1} → statement M
 add-row-spec =

@@ -62,7 +62,7 @@ returns c =
     record {
       count = refl;
       stored = e;
-      index = index-appended (a .elements .now) (a .row .now) (a .n) fit (p .row) (a .index .now) (k .key-of .result) (p .index) (q .0) (q .1) (p .room) _ _ e (j .join .ensures);
+      index = index-appended (a .elements .now) (a .row .now) (a .n) fit (p .row) (a .index .now) (k .key-of .result) (p .index) (q .value) (q .bound) (p .room) _ _ e (j .join .ensures);
     }
 
 pub append-row-spec : {M : Type 1} → statement M

@@ -40,7 +40,10 @@ add-result c = search needs
 returns : tie.Need-returns
 returns c =
     let a = c .before .before .before .before .before .args in
-    (ap₂ (λ (v w : ℕ). (v * 37 + w) % 1024) (c .before .before .wide .ensures .0) (c .wide2 .ensures .0) ∙ key-words (a .words .now) (a .at), omega arith)
+    record {
+      value = ap₂ (λ (v w : ℕ). (v * 37 + w) % 1024) (c .before .before .wide .ensures .value) (c .wide2 .ensures .value) ∙ key-words (a .words .now) (a .at);
+      bound = omega arith;
+    }
 
 pub key-of-spec : {M : Type 1} → statement M
 key-of-spec =

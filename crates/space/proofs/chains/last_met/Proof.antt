@@ -29,7 +29,7 @@ mul-wide : tie.Need-mul-wide Inv-loop μ-loop
 mul-wide c = search needs
 
 shared-slice-read-wide : tie.Need-shared-slice-read-wide Inv-loop μ-loop
-shared-slice-read-wide c = let l = c .before .before .before .before .before .pre .index .long in let k = c .before .key-of .ensures .1 in omega (arith, l, k)
+shared-slice-read-wide c = let l = c .before .before .before .before .before .pre .index .long in let k = c .before .key-of .ensures .bound in omega (arith, l, k)
 
 wide-requires : tie.Need-wide-requires Inv-loop μ-loop
 wide-requires c κs = search needs
@@ -38,8 +38,8 @@ loop-holds : tie.Need-loop-holds Inv-loop μ-loop
 loop-holds c =
     let a = start c .args in
     let k = c .before .before .key-of .ensures in
-    met-start (a .elements .now) (a .n) (take rowWidth (drop (a .from) (a .words .now))) (a .index .now) (c .wide .result) (start c .pre .index) (omega (arith, sym (k .0), k .1))
-    (c .wide .ensures .0 ∙ ap (λ (i : ℕ). getD (a .index .now) i 0) (k .0))
+    met-start (a .elements .now) (a .n) (take rowWidth (drop (a .from) (a .words .now))) (a .index .now) (c .wide .result) (start c .pre .index) (omega (arith, sym (k .value), k .bound))
+    (c .wide .ensures .value ∙ ap (λ (i : ℕ). getD (a .index .now) i 0) (k .value))
 
 sub-same-row : tie.Need-sub-same-row Inv-loop μ-loop
 sub-same-row c = search needs
@@ -51,7 +51,7 @@ same-row-requires : tie.Need-same-row-requires Inv-loop μ-loop
 same-row-requires c κs =
     let m = c .before .loop .inv .room in
     let p = start (c .before .before) .pre in
-    (omega (arith, m, p .elements, p .room, c .loop-test .taken), p .row)
+    record { stored = omega (arith, m, p .elements, p .room, c .loop-test .taken); row = p .row }
 
 sub-wide : tie.Need-sub-wide Inv-loop μ-loop
 sub-wide c = search needs
@@ -77,7 +77,7 @@ loop-less c =
     let at = up .before .loop in
     let a = start (up .before .before) .args in
     let p = start (up .before .before) .pre in
-    met-less (a .elements .now) (a .n) (take rowWidth (drop (a .from) (a .words .now))) (a .index .now) (at .met) (at .x) (c .wide2 .result) (p .index) (at .inv) (up .loop-test .taken) (c .wide2 .ensures .0)
+    met-less (a .elements .now) (a .n) (take rowWidth (drop (a .from) (a .words .now))) (a .index .now) (at .met) (at .x) (c .wide2 .result) (p .index) (at .inv) (up .loop-test .taken) (c .wide2 .ensures .value)
 
 loop-again : tie.Need-loop-again Inv-loop μ-loop
 loop-again c =
@@ -86,7 +86,7 @@ loop-again c =
     let a = start (up .before .before) .args in
     let p = start (up .before .before) .pre in
     let same = c .before .before .before .same-row .ensures in
-    met-on (a .elements .now) (a .n) (take rowWidth (drop (a .from) (a .words .now))) (a .index .now) (at .met) (at .x) (c .wide2 .result) (p .index) (at .inv) (up .loop-test .taken) (c .wide2 .ensures .0)
+    met-on (a .elements .now) (a .n) (take rowWidth (drop (a .from) (a .words .now))) (a .index .now) (at .met) (at .x) (c .wide2 .result) (p .index) (at .inv) (up .loop-test .taken) (c .wide2 .ensures .value)
     (c .before .before .if1 .met) (c .before .before .if1 .came) (λ p. sym same ∙ p .taken) (λ q. sym same ∙ q .left)
 
 returns : tie.Need-returns Inv-loop μ-loop

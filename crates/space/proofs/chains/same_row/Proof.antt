@@ -50,7 +50,7 @@ returns : tie.Need-returns Inv-loop μ-loop
 returns c =
     let a = c .before .before .before .args in
     let p = c .before .before .before .pre in
-    unlike-at (a .elements .now) (a .words .now) (a .at) (a .from) (p .1) (p .0) 4 (omega arith) (ne-eqb _ _ (c .if1 .taken))
+    unlike-at (a .elements .now) (a .words .now) (a .at) (a .from) (p .row) (p .stored) 4 (omega arith) (ne-eqb _ _ (c .if1 .taken))
 
 loop-holds : tie.Need-loop-holds Inv-loop μ-loop
 loop-holds c = record { most = search needs; so-far = refl }
@@ -85,14 +85,14 @@ loop-again c =
     let at = up .loop in
     let a = start up .args in
     let p = start up .pre in
-    record { most = search needs; so-far = same-go (a .elements .now) (a .words .now) (a .at) (a .from) (p .1) (p .0) (at .differ) (at .j) (at .inv .so-far) (search needs) }
+    record { most = search needs; so-far = same-go (a .elements .now) (a .words .now) (a .at) (a .from) (p .row) (p .stored) (at .differ) (at .j) (at .inv .so-far) (search needs) }
 
 returns-2 : tie.Need-returns-2 Inv-loop μ-loop
 returns-2 c =
     let at = c .before .loop in
     let a = start (c .before) .args in
     let p = start (c .before) .pre in
-    same-end (a .elements .now) (a .words .now) (a .at) (a .from) (p .1) (p .0) (at .differ) (at .j) (at .inv .so-far) (omega arith)
+    same-end (a .elements .now) (a .words .now) (a .at) (a .from) (p .row) (p .stored) (at .differ) (at .j) (at .inv .so-far) (omega arith)
 
 pub same-row-spec : {M : Type 1} → statement M
 same-row-spec =

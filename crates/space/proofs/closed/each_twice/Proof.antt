@@ -28,13 +28,13 @@ abbrev μ-loop : tie.MeasureT-loop
 abbrev start : tie.At-loop Inv-loop μ-loop → tie.Start Inv-loop μ-loop
 start c = c .before .before .before
 
-abbrev read-at : tie.After-meet-ends Inv-loop μ-loop → tie.After-wide Inv-loop μ-loop
+abbrev read-at : tie.After-meet-ends-in-face Inv-loop μ-loop → tie.After-wide Inv-loop μ-loop
 read-at c = c .before .before
 
 -- the facts there
 abbrev edge : (c : tie.After-wide Inv-loop μ-loop) → let f = c .before .before in let a = start (f .before) .args in
     TakenUp (a .elements .now) (a .list .now) (a .n) (f .before .loop .k) (c .wide .result)
-edge c = let f = c .before .before in record { ready = start (f .before) .pre; more = f .loop-test .taken; read = c .wide .ensures .0 }
+edge c = let f = c .before .before in record { ready = start (f .before) .pre; more = f .loop-test .taken; read = c .wide .ensures .value }
 
 loop-holds : tie.Need-loop-holds Inv-loop μ-loop
 loop-holds c =
@@ -50,15 +50,15 @@ shared-slice-read-wide c = search needs
 wide-requires : tie.Need-wide-requires Inv-loop μ-loop
 wide-requires c κs = search needs
 
-meet-ends-requires : tie.Need-meet-ends-requires Inv-loop μ-loop
-meet-ends-requires c κs = taken-ready (edge (c .before))
+meet-ends-in-face-requires : tie.Need-meet-ends-in-face-requires Inv-loop μ-loop
+meet-ends-in-face-requires c κs = taken-ready (edge (c .before))
 
 add-twice : tie.Need-add-twice Inv-loop μ-loop
 add-twice c =
     let w = read-at c in
     let at = w .before .before .before .loop in
     let few = round-few _ _ 1 (at .met) (at .twice) (at .k) (at .inv .round) in
-    omega (arith, few, c .meet-ends .ensures .most, edge w .ready .size, at .inv .bound)
+    omega (arith, few, c .meet-ends-in-face .ensures .most, edge w .ready .size, at .inv .bound)
 
 add-k : tie.Need-add-k Inv-loop μ-loop
 add-k c = search needs
@@ -74,7 +74,7 @@ loop-again c =
     record {
       bound = search needs;
       round = round-met _ _ 1 (at .met) _ (at .twice) (at .k) (w .wide .result) _ (at .inv .round) (taken-there T) (taken-here T) (taken-ends T)
-          (c .meet-ends .ensures .count) (c .meet-ends .ensures .words);
+          (c .meet-ends-in-face .ensures .count) (c .meet-ends-in-face .ensures .words);
     }
 
 returns : tie.Need-returns Inv-loop μ-loop
@@ -97,7 +97,7 @@ each-twice-spec =
     mul-wide
     shared-slice-read-wide
     wide-requires
-    meet-ends-requires
+    meet-ends-in-face-requires
     add-twice
     add-k
     loop-less

@@ -59,7 +59,7 @@ returns-3 c =
     let a = start e .args in
     let l = edges-long (a .list .now) (a .n) (start e .pre .long) in
     closed-few (getD (a .counts .now) 0 0) (a .elements .now) (take (a .n) (a .list .now)) (a .rank) (c .each-twice .ensures)
-    (few-at (take (a .n) (a .list .now)) l (c .before .if3 .taken) (c .before .before .few-edges .ensures) (c .before .before .before .wide .ensures .0)) (e .if2 .left)
+    (few-at (take (a .n) (a .list .now)) l (c .before .if3 .taken) (c .before .before .few-edges .ensures) (c .before .before .before .wide .ensures .value)) (e .if2 .left)
 
 is-ring-requires : tie.Need-is-ring-requires
 is-ring-requires c κs =
@@ -73,7 +73,7 @@ returns-4 c =
     let a = start e .args in
     let l = edges-long (a .list .now) (a .n) (start e .pre .long) in
     closed-many (getD (a .counts .now) 0 0) (a .elements .now) (take (a .n) (a .list .now)) (a .rank) (c .is-ring .ensures)
-    (many-at (take (a .n) (a .list .now)) l (c .before .if3 .left) (c .before .before .few-edges .ensures) (c .before .before .before .wide .ensures .0)) (e .if2 .left)
+    (many-at (take (a .n) (a .list .now)) l (c .before .if3 .left) (c .before .before .few-edges .ensures) (c .before .before .before .wide .ensures .value)) (e .if2 .left)
 
 pub is-closed-spec : {M : Type 1} → statement M
 is-closed-spec =

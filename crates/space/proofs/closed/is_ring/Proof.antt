@@ -89,7 +89,7 @@ abbrev taken : (c : tie.After-wide Inv-loop μ-loop) → let f = c .before .befo
 taken c =
     let f = c .before .before in
     record {
-      edge = record { ready = start (f .before) .pre; more = f .loop-test .taken; read = c .wide .ensures .0 };
+      edge = record { ready = start (f .before) .pre; more = f .loop-test .taken; read = c .wide .ensures .value };
       so = f .before .loop .inv;
     }
 
@@ -108,7 +108,7 @@ wide-requires : tie.Need-wide-requires Inv-loop μ-loop
 wide-requires c κs = search needs
 
 join-ends-requires : tie.Need-join-ends-requires Inv-loop μ-loop
-join-ends-requires c κs = (taken-ready (taken (c .before) .edge), stamped (taken (c .before)))
+join-ends-requires c κs = record { edge = taken-ready (taken (c .before) .edge); stamped = stamped (taken (c .before)) }
 
 returns : tie.Need-returns Inv-loop μ-loop
 returns c = let j = c .before in thrice (taken (read-at j)) (j .join-ends .ensures .code) (c .if1 .taken)

@@ -71,10 +71,10 @@ ends c =
     let t = both c in
     let w = first t in
     record {
-      first = w .wide .ensures .0 ∙ w .before .boundary-at .ensures;
-      second = t .wide2 .ensures .0 ∙ t .before .boundary-at2 .ensures;
-      across = c .before .before .far-end .ensures .0;
-      across-second = c .far-end2 .ensures .0;
+      first = w .wide .ensures .value ∙ w .before .boundary-at .ensures;
+      second = t .wide2 .ensures .value ∙ t .before .boundary-at2 .ensures;
+      across = c .before .before .far-end .ensures .value;
+      across-second = c .far-end2 .ensures .value;
     }
 
 boundary-at-requires : tie.Need-boundary-at-requires
@@ -168,10 +168,10 @@ returns-4 c =
     let u = c .before .one-unless-same .ensures in
     let v = c .one-unless-same2 .ensures in
     record {
-      code = ap₂ (λ (m n : ℕ). m + n) (u .0) (v .0) ∙ counting E (j .before .before .if1 .left) (j .before .if2 .left) (j .if3 .left);
+      code = ap₂ (λ (m n : ℕ). m + n) (u .value) (v .value) ∙ counting E (j .before .before .if1 .left) (j .before .if2 .left) (j .if3 .left);
       words = λ l. words-are E;
-      kept = λ l. absurd (omega (arith, l, u .1, v .1));
-      most = omega (arith, u .1, v .1);
+      kept = λ l. absurd (omega (arith, l, u .bound, v .bound));
+      most = omega (arith, u .bound, v .bound);
     }
 
 pub join-ends-spec : {M : Type 1} → statement M

@@ -28,13 +28,19 @@ returns : tie.Need-returns
 unfolding meeting
 returns c =
     let a = c .before .before .before .args in
-    (sym (ap (λ (b : Bool). cond b 1 0) (eq-eqb (getD (a .met .now) (a .v) 0) (a .stamp) (c .if1 .taken))), ap (λ (w : ℕ). set (a .met .now) (a .v) w) (c .before .later .ensures))
+    record {
+      count = sym (ap (λ (b : Bool). cond b 1 0) (eq-eqb (getD (a .met .now) (a .v) 0) (a .stamp) (c .if1 .taken)));
+      words = ap (λ (w : ℕ). set (a .met .now) (a .v) w) (c .before .later .ensures);
+    }
 
 returns-2 : tie.Need-returns-2
 unfolding meeting
 returns-2 c =
     let a = c .before .before .before .args in
-    (sym (ap (λ (b : Bool). cond b 1 0) (ne-eqb (getD (a .met .now) (a .v) 0) (a .stamp) (c .if1 .left))), ap (λ (w : ℕ). set (a .met .now) (a .v) w) (c .before .later .ensures))
+    record {
+      count = sym (ap (λ (b : Bool). cond b 1 0) (ne-eqb (getD (a .met .now) (a .v) 0) (a .stamp) (c .if1 .left)));
+      words = ap (λ (w : ℕ). set (a .met .now) (a .v) w) (c .before .later .ensures);
+    }
 
 pub meet-spec : {M : Type 1} → statement M
 meet-spec =

@@ -1,37 +1,12 @@
 -- The two ends one after the other; each is 1 at most.
-use Prim.Native.Nat.{ℕ, _+_, _≤_}
-use mathlib.Core.Bool.{Bool, true, false, cond}
-use mathlib.Core.List.{List}
-use mathlib.Core.Path.{_≡_, ap, ap₂, _∙_}
+use Prim.Native.Nat.{_+_}
+use mathlib.Core.Path.{_∙_}
 use native.Mathlib.Omega.{arith}
-use lib.Dec.{eqb, lit≤}
-use lib.ListN.{getD}
 use borrow.Author.Needs.{needs}
-use Rattle.space.specs.Closed.{firstEnd, secondEnd, isSecond, meeting, seconds, bothMet}
+use Rattle.space.specs.Closed.{EndsMet}
+use Rattle.space.proofs.EndsCounted.{ends-met}
 use Rattle.space.proofs.closed.meet_ends.Statement.{statement}
 use Rattle.space.proofs.closed.meet_ends.Tie as tie
-
-both-few : {f g : ℕ} (s : ℕ) (met one : List ℕ) (a b : ℕ) → f ≡ isSecond s met a → g ≡ isSecond s one b → f + g ≤ 2
-both-few {f} {g} s met one a b p q =
-    let x = few (eqb (getD met a 0) s) in
-    let y = few (eqb (getD one b 0) s) in
-    omega arith
-  where
-    few : (t : Bool) → cond t 1 0 ≤ 1
-    few true = lit≤ tt
-    few false = lit≤ tt
-
-module _ (s : ℕ) (es met one : List ℕ) (e a b : ℕ) (p : a ≡ firstEnd es e) (q : b ≡ secondEnd es e) (h : one ≡ meeting s met a) where
-  first-met : one ≡ meeting s met (firstEnd es e)
-  first-met = h ∙ ap (meeting s met) p
-
-  both-count : isSecond s met a + isSecond s one b ≡ seconds s es met e
-  unfolding seconds
-  both-count = ap₂ (λ (x y : ℕ). x + y) (ap (isSecond s met) p) (ap₂ (isSecond s) first-met q)
-
-  both-met : meeting s one b ≡ bothMet s es met e
-  unfolding bothMet
-  both-met = ap₂ (meeting s) first-met q
 
 -- where the function began, where the first end was read, and where both were
 abbrev start : tie.After-wide → tie.Start
@@ -42,6 +17,19 @@ first c = c .before .before
 
 abbrev met-first : tie.After-meet2 → tie.After-wide2
 met-first c = c .before .before .before .before
+
+-- what the two meetings make up
+abbrev both : (c : tie.After-meet2) → let a = start (first (met-first c)) .args in let one = c .before .before .meet in
+    EndsMet (a .stamp) (a .elements .now) (a .met .now) (a .e .0) (one .result + c .meet2 .result) (c .meet2 .last .0)
+both c =
+    let r = met-first c in
+    let w = first r in
+    let a = start w .args in
+    let one = c .before .before .meet in
+    let two = c .meet2 in
+    ends-met (a .stamp) (a .elements .now) (a .met .now) (one .last .0) (two .last .0) (a .e .0) (w .wide .result) (r .wide2 .result) (one .result) (two .result)
+    (w .wide .ensures .value ∙ w .before .boundary-at .ensures) (r .wide2 .ensures .value ∙ r .before .boundary-at2 .ensures)
+    (one .ensures) (two .ensures)
 
 boundary-at-requires : tie.Need-boundary-at-requires
 boundary-at-requires c κs = search needs
@@ -62,27 +50,10 @@ meet-requires-2 : tie.Need-meet-requires-2
 meet-requires-2 c κs = search needs
 
 add-result : tie.Need-add-result
-add-result c =
-    let r = met-first c in
-    let a = start (first r) .args in
-    let one = c .before .before .meet in
-    let few = both-few (a .stamp) (a .met .now) (one .last .0) (first r .wide .result) (r .wide2 .result) (one .ensures .0) (c .meet2 .ensures .0) in
-    omega arith
+add-result c = let few = both c .most in omega arith
 
 returns : tie.Need-returns
-returns c =
-    let r = met-first c in
-    let w = first r in
-    let a = start w .args in
-    let p = w .wide .ensures .0 ∙ w .before .boundary-at .ensures in
-    let q = r .wide2 .ensures .0 ∙ r .before .boundary-at2 .ensures in
-    let one = c .before .before .meet in
-    let two = c .meet2 in
-    record {
-      count = ap₂ (λ (x y : ℕ). x + y) (one .ensures .0) (two .ensures .0) ∙ both-count (a .stamp) (a .elements .now) (a .met .now) (one .last .0) (a .e .0) _ _ p q (one .ensures .1);
-      words = two .ensures .1 ∙ both-met (a .stamp) (a .elements .now) (a .met .now) (one .last .0) (a .e .0) _ _ p q (one .ensures .1);
-      most = both-few (a .stamp) (a .met .now) (one .last .0) (w .wide .result) (r .wide2 .result) (one .ensures .0) (two .ensures .0);
-    }
+returns c = both c
 
 pub meet-ends-spec : {M : Type 1} → statement M
 meet-ends-spec =

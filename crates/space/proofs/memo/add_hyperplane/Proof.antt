@@ -52,8 +52,8 @@ same-length-2 c = search needs
 
 returns : tie.Need-returns
 returns c =
-    hyperplane-added _ _ _ (first-asked (counted (sought (shared c))) .before .wide .ensures .0) (first-asked (counted (sought (shared c))) .primordials .ensures)
-    (counted (sought (shared c)) .wide2 .ensures .0) (search needs) (row-made (shared c) .hyperplane-row .ensures) (sought (shared c) .find-hyperplane .ensures) (shared c .share-hyperplane .ensures)
+    hyperplane-added _ _ _ (first-asked (counted (sought (shared c))) .before .wide .ensures .value) (first-asked (counted (sought (shared c))) .primordials .ensures)
+    (counted (sought (shared c)) .wide2 .ensures .value) (search needs) (row-made (shared c) .hyperplane-row .ensures) (sought (shared c) .find-hyperplane .ensures) (shared c .share-hyperplane .ensures)
 
 pub add-hyperplane-spec : {M : Type 1} → statement M
 add-hyperplane-spec =

@@ -27,13 +27,13 @@ returns : tie.Need-returns
 returns c =
     let a = c .before .before .before .before .args in
     let p = c .before .before .before .before .pre in
-    (poly-few _ _ _ _ _ _ (a .n) (taken (a .list .now) (a .n) (p .words) (p .size)) (c .if1 .taken), p .index)
+    record { added = poly-few _ _ _ _ _ _ (a .n) (taken (a .list .now) (a .n) (p .words) (p .size)) (c .if1 .taken); index = p .index }
 
 returns-2 : tie.Need-returns-2
 returns-2 c =
     let a = c .before .before .before .before .before .args in
     let p = c .before .before .before .before .before .pre in
-    (poly-many _ _ _ _ _ _ (a .n) (taken (a .list .now) (a .n) (p .words) (p .size)) (c .before .if1 .left) (c .if2 .taken), p .index)
+    record { added = poly-many _ _ _ _ _ _ (a .n) (taken (a .list .now) (a .n) (p .words) (p .size)) (c .before .if1 .left) (c .if2 .taken); index = p .index }
 
 is-closed-requires : tie.Need-is-closed-requires
 is-closed-requires c κs = search needs
@@ -49,7 +49,11 @@ returns-3 c =
     let f = fits (c .before) in
     let a = start f .args in
     let p = start f .pre in
-    (poly-open _ _ _ _ _ _ (a .n) (taken (a .list .now) (a .n) (p .words) (p .size)) (f .before .if1 .left) (f .if2 .left) (sym (c .before .is-closed .ensures) ∙ not-true _ (c .if3 .taken)), p .index)
+    let l = taken (a .list .now) (a .n) (p .words) (p .size) in
+    record {
+      added = poly-open _ _ _ _ _ _ (a .n) l (f .before .if1 .left) (f .if2 .left) (sym (c .before .is-closed .ensures) ∙ not-true _ (c .if3 .taken));
+      index = p .index;
+    }
 
 polytope-row-requires : tie.Need-polytope-row-requires
 polytope-row-requires c κs = search needs
@@ -87,7 +91,11 @@ returns-4 c =
     let p = start f .pre in
     let l = taken (a .list .now) (a .n) (p .words) (p .size) in
     let q = sym (t .is-closed .ensures) ∙ not-false _ (w .before .if3 .left) in
-    (poly-refused _ _ _ _ _ _ (a .n) l (f .before .if1 .left) (f .if2 .left) q _ _ _ _ (w .polytope-row .ensures) (r .add-row .ensures .0) _ (c .before .placed .given .1), r .add-row .ensures .1)
+    let s = r .add-row .ensures in
+    record {
+      added = poly-refused _ _ _ _ _ _ (a .n) l (f .before .if1 .left) (f .if2 .left) q _ _ _ _ (w .polytope-row .ensures) (s .added) _ (c .before .placed .given .1);
+      index = s .index;
+    }
 
 same-length-6 : tie.Need-same-length-6
 same-length-6 c = search needs
@@ -108,7 +116,11 @@ returns-5 c =
     let p = start f .pre in
     let l = taken (a .list .now) (a .n) (p .words) (p .size) in
     let q = sym (t .is-closed .ensures) ∙ not-false _ (w .before .if3 .left) in
-    (poly-made _ _ _ _ _ _ (a .n) l (f .before .if1 .left) (f .if2 .left) q _ _ _ _ (w .polytope-row .ensures) (r .add-row .ensures .0) _ (c .before .placed2 .given .1), r .add-row .ensures .1)
+    let s = r .add-row .ensures in
+    record {
+      added = poly-made _ _ _ _ _ _ (a .n) l (f .before .if1 .left) (f .if2 .left) q _ _ _ _ (w .polytope-row .ensures) (s .added) _ (c .before .placed2 .given .1);
+      index = s .index;
+    }
 
 pub add-polytope-spec : {M : Type 1} → statement M
 add-polytope-spec =

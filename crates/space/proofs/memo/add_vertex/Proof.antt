@@ -42,7 +42,7 @@ share-vertex-requires c κs =
     let n = counted f in
     let d = dimension-read n in
     let p = start d .pre in
-    let few = le-trans (le-of-eq (n .wide2 .ensures .0)) (p .vertexRoom) in
+    let few = le-trans (le-of-eq (n .wide2 .ensures .value)) (p .vertexRoom) in
     record {
       counts = p .counts;
       points = p .points;
@@ -69,7 +69,10 @@ returns c =
     let s = shared (c .before .before .before .before) in
     let f = sought s in
     let n = counted f in
-    (vertex-added _ _ (dimension-read n .wide .ensures .0) (n .wide2 .ensures .0) (f .find-vertex .ensures) (s .share-vertex .ensures .0), s .share-vertex .ensures .1)
+    record {
+      added = vertex-added _ _ (dimension-read n .wide .ensures .value) (n .wide2 .ensures .value) (f .find-vertex .ensures) (s .share-vertex .ensures .shared);
+      index = s .share-vertex .ensures .index;
+    }
 
 pub add-vertex-spec : {M : Type 1} → statement M
 add-vertex-spec =

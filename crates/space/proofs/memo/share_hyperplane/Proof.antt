@@ -17,7 +17,7 @@ wide-requires : tie.Need-wide-requires
 wide-requires c κs = search needs
 
 returns : tie.Need-returns
-returns c = shared-full _ (c .before .wide .ensures .0) (c .before .before .before .enum-told .given .1) (c .if1 .taken)
+returns c = shared-full _ (c .before .wide .ensures .value) (c .before .before .before .enum-told .given .1) (c .if1 .taken)
 
 mul-put-hyperplane : tie.Need-mul-put-hyperplane
 mul-put-hyperplane c = search needs
@@ -48,7 +48,7 @@ returns-3 c =
     let put = c .before .before in
     let room = put .before .before in
     let w = room .before in
-    shared-new _ (w .wide .ensures .0) (w .before .before .enum-told .given .1) (room .if1 .left) (put .put-hyperplane .ensures)
+    shared-new _ (w .wide .ensures .value) (w .before .before .enum-told .given .1) (room .if1 .left) (put .put-hyperplane .ensures)
 
 pub share-hyperplane-spec : {M : Type 1} → statement M
 share-hyperplane-spec =

@@ -58,7 +58,7 @@ wide-requires c κs = search needs
 returns : tie.Need-returns
 returns c =
     let w = c .before in
-    (shared-full _ (w .wide .ensures .0) (w .before .before .enum-told .given .1) (c .if1 .taken), start (counted w) .pre .index)
+    record { shared = shared-full _ (w .wide .ensures .value) (w .before .before .enum-told .given .1) (c .if1 .taken); index = start (counted w) .pre .index }
 
 mul-put-point : tie.Need-mul-put-point
 mul-put-point c = search needs
@@ -110,7 +110,8 @@ returns-2 : tie.Need-returns-2
 returns-2 c =
     let r = c .before .before .before .before .before .before in
     let m = made r in
-    (shared-old _ (m .before .before .m .given .1) (m .corner-row .ensures) (r .add-row .ensures .0), r .add-row .ensures .1)
+    let s = r .add-row .ensures in
+    record { shared = shared-old _ (m .before .before .m .given .1) (m .corner-row .ensures) (s .added); index = s .index }
 
 same-length-4 : tie.Need-same-length-4
 same-length-4 c = c .before .before .before .before .before .before .add-row2 .kept .0 ∙ simp length-set
@@ -131,7 +132,11 @@ returns-3 c =
     let s = stored m in
     let e = roomy s in
     let w = e .before in
-    (shared-new _ (w .wide .ensures .0) (w .before .before .enum-told .given .1) (e .if1 .left) (s .put-point .ensures) (m .corner-row2 .ensures) (r .add-row2 .ensures .0), r .add-row2 .ensures .1)
+    let row = r .add-row2 .ensures in
+    record {
+      shared = shared-new _ (w .wide .ensures .value) (w .before .before .enum-told .given .1) (e .if1 .left) (s .put-point .ensures) (m .corner-row2 .ensures) (row .added);
+      index = row .index;
+    }
 
 pub share-vertex-spec : {M : Type 1} → statement M
 share-vertex-spec =

@@ -109,7 +109,7 @@ returns c =
     let n₂ = n₃ .before .before in
     let n₁ = elements-counted n₃ in
     let a = start n₁ .args in
-    restored (a .e) (a .v) (a .h) (n₁ .wide .result) (n₂ .wide2 .result) (n₃ .wide3 .result) (n₁ .wide .ensures .0) (n₂ .wide2 .ensures .0) (n₃ .wide3 .ensures .0) (e .clear-numbers .ensures)
+    restored (a .e) (a .v) (a .h) (n₁ .wide .result) (n₂ .wide2 .result) (n₃ .wide3 .result) (n₁ .wide .ensures .value) (n₂ .wide2 .ensures .value) (n₃ .wide3 .ensures .value) (e .clear-numbers .ensures)
     (v .clear-floats .ensures) (h .clear-floats2 .ensures)
 
 pub restore-spec : {M : Type 1} → statement M

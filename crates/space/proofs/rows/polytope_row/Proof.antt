@@ -94,7 +94,7 @@ returns c =
     let e : at .j ≡ a .n = omega arith in
     let head = filled (a .rank) (b .bit .result) (a .plane) (a .n) in
     let words = at .inv .words ∙ ap (λ (j : ℕ). sets head 4 (take j (a .list .now))) e in
-    row-is (a .list .now) (a .n) (p .0) (omega arith) (a .rank) (a .plane) (b .bit .result) (a .mark) (at .row) head (p .1) (b .bit .ensures) refl words
+    row-is (a .list .now) (a .n) (p .words) (omega arith) (a .rank) (a .plane) (b .bit .result) (a .mark) (at .row) head (p .size) (b .bit .ensures) refl words
 
 pub polytope-row-spec : {M : Type 1} → statement M
 polytope-row-spec =

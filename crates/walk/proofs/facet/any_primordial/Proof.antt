@@ -48,14 +48,17 @@ is-primordial-requires c κs =
     let a = start (c .before .before .before) .args in
     let p = start (c .before .before .before) .pre in
     let at = c .before .before .before .loop in
-    (p .long, number-low (a .elements .now) (a .e .0) _ p (at .inv .size) (at .i) _ (search needs) (c .wide .ensures .0 ∙ c .before .boundary-at .ensures))
+    record {
+      elements = p .long;
+      room = number-low (a .elements .now) (a .e .0) _ p (at .inv .size) (at .i) _ (search needs) (c .wide .ensures .value ∙ c .before .boundary-at .ensures);
+    }
 
 returns : tie.Need-returns Inv-loop μ-loop
 returns c =
     let a = start (here (c .before)) .args in
     let at = here (c .before) .loop in
     any-here (a .elements .now) (a .e .0) _ (start (here (c .before)) .pre) (at .inv .size) (rowPrimordial (a .elements .now)) _ (at .i) _
-    (c .before .before .wide .ensures .0 ∙ c .before .before .before .boundary-at .ensures) (search needs) (at .inv .same)
+    (c .before .before .wide .ensures .value ∙ c .before .before .before .boundary-at .ensures) (search needs) (at .inv .same)
     (sym (c .before .is-primordial .ensures) ∙ c .if1 .taken)
 
 add-i : tie.Need-add-i Inv-loop μ-loop
@@ -72,7 +75,7 @@ loop-again c =
       low = search needs;
       size = at .inv .size;
       same = any-go (a .elements .now) (a .e .0) _ (start (here (c .before)) .pre) (at .inv .size) (rowPrimordial (a .elements .now)) _ (at .i) _
-          (c .before .before .wide .ensures .0 ∙ c .before .before .before .boundary-at .ensures) (search needs) (at .inv .same)
+          (c .before .before .wide .ensures .value ∙ c .before .before .before .boundary-at .ensures) (search needs) (at .inv .same)
           (sym (c .before .is-primordial .ensures) ∙ c .if1 .left);
     }
 

@@ -36,13 +36,13 @@ returns-2 : tie.Need-returns-2
 returns-2 c =
     let n = c .before .before in
     let s = passed n in
-    unused _ _ _ _ _ (sym (s .before .memory-sound .ensures) ∙ not-false _ (s .if1 .left)) _ (n .wide .ensures .0) (c .if2 .taken)
+    unused _ _ _ _ _ (sym (s .before .memory-sound .ensures) ∙ not-false _ (s .if1 .left)) _ (n .wide .ensures .value) (c .if2 .taken)
 
 rank-of-requires : tie.Need-rank-of-requires
 rank-of-requires c κs =
     let n = c .before .before in
     let s = passed n in
-    rank-asked _ _ _ _ (sym (s .before .memory-sound .ensures) ∙ not-false _ (s .if1 .left)) _ _ (n .wide .ensures .0) (c .if2 .left)
+    rank-asked _ _ _ _ (sym (s .before .memory-sound .ensures) ∙ not-false _ (s .if1 .left)) _ _ (n .wide .ensures .value) (c .if2 .left)
 
 shared-slice-read-wide-2 : tie.Need-shared-slice-read-wide-2
 shared-slice-read-wide-2 c =
@@ -58,8 +58,8 @@ returns-3 c =
     let r = ranked d in
     let n = counted r in
     let s = passed n in
-    another-rank _ _ _ _ _ (sym (s .before .memory-sound .ensures) ∙ not-false _ (s .if1 .left)) _ (n .wide .ensures .0) (r .before .if2 .left)
-    _ _ (r .rank-of .ensures) (d .wide2 .ensures .0) (c .if3 .taken)
+    another-rank _ _ _ _ _ (sym (s .before .memory-sound .ensures) ∙ not-false _ (s .if1 .left)) _ (n .wide .ensures .value) (r .before .if2 .left)
+    _ _ (r .rank-of .ensures) (d .wide2 .ensures .value) (c .if3 .taken)
 
 any-primordial-requires : tie.Need-any-primordial-requires
 any-primordial-requires c κs =
@@ -67,8 +67,8 @@ any-primordial-requires c κs =
     let r = ranked d in
     let n = counted r in
     let s = passed n in
-    facets-fit _ _ _ _ _ (sym (s .before .memory-sound .ensures) ∙ not-false _ (s .if1 .left)) _ (n .wide .ensures .0) (r .before .if2 .left)
-    _ _ (r .rank-of .ensures) (d .wide2 .ensures .0) (c .if3 .left)
+    facets-fit _ _ _ _ _ (sym (s .before .memory-sound .ensures) ∙ not-false _ (s .if1 .left)) _ (n .wide .ensures .value) (r .before .if2 .left)
+    _ _ (r .rank-of .ensures) (d .wide2 .ensures .value) (c .if3 .left)
 
 returns-4 : tie.Need-returns-4
 returns-4 c =
@@ -76,8 +76,8 @@ returns-4 c =
     let r = ranked d in
     let n = counted r in
     let s = passed n in
-    has _ _ _ _ _ (sym (s .before .memory-sound .ensures) ∙ not-false _ (s .if1 .left)) _ (n .wide .ensures .0) (r .before .if2 .left)
-    _ _ (r .rank-of .ensures) (d .wide2 .ensures .0) (c .before .if3 .left) _ (c .any-primordial .ensures)
+    has _ _ _ _ _ (sym (s .before .memory-sound .ensures) ∙ not-false _ (s .if1 .left)) _ (n .wide .ensures .value) (r .before .if2 .left)
+    _ _ (r .rank-of .ensures) (d .wide2 .ensures .value) (c .before .if3 .left) _ (c .any-primordial .ensures)
 
 pub has-primordial-facet-spec : {M : Type 1} → statement M
 has-primordial-facet-spec =

@@ -1,0 +1,5 @@
+pub mod Numbers
+pub mod Fronts
+pub mod Decimals
+pub mod Puts
+pub mod Rests
