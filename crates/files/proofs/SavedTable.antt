@@ -1,13 +1,13 @@
 -- The words of a sound memory can be written, and the records that are written of them are the one file of its table.
-use Prim.Native.Nat.{ℕ, suc, _+_, _*_, _≤_}
+use Prim.Native.Nat.{ℕ, suc, _+_, _*_, _≤_, _<_}
 use mathlib.Core.Bool.{Bool, true, false, not, _&&_, cond}
 use mathlib.Core.List.{List, [], _∷_, _++_, map}
 use mathlib.Core.Path.{_≡_, refl, sym, ap, ap₂, subst, _∙_}
-use native.Mathlib.Nat.{zero-mul, suc-mul, mul-le-mul-right}
+use native.Mathlib.Nat.{zero-mul, suc-mul}
 use native.Mathlib.Omega.{arith}
 use lib.Dec.{leb, eqb, lit≤}
 use lib.ListN.{length, getD, take, drop, length-append, length-map}
-use lib.Seq.{take-append-seam}
+use lib.Seq.{take-append-seam, sets-eq}
 use lib.Ieee.{Float, isNan}
 use Rattle.rules.specs.Limits.{desk, noPlane}
 use Rattle.rules.specs.Lists.{if_then_else_, all, joined, rows}
@@ -15,9 +15,12 @@ use Rattle.rules.specs.Bytes.{numberBytes}
 use Rattle.rules.specs.Table.{Element, corner, polytope, Plane}
 use Rattle.rules.specs.Memory.{planeNumber, elementRow, readElement, readPlane, decode, rightSize, soundMemory}
 use Rattle.rules.specs.Held.{memoryOf, elementWords, Wide}
-use Rattle.rules.specs.Files.{header, pointRecord, planeRecord, rowRecord, elementRecord, fileOf}
+use Rattle.rules.specs.Questions.{Asked, no-answer, answer}
+use Rattle.rules.specs.Replies.{listed}
+use Rattle.rules.specs.Files.{header, pointRecord, planeRecord, rowRecord, elementRecord, fileOf, saveReply}
+use Rattle.rules.specs.declared.ListReply.the-variants.{Refused, Listed}
 use Rattle.rules.proofs.Each.{all-map}
-use Rattle.rules.proofs.Laws.{and-left, and-right, eq-test, test-le}
+use Rattle.rules.proofs.Laws.{and-left, and-right, eq-test, test-le, test-above, if-true, if-false}
 use Rattle.rules.proofs.OneCall.{sound-table}
 use Rattle.rules.proofs.OneFile.{NoNan, sound-no-nan}
 use Rattle.space.proofs.Sizes.{Lengths, size-known}
@@ -83,6 +86,13 @@ counts-are (a ∷ b ∷ c ∷ d ∷ []) n v h e p q r = λ i. a ∷ p i ∷ q i 
 counts-are (a ∷ b ∷ c ∷ d ∷ x ∷ l) n v h e p q r = absurd (let z : ⊥ = omega (arith, e) in z)
 
 -- ---- what the words of a sound memory tell
+
+-- the four counts, by other names
+pub record Counted (cs : List ℕ) (d n v h : ℕ) : Type 0 where
+  pub dimension : d ≡ getD cs 0 0
+  pub elements : n ≡ getD cs 1 0
+  pub vertices : v ≡ getD cs 2 0
+  pub hyperplanes : h ≡ getD cs 3 0
 
 pub record Words (cs : List ℕ) (ps hs : List Float) (es : List ℕ) : Type 0 where
   pub sizes : Lengths cs ps hs es
@@ -194,31 +204,34 @@ module _ (cs : List ℕ) (ps hs : List Float) (es : List ℕ) (s : soundMemory d
 
   -- ---- each part, where all of it fits the room
 
-  module _ {room : List ℕ} (fit : length (fileOf (decode desk (memoryOf cs ps hs es))) ≤ length room) where
+  module _ {room : List ℕ} (fit : length (fileOf (decode desk (memoryOf cs ps hs es))) ≤ length room) {d′ n′ v′ h′ : ℕ} (k : Counted cs d′ n′ v′ h′) where
     pub header-ready : HeaderReady cs room 0
     header-ready = record {
       counts = words .sizes .counts;
-      fits = let l = parts-long in let a = header-long cs (words .sizes .counts) in omega (arith, l, a, fit);
+      fits = (let l = parts-long in let a = header-long cs (words .sizes .counts) in omega (arith, l, a, fit));
     }
 
     module _ {p : ℕ} {first : List ℕ} (a : Put room 0 (headerSaved cs) p first) where
-      pub points-ready : (d′ v′ : ℕ) → d′ ≡ d → v′ ≡ v → (d′ ≤ 4) × RowsReady (pointClear d′) (pointSaved d′) 4 v′ ps first p
-      points-ready d′ v′ e f =
-          subst (λ (x : ℕ). (x ≤ 4) × RowsReady (pointClear x) (pointSaved x) 4 v′ ps first p) (sym e)
-          (subst (λ (x : ℕ). (d ≤ 4) × RowsReady (pointClear d) (pointSaved d) 4 x ps first p) (sym f)
+      pub points-ready : (d′ ≤ 4) × RowsReady (pointClear d′) (pointSaved d′) 4 v′ ps first p
+      points-ready =
+          subst (λ (x : ℕ). (x ≤ 4) × RowsReady (pointClear x) (pointSaved x) 4 v′ ps first p) (sym (k .dimension))
+          (subst (λ (x : ℕ). (d ≤ 4) × RowsReady (pointClear d) (pointSaved d) 4 x ps first p) (sym (k .vertices))
           (words .low .dimension, record {
-            stored = (let k = words .low .vertices in let l = words .sizes .points in omega (arith, k, l));
+            stored = (let m = words .low .vertices in let l = words .sizes .points in omega (arith, m, l));
             clear = points-clear;
             fits = (let l = parts-long in let q = a .place in let m = put-length a in omega (arith, l, q, m, fit));
           }))
 
-      module _ {q : ℕ} {second : List ℕ} (b : Put first p (saved (pointSaved d) 4 v ps) q second) where
-        pub planes-ready : (d′ h′ : ℕ) → d′ ≡ d → h′ ≡ h → (d′ ≤ 4) × RowsReady (planeClear d′) (planeSaved d′) 5 h′ hs second q
-        planes-ready d′ h′ e f =
-            subst (λ (x : ℕ). (x ≤ 4) × RowsReady (planeClear x) (planeSaved x) 5 h′ hs second q) (sym e)
-            (subst (λ (x : ℕ). (d ≤ 4) × RowsReady (planeClear d) (planeSaved d) 5 x hs second q) (sym f)
+      module _ {q : ℕ} {second : List ℕ} (b′ : Put first p (saved (pointSaved d′) 4 v′ ps) q second) where
+        b : Put first p (saved (pointSaved d) 4 v ps) q second
+        b = put-as (λ i. saved (pointSaved (k .dimension i)) 4 (k .vertices i) ps) b′
+
+        pub planes-ready : (d′ ≤ 4) × RowsReady (planeClear d′) (planeSaved d′) 5 h′ hs second q
+        planes-ready =
+            subst (λ (x : ℕ). (x ≤ 4) × RowsReady (planeClear x) (planeSaved x) 5 h′ hs second q) (sym (k .dimension))
+            (subst (λ (x : ℕ). (d ≤ 4) × RowsReady (planeClear d) (planeSaved d) 5 x hs second q) (sym (k .hyperplanes))
             (words .low .dimension, record {
-              stored = (let k = words .low .hyperplanes in let l = words .sizes .planes in omega (arith, k, l));
+              stored = (let m = words .low .hyperplanes in let l = words .sizes .planes in omega (arith, m, l));
               clear = planes-clear;
               fits =
                   (let l = parts-long in
@@ -229,12 +242,15 @@ module _ (cs : List ℕ) (ps hs : List Float) (es : List ℕ) (s : soundMemory d
                   omega (arith, l, x, m, y, o, fit));
             }))
 
-        module _ {r : ℕ} {third : List ℕ} (c : Put second q (saved (planeSaved d) 5 h hs) r third) where
-          pub elements-ready : (n′ : ℕ) → n′ ≡ n → RowsReady countFits rowSaved 36 n′ es third r
-          elements-ready n′ e =
-              subst (λ (x : ℕ). RowsReady countFits rowSaved 36 x es third r) (sym e)
+        module _ {r : ℕ} {third : List ℕ} (c′ : Put second q (saved (planeSaved d′) 5 h′ hs) r third) where
+          c : Put second q (saved (planeSaved d) 5 h hs) r third
+          c = put-as (λ i. saved (planeSaved (k .dimension i)) 5 (k .hyperplanes i) hs) c′
+
+          pub elements-ready : RowsReady countFits rowSaved 36 n′ es third r
+          elements-ready =
+              subst (λ (x : ℕ). RowsReady countFits rowSaved 36 x es third r) (sym (k .elements))
               (record {
-                stored = (let k = words .low .elements in let l = words .sizes .elements in omega (arith, k, l));
+                stored = (let m = words .low .elements in let l = words .sizes .elements in omega (arith, m, l));
                 clear = elements-clear;
                 fits =
                     (let l = parts-long in
@@ -247,5 +263,38 @@ module _ (cs : List ℕ) (ps hs : List Float) (es : List ℕ) (s : soundMemory d
                     omega (arith, l, x, m, y, o, z, u, fit));
               })
 
-          pub file-put : {end : ℕ} {last : List ℕ} → Put third r (saved rowSaved 36 n es) end last → Put room 0 (fileOf (decode desk (memoryOf cs ps hs es))) end last
-          file-put e = put-as (sym file-is) (behind a (behind b (behind c e)))
+          pub file-put : {end : ℕ} {last : List ℕ} → Put third r (saved rowSaved 36 n′ es) end last → Put room 0 (fileOf (decode desk (memoryOf cs ps hs es))) end last
+          file-put e = put-as (sym file-is) (behind a (behind b (behind c (put-as (λ i. saved rowSaved 36 (k .elements i) es) e))))
+
+-- ---- the replies
+
+module _ (cs : List ℕ) (ps hs : List Float) (es : List ℕ) (room : List ℕ) where
+  pub save-three : soundMemory desk (memoryOf cs ps hs es) ≡ false → (Refused 3, room) ≡ saveReply desk (memoryOf cs ps hs es) room
+  unfolding saveReply
+  save-three s =
+      sym (ap (λ (a : Asked (List ℕ)). listed a room) (if-true (not (soundMemory desk (memoryOf cs ps hs es))) (no-answer 3) (answer (fileOf (decode desk (memoryOf cs ps hs es)))) (ap not s)))
+
+  module _ (s : soundMemory desk (memoryOf cs ps hs es) ≡ true) where
+    xs : List ℕ
+    xs = fileOf (decode desk (memoryOf cs ps hs es))
+
+    save-by : saveReply desk (memoryOf cs ps hs es) room ≡ listed (answer xs) room
+    unfolding saveReply xs
+    save-by = ap (λ (a : Asked (List ℕ)). listed a room) (if-false (not (soundMemory desk (memoryOf cs ps hs es))) (no-answer 3) (answer (fileOf (decode desk (memoryOf cs ps hs es)))) (ap not s))
+
+    pub save-twelve : {n : ℕ} → n ≡ fileSize cs es → length room < n → (Refused 12, room) ≡ saveReply desk (memoryOf cs ps hs es) room
+    unfolding xs
+    save-twelve {n} e h =
+        let z = size-is cs ps hs es s in
+        sym (save-by ∙ if-false (leb (length xs) (length room)) (Listed (length xs), xs ++ drop (length xs) room) (Refused 12, room) (test-above (length xs) (length room) (omega (arith, e, h, z))))
+
+    pub save-fits : {n : ℕ} → n ≡ fileSize cs es → n ≤ length room → length (fileOf (decode desk (memoryOf cs ps hs es))) ≤ length room
+    save-fits {n} e h = let z = size-is cs ps hs es s in omega (arith, e, h, z)
+
+    pub save-done : {n : ℕ} {after : List ℕ} → length (fileOf (decode desk (memoryOf cs ps hs es))) ≤ length room → Put room 0 (fileOf (decode desk (memoryOf cs ps hs es))) n after
+        → (Listed n, after) ≡ saveReply desk (memoryOf cs ps hs es) room
+    unfolding xs
+    save-done {n} {after} h p =
+        ap₂ (λ (k : ℕ) (m : List ℕ). (Listed k, m)) (let q = p .place in let z : n ≡ length xs = omega (arith, q) in z)
+        (p .room ∙ sets-eq xs room 0 (omega (arith, h)) ∙ ap (λ (k : ℕ). xs ++ drop k room) (let z : 0 + length xs ≡ length xs = omega arith in z))
+        ∙ sym (save-by ∙ if-true (leb (length xs) (length room)) (Listed (length xs), xs ++ drop (length xs) room) (Refused 12, room) (test-le (length xs) (length room) h))

@@ -1,5 +1,6 @@
 -- The invariant: what is counted, and the records that are left, make all of it.
 use Prim.Native.Nat.{_-_}
+use native.Mathlib.Omega.{arith}
 use borrow.Author.Needs.{needs}
 use Rattle.files.proofs.SavedSizes.{SizeSoFar, no-size, next-size, whole-size}
 use Rattle.files.proofs.save.elements_size.Statement.{statement}
@@ -58,7 +59,13 @@ loop-again c =
     next-size (s .args .elements .now) (s .args .n) (s .pre) (at .loop .e) (search needs) _ (c .wide .ensures .value) (at .loop .inv)
 
 returns : tie.Need-returns Inv-loop μ-loop
-returns c = whole-size (start (c .before) .args .elements .now) (start (c .before) .args .n) (search needs) (c .before .loop .inv)
+returns c =
+    let s = start (c .before) in
+    let i = c .before .loop .inv in
+    let m = i .most in
+    let w = i .within in
+    let r = s .pre .room in
+    record { value = whole-size (s .args .elements .now) (s .args .n) (search needs) i; bound = omega (arith, m, w, r) }
 
 pub elements-size-spec : {M : Type 1} → statement M
 elements-size-spec =
