@@ -215,12 +215,14 @@ module _ (cs : List ℕ) (ps hs : List Float) (es : List ℕ) (s : soundMemory d
       pub points-ready : (d′ ≤ 4) × RowsReady (pointClear d′) (pointSaved d′) 4 v′ ps first p
       points-ready =
           subst (λ (x : ℕ). (x ≤ 4) × RowsReady (pointClear x) (pointSaved x) 4 v′ ps first p) (sym (k .dimension))
-          (subst (λ (x : ℕ). (d ≤ 4) × RowsReady (pointClear d) (pointSaved d) 4 x ps first p) (sym (k .vertices))
-          (words .low .dimension, record {
-            stored = (let m = words .low .vertices in let l = words .sizes .points in omega (arith, m, l));
-            clear = points-clear;
-            fits = (let l = parts-long in let q = a .place in let m = put-length a in omega (arith, l, q, m, fit));
-          }))
+          (subst (λ (x : ℕ). (d ≤ 4) × RowsReady (pointClear d) (pointSaved d) 4 x ps first p) (sym (k .vertices)) (
+            words .low .dimension,
+            record {
+              stored = (let m = words .low .vertices in let l = words .sizes .points in omega (arith, m, l));
+              clear = points-clear;
+              fits = (let l = parts-long in let q = a .place in let m = put-length a in omega (arith, l, q, m, fit));
+            },
+          ))
 
       module _ {q : ℕ} {second : List ℕ} (b′ : Put first p (saved (pointSaved d′) 4 v′ ps) q second) where
         b : Put first p (saved (pointSaved d) 4 v ps) q second
@@ -229,18 +231,20 @@ module _ (cs : List ℕ) (ps hs : List Float) (es : List ℕ) (s : soundMemory d
         pub planes-ready : (d′ ≤ 4) × RowsReady (planeClear d′) (planeSaved d′) 5 h′ hs second q
         planes-ready =
             subst (λ (x : ℕ). (x ≤ 4) × RowsReady (planeClear x) (planeSaved x) 5 h′ hs second q) (sym (k .dimension))
-            (subst (λ (x : ℕ). (d ≤ 4) × RowsReady (planeClear d) (planeSaved d) 5 x hs second q) (sym (k .hyperplanes))
-            (words .low .dimension, record {
-              stored = (let m = words .low .hyperplanes in let l = words .sizes .planes in omega (arith, m, l));
-              clear = planes-clear;
-              fits =
-                  (let l = parts-long in
-                  let x = a .place in
-                  let m = put-length a in
-                  let y = b .place in
-                  let o = put-length b in
-                  omega (arith, l, x, m, y, o, fit));
-            }))
+            (subst (λ (x : ℕ). (d ≤ 4) × RowsReady (planeClear d) (planeSaved d) 5 x hs second q) (sym (k .hyperplanes)) (
+              words .low .dimension,
+              record {
+                stored = (let m = words .low .hyperplanes in let l = words .sizes .planes in omega (arith, m, l));
+                clear = planes-clear;
+                fits =
+                    (let l = parts-long in
+                    let x = a .place in
+                    let m = put-length a in
+                    let y = b .place in
+                    let o = put-length b in
+                    omega (arith, l, x, m, y, o, fit));
+              },
+            ))
 
         module _ {r : ℕ} {third : List ℕ} (c′ : Put second q (saved (planeSaved d′) 5 h′ hs) r third) where
           c : Put second q (saved (planeSaved d) 5 h hs) r third

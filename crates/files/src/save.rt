@@ -41,13 +41,7 @@ fn file_size(counts: &[u16], elements: &[u16]) -> usize
 }
 
 // All of it, where the room is long enough.
-fn table(
-    counts: &[u16],
-    points: &[f64],
-    planes: &[f64],
-    elements: &[u16],
-    file: &mut [u8],
-) -> usize
+fn table(counts: &[u16], points: &[f64], planes: &[f64], elements: &[u16], file: &mut [u8]) -> usize
     requires { ⌜ soundMemory desk (memoryOf (now counts) (now points) (now planes) (now elements)) ≡ true ⌝ }
     requires { ⌜ length (fileOf (decode desk (memoryOf (now counts) (now points) (now planes) (now elements)))) ≤ length (now file) ⌝ }
     ensures { λ r. ⌜ Put (now (file .entry)) 0 (fileOf (decode desk (memoryOf (now (counts .entry)) (now (points .entry)) (now (planes .entry)) (now (elements .entry))))) r (now (file .exit)) ⌝ }
