@@ -1,21 +1,18 @@
 -- The layout of a whole file: its header, then as many records of each kind as it says, one run after another, and no byte more.
-use Prim.Native.Nat.{ℕ, _+_, _≤_, _<_}
-use mathlib.Core.Bool.{Bool, true, false}
-use mathlib.Core.List.{List, [], _∷_}
+use Prim.Native.Nat.{ℕ, _≤_, _<_}
+use mathlib.Core.Bool.{true, false}
+use mathlib.Core.List.{List}
 use mathlib.Core.Path.{_≡_, refl, sym, ap, subst, _∙_}
 use native.Mathlib.Omega.{arith}
-use lib.ListN.{length, getD, drop}
+use lib.ListN.{length, drop}
 use lib.Seq.{drop-cons, drop-length}
-use lib.Ieee.{Float}
-use Rattle.rules.specs.Limits.{Limits}
 use Rattle.rules.specs.Bytes.{numberAt}
-use Rattle.rules.specs.Table.{Element, Plane, Table, elementCount}
-use Rattle.rules.specs.Questions.{no-answer}
-use Rattle.rules.specs.Files.{Reading, broken, got, andThen, many, pointIn, planeIn, elementIn, recordsIn, tableAfter, layout, judged, tableIn}
+use Rattle.rules.specs.Table.{Table}
+use Rattle.rules.specs.Files.{broken, got, andThen, many, pointIn, planeIn, elementIn, recordsIn, tableAfter, layout, judged, tableIn}
 use Rattle.rules.proofs.ByteLaws.{and-then}
 use Rattle.files.specs.Runs.{Run}
 use Rattle.files.specs.Passed.{begins, Together}
-use Rattle.files.specs.Laid.{headerSize, Whole, LayoutTold}
+use Rattle.files.specs.Laid.{headerSize, LayoutTold}
 use Rattle.files.specs.declared.layout.Laid.{Laid}
 use Rattle.files.proofs.Runs.{broken-then, run-within}
 use Rattle.files.proofs.Passes.{together-reads}

@@ -9,10 +9,9 @@ use native.Mathlib.Omega.{arith}
 use lib.Dec.{leb, eqb}
 use lib.ListN.{length, getD, take, drop, length-take, length-drop}
 use lib.Seq.{drop-drop, drop-cons}
-use lib.Ieee.{Float, binary64, ofBits}
+use lib.Ieee.{binary64, ofBits}
 use Rattle.rules.specs.Lists.{if_then_else_, alike}
 use Rattle.rules.specs.Bytes.{littleEndian, numberAt}
-use Rattle.rules.specs.Table.{Plane}
 use Rattle.rules.specs.Files.{Reading, broken, got, andThen, afterMark, many, number, float, planeAfter}
 use Rattle.rules.proofs.ByteLaws.{and-then}
 use Rattle.rules.proofs.Laws.{and-left, and-right, le-test, test-le, not-le, test-above, if-true, if-false}
@@ -105,10 +104,10 @@ plane-takes d =
       value = λ bs. record { normal = t .value bs; distance = float-takes .value (drop (8 * d) bs) };
       there =
           λ bs h.
-            let l = length-drop (8 * d) bs in
-            and-then (many d float bs) _ (t .value bs) (drop (8 * d) bs) (t .there bs (omega (arith, h)))
-            ∙ and-then (float (drop (8 * d) bs)) _ (float-takes .value (drop (8 * d) bs)) (drop 8 (drop (8 * d) bs)) (float-takes .there (drop (8 * d) bs) (omega (arith, l, h)))
-            ∙ ap (got (record { normal = t .value bs; distance = float-takes .value (drop (8 * d) bs) })) (drop-drop 8 (8 * d) bs);
+          let l = length-drop (8 * d) bs in
+          and-then (many d float bs) _ (t .value bs) (drop (8 * d) bs) (t .there bs (omega (arith, h)))
+          ∙ and-then (float (drop (8 * d) bs)) _ (float-takes .value (drop (8 * d) bs)) (drop 8 (drop (8 * d) bs)) (float-takes .there (drop (8 * d) bs) (omega (arith, l, h)))
+          ∙ ap (got (record { normal = t .value bs; distance = float-takes .value (drop (8 * d) bs) })) (drop-drop 8 (8 * d) bs);
     }
 
 -- ---- a number where it stands, and the next place

@@ -9,10 +9,12 @@ ghost use Rattle.rules.specs.Files.{pointIn, planeIn, elementFits, elementIn};
 ghost use Rattle.files.specs.Passed.{begins, reader, Place, Ends, AllEnd};
 ghost use Rattle.files.specs.Laid.{LayoutTold};
 
-// The bytes of a header, and of those an element's record has before its boundary, without the mark.
-const HEADER: usize = 8;
+// How many bytes a header has, and how many of them are numbers, behind the mark; and of an element's record, before its boundary.
+const HEADER: usize = 10;
 
-const HEAD: usize = 6;
+const HEADER_NUMBERS: usize = 8;
+
+const ELEMENT_NUMBERS: usize = 6;
 
 // Whether a file has the layout, and what its header says; where its hyperplanes and its elements begin. Its vertices follow the header.
 pub struct Laid {
@@ -100,7 +102,7 @@ fn element(bytes: &[u8], at: usize) -> Pass
     requires { ⌜ at ≤ length (now bytes) ⌝ }
     ensures { λ r. ⌜ Ends elementIn (now (bytes .entry)) at r ⌝ }
 {
-    if !begins_with(bytes, at, 0x45, 0x4c, HEAD) {
+    if !begins_with(bytes, at, 0x45, 0x4c, ELEMENT_NUMBERS) {
         return Pass::Broken;
     }
     let rank = read::one(bytes, at + 2);
@@ -161,14 +163,14 @@ fn broken() -> Laid
 pub fn laid_out(bytes: &[u8]) -> Laid
     ensures { λ r. ⌜ LayoutTold (now (bytes .entry)) r ⌝ }
 {
-    if !begins_with(bytes, 0, 0x48, 0x44, HEADER) {
+    if !begins_with(bytes, 0, 0x48, 0x44, HEADER_NUMBERS) {
         return broken();
     }
     let dimension = read::two(bytes, 2) as usize;
     let elements = read::two(bytes, 4) as usize;
     let vertices = read::two(bytes, 6) as usize;
     let hyperplanes = read::two(bytes, 8) as usize;
-    let Pass::At(planes_at) = many_of(bytes, Kind::Vertices, 10, vertices, dimension) else {
+    let Pass::At(planes_at) = many_of(bytes, Kind::Vertices, HEADER, vertices, dimension) else {
         return broken();
     };
     let Pass::At(elements_at) = many_of(bytes, Kind::Hyperplanes, planes_at, hyperplanes, dimension)
