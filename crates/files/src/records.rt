@@ -15,7 +15,7 @@ ghost use Rattle.lent_bytes.specs.Lent.{Put};
 ghost use Rattle.files.specs.Saved.{headerSaved, pointSaved, planeSaved, rowSaved, pointClear, planeClear, countFits, rowAt, saved, RowReady, RowsReady, HeaderReady};
 
 // How many words stand before a boundary: rank, mark, hyperplane, count.
-const HEAD: usize = 4;
+const HEAD_WORDS: usize = 4;
 
 // The two bytes that a record begins with.
 fn mark(first: u8, second: u8, room: &mut [u8], at: usize) -> usize
@@ -35,7 +35,7 @@ pub fn header(counts: &[u16], room: &mut [u8], at: usize) -> usize
     write::numbers(2, counts, 0, COUNTS, room, end)
 }
 
-fn vertex(points: &[f64], i: usize, d: usize, room: &mut [u8], at: usize) -> usize
+fn vertex_record(points: &[f64], i: usize, d: usize, room: &mut [u8], at: usize) -> usize
     requires { ⌜ d ≤ desk .dimensions ⌝ }
     requires { ⌜ RowReady (pointClear d) (pointSaved d) (desk .dimensions) i (now points) (now room) at ⌝ }
     ensures { λ r. ⌜ Put (now (room .entry)) at (pointSaved d (rowAt (desk .dimensions) i (now (points .entry)))) r (now (room .exit)) ⌝ }
@@ -52,13 +52,13 @@ pub fn vertices(points: &[f64], n: usize, d: usize, room: &mut [u8], at: usize) 
 {
     let mut end = at;
     for i in 0..n {
-        end = vertex(points, i, d, room, end);
+        end = vertex_record(points, i, d, room, end);
     }
     end
 }
 
 // The components, then the distance.
-fn hyperplane(planes: &[f64], i: usize, d: usize, room: &mut [u8], at: usize) -> usize
+fn hyperplane_record(planes: &[f64], i: usize, d: usize, room: &mut [u8], at: usize) -> usize
     requires { ⌜ d ≤ desk .dimensions ⌝ }
     requires { ⌜ RowReady (planeClear d) (planeSaved d) (planeWidth desk) i (now planes) (now room) at ⌝ }
     ensures { λ r. ⌜ Put (now (room .entry)) at (planeSaved d (rowAt (planeWidth desk) i (now (planes .entry)))) r (now (room .exit)) ⌝ }
@@ -76,13 +76,13 @@ pub fn hyperplanes(planes: &[f64], n: usize, d: usize, room: &mut [u8], at: usiz
 {
     let mut end = at;
     for i in 0..n {
-        end = hyperplane(planes, i, d, room, end);
+        end = hyperplane_record(planes, i, d, room, end);
     }
     end
 }
 
 // Rank and primordial mark in a byte each, and the rest of the row, up to its boundary's end, in two.
-fn element(elements: &[u16], e: usize, room: &mut [u8], at: usize) -> usize
+fn element_record(elements: &[u16], e: usize, room: &mut [u8], at: usize) -> usize
     requires { ⌜ RowReady countFits rowSaved rowWidth e (now elements) (now room) at ⌝ }
     ensures { λ r. ⌜ Put (now (room .entry)) at (rowSaved (rowAt rowWidth e (now (elements .entry)))) r (now (room .exit)) ⌝ }
 {
@@ -90,7 +90,7 @@ fn element(elements: &[u16], e: usize, room: &mut [u8], at: usize) -> usize
     let n = wide(elements[row + 3]);
     let end = mark(0x45, 0x4c, room, at);
     let middle = write::numbers(1, elements, row, row + 2, room, end);
-    write::numbers(2, elements, row + 2, row + HEAD + n, room, middle)
+    write::numbers(2, elements, row + 2, row + HEAD_WORDS + n, room, middle)
 }
 
 pub fn elements(elements: &[u16], n: usize, room: &mut [u8], at: usize) -> usize
@@ -99,7 +99,7 @@ pub fn elements(elements: &[u16], n: usize, room: &mut [u8], at: usize) -> usize
 {
     let mut end = at;
     for e in 0..n {
-        end = element(elements, e, room, end);
+        end = element_record(elements, e, room, end);
     }
     end
 }

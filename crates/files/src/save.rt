@@ -28,6 +28,7 @@ fn elements_size(elements: &[u16], n: usize) -> usize
     size
 }
 
+// The header has 10 bytes, a vertex 2 and 8 for each coordinate, a hyperplane 8 more for its distance.
 fn file_size(counts: &[u16], elements: &[u16]) -> usize
     requires { ⌜ SizeReady (now counts) (now elements) ⌝ }
     ensures { λ r. ⌜ r ≡ fileSize (now (counts .entry)) (now (elements .entry)) ⌝ }

@@ -16,14 +16,14 @@ abbrev μ-loop : tie.MeasureT-loop
 abbrev start : tie.At-loop Inv-loop μ-loop → tie.Start Inv-loop μ-loop
 start c = c .before .before .before
 
-abbrev turn : tie.After-element-arg Inv-loop μ-loop → tie.At-loop Inv-loop μ-loop
+abbrev turn : tie.After-element-record-arg Inv-loop μ-loop → tie.At-loop Inv-loop μ-loop
 turn c = c .before .before
 
 loop-holds : tie.Need-loop-holds Inv-loop μ-loop
 loop-holds c = none-saved _ _ _ _ _ _
 
-element-requires : tie.Need-element-requires Inv-loop μ-loop
-element-requires c κs =
+element-record-requires : tie.Need-element-record-requires Inv-loop μ-loop
+element-record-requires c κs =
     let s = start (turn c) in
     row-ready rowSaved 36 (s .args .n) (s .args .elements .now) (turn c .loop .inv) countFits (s .pre) (search needs)
 
@@ -35,9 +35,9 @@ loop-less c = search needs
 
 loop-again : tie.Need-loop-again Inv-loop μ-loop
 loop-again c =
-    let element = c .before .before in
-    let at = turn (element .before) in
-    one-saved _ _ _ (start at .args .elements .now) (at .loop .inv) (search needs) (element .element .ensures)
+    let one = c .before .before in
+    let at = turn (one .before) in
+    one-saved _ _ _ (start at .args .elements .now) (at .loop .inv) (search needs) (one .element-record .ensures)
 
 same-length : tie.Need-same-length Inv-loop μ-loop
 same-length c = search needs
@@ -46,4 +46,4 @@ returns : tie.Need-returns Inv-loop μ-loop
 returns c = all-saved _ _ _ (start (c .before) .args .elements .now) (c .before .loop .inv) (search needs)
 
 pub elements-spec : {M : Type 1} → statement M
-elements-spec = tie.close (tie.spec Inv-loop μ-loop loop-holds element-requires add-e loop-less loop-again same-length returns)
+elements-spec = tie.close (tie.spec Inv-loop μ-loop loop-holds element-record-requires add-e loop-less loop-again same-length returns)

@@ -16,14 +16,14 @@ abbrev μ-loop : tie.MeasureT-loop
 abbrev start : tie.At-loop Inv-loop μ-loop → tie.Start Inv-loop μ-loop
 start c = c .before .before .before
 
-abbrev turn : tie.After-hyperplane-arg Inv-loop μ-loop → tie.At-loop Inv-loop μ-loop
+abbrev turn : tie.After-hyperplane-record-arg Inv-loop μ-loop → tie.At-loop Inv-loop μ-loop
 turn c = c .before .before
 
 loop-holds : tie.Need-loop-holds Inv-loop μ-loop
 loop-holds c = none-saved _ _ _ _ _ _
 
-hyperplane-requires : tie.Need-hyperplane-requires Inv-loop μ-loop
-hyperplane-requires c κs =
+hyperplane-record-requires : tie.Need-hyperplane-record-requires Inv-loop μ-loop
+hyperplane-record-requires c κs =
     let s = start (turn c) in
     (s .pre .0, row-ready (planeSaved (s .args .d)) 5 (s .args .n) (s .args .planes .now) (turn c .loop .inv) (planeClear (s .args .d)) (s .pre .1) (search needs))
 
@@ -35,9 +35,9 @@ loop-less c = search needs
 
 loop-again : tie.Need-loop-again Inv-loop μ-loop
 loop-again c =
-    let hyperplane = c .before .before in
-    let at = turn (hyperplane .before) in
-    one-saved _ _ _ (start at .args .planes .now) (at .loop .inv) (search needs) (hyperplane .hyperplane .ensures)
+    let one = c .before .before in
+    let at = turn (one .before) in
+    one-saved _ _ _ (start at .args .planes .now) (at .loop .inv) (search needs) (one .hyperplane-record .ensures)
 
 same-length : tie.Need-same-length Inv-loop μ-loop
 same-length c = search needs
@@ -46,4 +46,4 @@ returns : tie.Need-returns Inv-loop μ-loop
 returns c = all-saved _ _ _ (start (c .before) .args .planes .now) (c .before .loop .inv) (search needs)
 
 pub hyperplanes-spec : {M : Type 1} → statement M
-hyperplanes-spec = tie.close (tie.spec Inv-loop μ-loop loop-holds hyperplane-requires add-i loop-less loop-again same-length returns)
+hyperplanes-spec = tie.close (tie.spec Inv-loop μ-loop loop-holds hyperplane-record-requires add-i loop-less loop-again same-length returns)

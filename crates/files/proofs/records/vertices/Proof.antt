@@ -16,14 +16,14 @@ abbrev μ-loop : tie.MeasureT-loop
 abbrev start : tie.At-loop Inv-loop μ-loop → tie.Start Inv-loop μ-loop
 start c = c .before .before .before
 
-abbrev turn : tie.After-vertex-arg Inv-loop μ-loop → tie.At-loop Inv-loop μ-loop
+abbrev turn : tie.After-vertex-record-arg Inv-loop μ-loop → tie.At-loop Inv-loop μ-loop
 turn c = c .before .before
 
 loop-holds : tie.Need-loop-holds Inv-loop μ-loop
 loop-holds c = none-saved _ _ _ _ _ _
 
-vertex-requires : tie.Need-vertex-requires Inv-loop μ-loop
-vertex-requires c κs =
+vertex-record-requires : tie.Need-vertex-record-requires Inv-loop μ-loop
+vertex-record-requires c κs =
     let s = start (turn c) in
     (s .pre .0, row-ready (pointSaved (s .args .d)) 4 (s .args .n) (s .args .points .now) (turn c .loop .inv) (pointClear (s .args .d)) (s .pre .1) (search needs))
 
@@ -35,9 +35,9 @@ loop-less c = search needs
 
 loop-again : tie.Need-loop-again Inv-loop μ-loop
 loop-again c =
-    let vertex = c .before .before in
-    let at = turn (vertex .before) in
-    one-saved _ _ _ (start at .args .points .now) (at .loop .inv) (search needs) (vertex .vertex .ensures)
+    let one = c .before .before in
+    let at = turn (one .before) in
+    one-saved _ _ _ (start at .args .points .now) (at .loop .inv) (search needs) (one .vertex-record .ensures)
 
 same-length : tie.Need-same-length Inv-loop μ-loop
 same-length c = search needs
@@ -46,4 +46,4 @@ returns : tie.Need-returns Inv-loop μ-loop
 returns c = all-saved _ _ _ (start (c .before) .args .points .now) (c .before .loop .inv) (search needs)
 
 pub vertices-spec : {M : Type 1} → statement M
-vertices-spec = tie.close (tie.spec Inv-loop μ-loop loop-holds vertex-requires add-i loop-less loop-again same-length returns)
+vertices-spec = tie.close (tie.spec Inv-loop μ-loop loop-holds vertex-record-requires add-i loop-less loop-again same-length returns)

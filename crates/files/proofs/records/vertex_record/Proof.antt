@@ -3,8 +3,8 @@ use native.Mathlib.Omega.{arith}
 use borrow.Author.Needs.{needs}
 use Rattle.lent_bytes.proofs.Puts.{put-length}
 use Rattle.files.proofs.SavedRecords.{front-part, point-room, point-numbers, point-put}
-use Rattle.files.proofs.records.vertex.Statement.{statement}
-use Rattle.files.proofs.records.vertex.Tie as tie
+use Rattle.files.proofs.records.vertex_record.Statement.{statement}
+use Rattle.files.proofs.records.vertex_record.Tie as tie
 
 -- where the function began, and the mark, which stands before the coordinates
 abbrev begun : tie.After-mark-arg → tie.Start
@@ -48,5 +48,5 @@ returns c =
     let s = start first in
     point-put (s .args .d) (s .args .i) (s .args .points .now) (s .pre .0) (s .pre .1) (first .mark .ensures) (floats .floats .ensures)
 
-pub vertex-spec : {M : Type 1} → statement M
-vertex-spec = tie.close (tie.spec mul-from mark-requires add-floats floats-requires same-length returns)
+pub vertex-record-spec : {M : Type 1} → statement M
+vertex-record-spec = tie.close (tie.spec mul-from mark-requires add-floats floats-requires same-length returns)

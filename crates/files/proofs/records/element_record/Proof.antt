@@ -4,8 +4,8 @@ use native.Mathlib.Omega.{arith}
 use borrow.Author.Needs.{needs}
 use Rattle.lent_bytes.proofs.Puts.{put-length}
 use Rattle.files.proofs.SavedRecords.{numbers-part, front-part, count-low, element-room, element-put}
-use Rattle.files.proofs.records.element.Statement.{statement}
-use Rattle.files.proofs.records.element.Tie as tie
+use Rattle.files.proofs.records.element_record.Statement.{statement}
+use Rattle.files.proofs.records.element_record.Tie as tie
 
 -- where the function began, the count, the mark, and the words of one byte
 abbrev start : tie.After-wide → tie.Start
@@ -94,8 +94,8 @@ returns c =
     let s = start n in
     element-put (s .args .e) (s .args .elements .now) (s .pre) _ (n .wide .ensures .value) (first .mark .ensures) (two .numbers .ensures) (others .numbers2 .ensures)
 
-pub element-spec : {M : Type 1} → statement M
-element-spec =
+pub element-record-spec : {M : Type 1} → statement M
+element-record-spec =
     tie.close
     (tie.spec
     mul-row

@@ -4,8 +4,8 @@ use native.Mathlib.Omega.{arith}
 use borrow.Author.Needs.{needs}
 use Rattle.lent_bytes.proofs.Puts.{put-length}
 use Rattle.files.proofs.SavedRecords.{floats-part, plane-room, plane-part, plane-numbers, distance-number, plane-put}
-use Rattle.files.proofs.records.hyperplane.Statement.{statement}
-use Rattle.files.proofs.records.hyperplane.Tie as tie
+use Rattle.files.proofs.records.hyperplane_record.Statement.{statement}
+use Rattle.files.proofs.records.hyperplane_record.Tie as tie
 
 -- where the function began, the mark, and the components behind it
 abbrev begun : tie.After-mark-arg → tie.Start
@@ -78,7 +78,7 @@ returns c =
     let s = start first in
     plane-put (s .args .d) (s .args .i) (s .args .planes .now) (s .pre .0) (s .pre .1) (first .mark .ensures) (floats .floats .ensures) (distance .float .ensures)
 
-pub hyperplane-spec : {M : Type 1} → statement M
-hyperplane-spec =
+pub hyperplane-record-spec : {M : Type 1} → statement M
+hyperplane-record-spec =
     tie.close
     (tie.spec mul-from mark-requires add-floats floats-requires add-float mul-float shared-slice-read-float float-requires same-length returns)
