@@ -1,2 +1,4 @@
 // A table as the bytes of its one file, and back.
 mod layout;
+mod records;
+pub mod save;
