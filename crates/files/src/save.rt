@@ -12,14 +12,14 @@ ghost use Rattle.rules.specs.Limits.{desk};
 ghost use Rattle.rules.specs.Memory.{decode, soundMemory};
 ghost use Rattle.rules.specs.Held.{memoryOf};
 ghost use Rattle.rules.specs.Files.{fileOf, saveReply};
-ghost use Rattle.space.specs.Numbers.{rowWidth, Bounded};
+ghost use Rattle.space.specs.Numbers.{rowWidth, NumberBelow};
 ghost use Rattle.lent_bytes.specs.Lent.{Put};
 ghost use Rattle.files.specs.Saved.{rowSaved, saved, fileSize, RowsUsed, SizeReady};
 
 // How many bytes the records of the first n rows of elements have: 8 each, and 2 for each number of a boundary.
 fn elements_size(elements: &[u16], n: usize) -> usize
     requires { ⌜ RowsUsed (now elements) n ⌝ }
-    ensures { λ r. ⌜ Bounded r (length (saved rowSaved rowWidth n (now (elements .entry)))) 65536 ⌝ }
+    ensures { λ r. ⌜ NumberBelow r (length (saved rowSaved rowWidth n (now (elements .entry)))) 65536 ⌝ }
 {
     let mut size = 0;
     for e in 0..n {
