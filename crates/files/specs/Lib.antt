@@ -1,0 +1,4 @@
+-- What the contracts of this crate cite beside the rules.
+pub mod Runs
+pub mod Passed
+pub mod Laid

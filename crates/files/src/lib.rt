@@ -1,0 +1,2 @@
+// A table as the bytes of its one file, and back.
+mod layout;
