@@ -2,3 +2,4 @@
 pub mod Runs
 pub mod Passed
 pub mod Laid
+pub mod Entries

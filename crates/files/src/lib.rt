@@ -1,2 +1,3 @@
 // A table as the bytes of its one file, and back.
+mod entries;
 mod layout;
