@@ -109,7 +109,7 @@ pub fits-by : (r m h n : ℕ) (a b c d : Bool) → leb m 1 ≡ a → eqb r 0 ≡
 fits-by r m h n a b c d p q s t = λ i. sym p i && (if sym q i then (sym s i && sym t i && eqb n 1) else true)
 
 -- rank, mark, hyperplane and count are there
-element-wants : Wants 6 elementAfter
+pub element-wants : Wants 6 elementAfter
 element-wants =
     then-wants 1 5 _ (number-takes 1) (λ r. then-wants 1 4 _ (number-takes 1) (λ m. then-wants 2 2 _ (number-takes 2) (λ h. first-wants 2 _ (number-takes 2))))
 
@@ -134,7 +134,7 @@ module _ (bs : List ℕ) (at : ℕ) where
     pub head-within : at + 8 ≤ length bs
     head-within = let w = begun-within 0x45 0x4C 6 bs at (H .begun) in omega (arith, w)
 
-    head-read : elementIn (drop at bs) ≡ boundaryPart r m h c
+    pub head-read : elementIn (drop at bs) ≡ boundaryPart r m h c
     unfolding elementIn
     head-read =
         let w = head-within in

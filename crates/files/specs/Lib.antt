@@ -3,3 +3,4 @@ pub mod Runs
 pub mod Passed
 pub mod Laid
 pub mod Saved
+pub mod Entries

@@ -1,4 +1,5 @@
 // A table as the bytes of its one file, and back.
+mod entries;
 mod layout;
 mod records;
 pub mod save;
