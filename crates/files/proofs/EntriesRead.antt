@@ -97,7 +97,7 @@ point-read bs at d p end r =
     let s : begins 0x56 0x58 (8 * d) (drop at bs) ≡ true = read-begun 0x56 0x58 (8 * d) (many d float) bs at p end (floats-take d .wants) r in
     let w = begun-within 0x56 0x58 (8 * d) bs at s in
     let t = told bs p (floatsAt d (at + 2) bs) end (at + 2 + 8 * d) (r .within) w
-        (sym (begun 0x56 0x58 (8 * d) (many d float) bs at s ∙ floats-read bs d (at + 2) (at + 2 + 8 * d) refl w) ∙ r .says) in
+    (sym (begun 0x56 0x58 (8 * d) (many d float) bs at s ∙ floats-read bs d (at + 2) (at + 2 + 8 * d) refl w) ∙ r .says) in
     record { within = w; ends = t .ends; list = t .value; long = ap length (t .value) ∙ floats-long bs d (at + 2) }
 
 -- ---- a hyperplane
@@ -118,10 +118,10 @@ plane-read bs at d h end r =
     let last = at + 2 + (8 * d + 8) in
     let e : 8 + far ≡ last = omega arith in
     let t = told bs h (record { normal = floatsAt d (at + 2) bs; distance = floatAt far bs }) end last (r .within) w
-        (sym (begun 0x48 0x50 (8 * d + 8) (planeAfter d) bs at s
-        ∙ and-then (many d float (drop (at + 2) bs)) _ (floatsAt d (at + 2) bs) (drop far bs) (floats-read bs d (at + 2) far refl (omega (arith, w)))
-        ∙ and-then (float (drop far bs)) _ (floatAt far bs) (drop last bs) (float-read bs far (omega (arith, w)) ∙ ap (λ (i : ℕ). got (floatAt far bs) (drop i bs)) e))
-        ∙ r .says) in
+    (sym (begun 0x48 0x50 (8 * d + 8) (planeAfter d) bs at s
+    ∙ and-then (many d float (drop (at + 2) bs)) _ (floatsAt d (at + 2) bs) (drop far bs) (floats-read bs d (at + 2) far refl (omega (arith, w)))
+    ∙ and-then (float (drop far bs)) _ (floatAt far bs) (drop last bs) (float-read bs far (omega (arith, w)) ∙ ap (λ (i : ℕ). got (floatAt far bs) (drop i bs)) e))
+    ∙ r .says) in
     let n = ap (λ (g : Plane). g .normal) (t .value) in
     record { within = w; ends = t .ends; normal = n; distance = ap (λ (g : Plane). g .distance) (t .value); long = ap length n ∙ floats-long bs d (at + 2) }
 
@@ -162,9 +162,9 @@ module _ (bs : List ℕ) (at : ℕ) (x : Element) (end : ℕ) (r : Read elementI
   element-read =
       let b = numbersAt count (at + 8) bs in
       let c = chosen (elementFits rank mark plane count) (got (readElement (rowAt at bs)) (drop (at + 8 + 2 * count) bs)) x (drop end bs)
-          (sym (head-read bs at rank mark plane count headed
-          ∙ and-then (many count (number 2) (drop (at + 8) bs)) _ b (drop (at + 8 + 2 * count) bs) (numbers-read bs count (at + 8) (at + 8 + 2 * count) refl inside))
-          ∙ r .says) in
+      (sym (head-read bs at rank mark plane count headed
+      ∙ and-then (many count (number 2) (drop (at + 8) bs)) _ b (drop (at + 8 + 2 * count) bs) (numbers-read bs count (at + 8) (at + 8 + 2 * count) refl inside))
+      ∙ r .says) in
       let t = told bs x (readElement (rowAt at bs)) end (at + 8 + 2 * count) (r .within) inside (c .1) in
       record { within = inside; ends = t .ends; row = ap elementRow (t .value) ∙ row-only rank mark plane count b (c .0) (numbers-long bs count (at + 8)) }
 

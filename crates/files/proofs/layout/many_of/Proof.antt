@@ -8,7 +8,7 @@ use Rattle.files.proofs.layout.many_of.Statement.{statement}
 use Rattle.files.proofs.layout.many_of.Tie as tie
 
 abbrev Inv-loop : tie.InvT-loop
-Inv-loop bytes kind at n d end₀ i₀ end i = (i ≤ n) × Together (reader kind d) bytes at i end
+Inv-loop bytes kind at n d end₀ i₀ end i = record { bound : i ≤ n; passed : Together (reader kind d) bytes at i end }
 
 abbrev μ-loop : tie.MeasureT-loop
 μ-loop bytes kind at n d end₀ i₀ end i = n - i
@@ -20,12 +20,12 @@ start c = c .before .before
 loop-holds : tie.Need-loop-holds Inv-loop μ-loop
 loop-holds c =
     let s = c .before in
-    (omega arith, together-none _ _ _ (s .pre .within))
+    record { bound = omega arith; passed = together-none _ _ _ (s .pre .within) }
 
 one-of-requires : tie.Need-one-of-requires Inv-loop μ-loop
 one-of-requires c κs =
     let l = c .before in
-    record { within = together-within _ _ _ _ _ (l .loop .inv .1); dimension = start l .pre .dimension }
+    record { within = together-within _ _ _ _ _ (l .loop .inv .passed); dimension = start l .pre .dimension }
 
 enum-known-next : tie.Need-enum-known-next Inv-loop μ-loop
 enum-known-next c = search needs
@@ -37,7 +37,7 @@ returns : tie.Need-returns Inv-loop μ-loop
 returns c =
     let o = c .before .before in
     let l = o .before .before in
-    stopped _ _ _ _ _ _ (l .loop .inv .1) (one-broken _ _ _ _ (o .one-of .ensures) (c .enum-told .given .1)) (o .before .loop-test .taken)
+    stopped _ _ _ _ _ _ (l .loop .inv .passed) (one-broken _ _ _ _ (o .one-of .ensures) (c .enum-told .given .1)) (o .before .loop-test .taken)
 
 add-i : tie.Need-add-i Inv-loop μ-loop
 add-i c = search needs
@@ -49,12 +49,12 @@ loop-again : tie.Need-loop-again Inv-loop μ-loop
 loop-again c =
     let o = c .before .before .before in
     let l = o .before .before in
-    (search needs, together-more _ _ _ _ _ _ (l .loop .inv .1) (one-read _ _ _ _ _ (o .one-of .ensures) (c .before .next .given .1)))
+    record { bound = search needs; passed = together-more _ _ _ _ _ _ (l .loop .inv .passed) (one-read _ _ _ _ _ (o .one-of .ensures) (c .before .next .given .1)) }
 
 returns-2 : tie.Need-returns-2 Inv-loop μ-loop
 returns-2 c =
     let l = c .before in
-    passed _ _ _ _ _ _ (l .loop .inv .1) (omega arith)
+    passed _ _ _ _ _ _ (l .loop .inv .passed) (omega arith)
 
 pub many-of-spec : {M : Type 1} → statement M
 many-of-spec =
