@@ -2,4 +2,5 @@
 mod boundaries;
 mod chains;
 mod floats;
+mod known;
 pub mod sound;

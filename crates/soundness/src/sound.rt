@@ -3,6 +3,7 @@ use crate::boundaries::boundary_sound;
 use crate::boundaries::numbers_fit;
 use crate::chains::row_new;
 use crate::floats::floats_sound;
+use crate::known::Spacing;
 use rules::ElementId;
 use rules::VertexId;
 use space::chains::INDEX;
@@ -28,7 +29,8 @@ ghost use Rattle.space.specs.Numbers.{rowWidth};
 ghost use Rattle.space.specs.Chains.{Indexed, storedRow};
 ghost use Rattle.soundness.specs.Words.{blankWords, countsFit, Mask, PastSeen, facetWords, polytopeWords, rowSound, rowsInUse, rowsDistinct, rowsSound};
 ghost use Rattle.soundness.specs.Tests.{PartOf, Kept, MovesOn, PastReady, CornerReady, CornerTested, RowThere, EdgeTested};
-ghost use Rattle.soundness.specs.Tests.{RowReady, HigherReady, RowTested, RowsReady, RowsTested, MemoryTested};
+ghost use Rattle.soundness.specs.Known.{knownRows};
+ghost use Rattle.soundness.specs.Tests.{RowReady, StoredReady, HigherReady, RowTested, RowsReady, RowsTested, MemoryTested};
 
 // How many words stand before a boundary: rank, mark, hyperplane, count.
 const HEAD: usize = 4;
@@ -92,27 +94,21 @@ fn kept(x: u16, mask: u16) -> u16
 }
 
 // What stands past a row's boundary joins what was seen before. All its room is read, with one length and no test; whether anything was seen is asked once, after the last row.
-fn gather_past(
-    elements: &[u16],
-    at: usize,
-    n: usize,
-    past: &[u16; MASK],
-    seen: &mut [u16; BOUNDARY],
-)
-    requires { ⌜ PastReady (now elements) at n (now past) (now seen) ⌝ }
-    ensures { λ _. ⌜ PastSeen (take rowWidth (drop at (now (elements .entry)))) (now (seen .entry)) (now (seen .exit)) ⌝ }
+fn gather_past(words: &[u16], at: usize, n: usize, past: &[u16; MASK], seen: &mut [u16; BOUNDARY])
+    requires { ⌜ PastReady (now words) at n (now past) (now seen) ⌝ }
+    ensures { λ _. ⌜ PastSeen (take rowWidth (drop at (now (words .entry)))) (now (seen .entry)) (now (seen .exit)) ⌝ }
 {
     for j in 0..BOUNDARY {
-        seen[j] = seen[j] | kept(elements[at + HEAD + j], past[BOUNDARY - n + j]);
+        seen[j] = seen[j] | kept(words[at + HEAD + j], past[BOUNDARY - n + j]);
     }
 }
 
 // How far the row of a vertex element moves the next vertex on.
-fn one_if_corner(elements: &[u16], at: usize) -> usize
-    requires { ⌜ at + rowWidth ≤ length (now elements) ⌝ }
-    ensures { λ r. ⌜ MovesOn (take rowWidth (drop at (now (elements .entry)))) r ⌝ }
+fn one_if_corner(words: &[u16], at: usize) -> usize
+    requires { ⌜ at + rowWidth ≤ length (now words) ⌝ }
+    ensures { λ r. ⌜ MovesOn (take rowWidth (drop at (now (words .entry)))) r ⌝ }
 {
-    if elements[at] == 0 { 1 } else { 0 }
+    if words[at] == 0 { 1 } else { 0 }
 }
 
 // It names a hyperplane in use exactly when rank + 1 is the dimension, and has a primordial mark only then.
@@ -131,49 +127,54 @@ fn facet_sound(d: usize, h: usize, rank: usize, plane: usize, mark: usize) -> bo
 
 // The row of a vertex element has one fixed form, and names vertex k.
 fn corner_sound(
-    elements: &[u16],
+    words: &[u16],
     at: usize,
     k: VertexId,
     past: &[u16; MASK],
     seen: &mut [u16; BOUNDARY],
 ) -> bool
-    requires { ⌜ CornerReady (now elements) at (now past) (now seen) ⌝ }
-    ensures { λ r. ⌜ CornerTested (now (elements .entry)) at (k .0) r (now (seen .entry)) (now (seen .exit)) ⌝ }
+    requires { ⌜ CornerReady (now words) at (now past) (now seen) ⌝ }
+    ensures { λ r. ⌜ CornerTested (now (words .entry)) at (k .0) r (now (seen .entry)) (now (seen .exit)) ⌝ }
 {
-    if elements[at + 1] != 0 {
+    if words[at + 1] != 0 {
         return false;
     }
-    if elements[at + 2] != NO_PLANE {
+    if words[at + 2] != NO_PLANE {
         return false;
     }
-    if elements[at + 3] != 1 {
+    if words[at + 3] != 1 {
         return false;
     }
-    gather_past(elements, at, 1, past, seen);
-    wide(elements[at + 4]) == k.0
+    gather_past(words, at, 1, past, seen);
+    wide(words[at + 4]) == k.0
 }
 
 // The boundary of an edge: with the count as a literal the loop is two tests and no loop.
 fn edge_sound(
-    elements: &[u16],
+    words: &[u16],
+    at: usize,
+    earlier: &[u16],
+    spacing: Spacing,
     e: ElementId,
     past: &[u16; MASK],
     seen: &mut [u16; BOUNDARY],
 ) -> bool
-    requires { ⌜ RowThere (now elements) (e .0) (now past) (now seen) ⌝ }
-    ensures { λ r. ⌜ EdgeTested (now (elements .entry)) (e .0) r (now (seen .entry)) (now (seen .exit)) ⌝ }
+    requires { ⌜ RowThere (now words) at (now earlier) spacing (e .0) (now past) (now seen) ⌝ }
+    ensures { λ r. ⌜ EdgeTested (take rowWidth (drop at (now (words .entry)))) (now (earlier .entry)) spacing (e .0) r (now (seen .entry)) (now (seen .exit)) ⌝ }
 {
-    let at = e.0 * WIDTH;
-    if elements[at + 3] != 2 {
+    if words[at + 3] != 2 {
         return false;
     }
-    gather_past(elements, at, 2, past, seen);
-    numbers_fit(elements, at + HEAD, at + HEAD + 2, e, 1)
+    gather_past(words, at, 2, past, seen);
+    numbers_fit(words, at + HEAD, at + HEAD + 2, earlier, spacing, e, 1)
 }
 
 // The boundary of a face or a body: it is read only once its count is known to fit.
 fn higher_sound(
-    elements: &[u16],
+    words: &[u16],
+    at: usize,
+    earlier: &[u16],
+    spacing: Spacing,
     e: ElementId,
     d: usize,
     rank: usize,
@@ -181,21 +182,23 @@ fn higher_sound(
     past: &[u16; MASK],
     seen: &mut [u16; BOUNDARY],
 ) -> bool
-    requires { ⌜ HigherReady (now elements) (e .0) rank (now met) (now past) (now seen) ⌝ }
-    ensures { λ r. ⌜ RowTested (polytopeWords desk (now (elements .entry)) d (e .0) rank (storedRow (now (elements .entry)) (e .0))) (now (elements .entry)) (e .0) r (now (met .exit)) (now (seen .entry)) (now (seen .exit)) ⌝ }
+    requires { ⌜ HigherReady (now words) at (now earlier) spacing (e .0) rank (now met) (now past) (now seen) ⌝ }
+    ensures { λ r. ⌜ RowTested (polytopeWords desk (knownRows (now (earlier .entry)) spacing) d (e .0) rank (take rowWidth (drop at (now (words .entry))))) (take rowWidth (drop at (now (words .entry)))) (e .0) r (now (met .exit)) (now (seen .entry)) (now (seen .exit)) ⌝ }
 {
-    let at = e.0 * WIDTH;
-    let n = wide(elements[at + 3]);
+    let n = wide(words[at + 3]);
     if BOUNDARY < n {
         return false;
     }
-    gather_past(elements, at, n, past, seen);
-    boundary_sound(elements, at + HEAD, n, e, d, rank, met)
+    gather_past(words, at, n, past, seen);
+    boundary_sound(words, at + HEAD, n, earlier, spacing, e, d, rank, met)
 }
 
 // The boundary of a polytope, by its rank.
 fn polytope_sound(
-    elements: &[u16],
+    words: &[u16],
+    at: usize,
+    earlier: &[u16],
+    spacing: Spacing,
     e: ElementId,
     d: usize,
     rank: usize,
@@ -203,17 +206,52 @@ fn polytope_sound(
     past: &[u16; MASK],
     seen: &mut [u16; BOUNDARY],
 ) -> bool
-    requires { ⌜ RowReady (now elements) (e .0) (now met) (now past) (now seen) ⌝ }
-    ensures { λ r. ⌜ RowTested (polytopeWords desk (now (elements .entry)) d (e .0) rank (storedRow (now (elements .entry)) (e .0))) (now (elements .entry)) (e .0) r (now (met .exit)) (now (seen .entry)) (now (seen .exit)) ⌝ }
+    requires { ⌜ RowReady (now words) at (now earlier) spacing (e .0) (now met) (now past) (now seen) ⌝ }
+    ensures { λ r. ⌜ RowTested (polytopeWords desk (knownRows (now (earlier .entry)) spacing) d (e .0) rank (take rowWidth (drop at (now (words .entry))))) (take rowWidth (drop at (now (words .entry)))) (e .0) r (now (met .exit)) (now (seen .entry)) (now (seen .exit)) ⌝ }
 {
     if rank == 1 {
-        return edge_sound(elements, e, past, seen);
+        return edge_sound(words, at, earlier, spacing, e, past, seen);
     }
-    higher_sound(elements, e, d, rank, met, past, seen)
+    higher_sound(words, at, earlier, spacing, e, d, rank, met, past, seen)
 }
 
 // One row, where vertex k is the next to be named. Rows are tested by kind, so that the count of a vertex or an edge is a literal.
-fn row_sound(
+pub fn row_sound(
+    words: &[u16],
+    at: usize,
+    earlier: &[u16],
+    spacing: Spacing,
+    e: ElementId,
+    d: usize,
+    h: usize,
+    k: VertexId,
+    met: &mut [u32; ELEMENTS],
+    past: &[u16; MASK],
+    seen: &mut [u16; BOUNDARY],
+) -> bool
+    requires { ⌜ RowReady (now words) at (now earlier) spacing (e .0) (now met) (now past) (now seen) ⌝ }
+    ensures { λ r. ⌜ RowTested (rowSound desk (knownRows (now (earlier .entry)) spacing) d h (k .0) (e .0) (take rowWidth (drop at (now (words .entry))))) (take rowWidth (drop at (now (words .entry)))) (e .0) r (now (met .exit)) (now (seen .entry)) (now (seen .exit)) ⌝ }
+{
+    let rank = wide(words[at]);
+    if rank == 0 {
+        return corner_sound(words, at, k, past, seen);
+    }
+    if 1 < words[at + 1] {
+        return false;
+    }
+    if d < rank {
+        return false;
+    }
+    if !polytope_sound(words, at, earlier, spacing, e, d, rank, met, past, seen) {
+        return false;
+    }
+    let plane = wide(words[at + 2]);
+    let mark = wide(words[at + 1]);
+    facet_sound(d, h, rank, plane, mark)
+}
+
+// The row of element e in the memory, whose earlier rows tell of the elements before it.
+fn stored_row_sound(
     elements: &[u16],
     e: ElementId,
     d: usize,
@@ -223,26 +261,26 @@ fn row_sound(
     past: &[u16; MASK],
     seen: &mut [u16; BOUNDARY],
 ) -> bool
-    requires { ⌜ RowReady (now elements) (e .0) (now met) (now past) (now seen) ⌝ }
-    ensures { λ r. ⌜ RowTested (rowSound desk (now (elements .entry)) d h (k .0) (e .0) (storedRow (now (elements .entry)) (e .0))) (now (elements .entry)) (e .0) r (now (met .exit)) (now (seen .entry)) (now (seen .exit)) ⌝ }
+    requires { ⌜ StoredReady (now elements) (e .0) (now met) (now past) (now seen) ⌝ }
+    ensures { λ r. ⌜ RowTested (rowSound desk (now (elements .entry)) d h (k .0) (e .0) (storedRow (now (elements .entry)) (e .0))) (storedRow (now (elements .entry)) (e .0)) (e .0) r (now (met .exit)) (now (seen .entry)) (now (seen .exit)) ⌝ }
 {
-    let at = e.0 * WIDTH;
-    let rank = wide(elements[at]);
-    if rank == 0 {
-        return corner_sound(elements, at, k, past, seen);
-    }
-    if 1 < elements[at + 1] {
-        return false;
-    }
-    if d < rank {
-        return false;
-    }
-    if !polytope_sound(elements, e, d, rank, met, past, seen) {
-        return false;
-    }
-    let plane = wide(elements[at + 2]);
-    let mark = wide(elements[at + 1]);
-    facet_sound(d, h, rank, plane, mark)
+    let spacing = Spacing {
+        width: WIDTH,
+        ends: HEAD,
+    };
+    row_sound(
+        elements,
+        e.0 * WIDTH,
+        elements,
+        spacing,
+        e,
+        d,
+        h,
+        k,
+        met,
+        past,
+        seen,
+    )
 }
 
 // The rows in use, in one pass: each is sound and equal to no earlier one, and vertex elements name vertices 0, 1, 2 .. in order, each once. From an empty index to that of all of them.
@@ -256,7 +294,7 @@ fn rows_in_use(elements: &[u16], d: usize, n: usize, v: usize, h: usize, index: 
     let mut k = 0usize;
     for i in 0..n {
         let e = ElementId(i);
-        if !row_sound(elements, e, d, h, VertexId(k), &mut met, &past, &mut seen) {
+        if !stored_row_sound(elements, e, d, h, VertexId(k), &mut met, &past, &mut seen) {
             return false;
         }
         if !row_new(elements, e, index) {

@@ -6,6 +6,7 @@ use native.Mathlib.Omega.{arith}
 use borrow.Author.Needs.{needs}
 use borrow.Author.Tests.{le-ltb, lt-ltb}
 use Rattle.space.specs.Closed.{few}
+use Rattle.soundness.specs.Known.{knownRows}
 use Rattle.soundness.proofs.BoundaryLoops.{boundary-by, boundary-few, boundary-face, boundary-body}
 use Rattle.soundness.proofs.FaceLoops.{unmet-next}
 use Rattle.soundness.proofs.boundaries.boundary_sound.Statement.{statement}
@@ -13,7 +14,7 @@ use Rattle.soundness.proofs.boundaries.boundary_sound.Tie as tie
 
 -- a face: where the function began, and where its rank was found to be 2
 abbrev start : tie.Else2 → tie.Start
-start c = c .before .before .before
+start c = c .before .before .before .before
 
 abbrev counted : tie.After-few-fits → tie.Else2
 counted c = c .before .before .before .before
@@ -23,11 +24,11 @@ joined c = c .before .before .before .before
 
 returns : tie.Need-returns
 returns c =
-    let s = c .before .before in
+    let s = c .before .before .before in
     let a = s .args in
     let p = s .pre in
     record {
-      told = boundary-by (a .elements .now) (a .at) (a .n) (a .d) (a .e .0) (a .rank) (p .long) (p .end) false _ _ (le-ltb _ _ (c .if1 .taken)) refl refl;
+      told = boundary-by (knownRows (a .earlier .now) (a .spacing)) (a .words .now) (a .at) (a .n) (a .d) (a .e .0) (a .rank) (p .end) false _ _ (le-ltb _ _ (c .if1 .taken)) refl refl;
       unmet = λ t. absurd (false≢true t);
     }
 
@@ -36,16 +37,16 @@ add-numbers-fit c = search needs
 
 numbers-fit-requires : tie.Need-numbers-fit-requires
 numbers-fit-requires c κs =
-    let p = c .before .before .before .pre in
-    record { part = record { order = omega arith; end = omega (arith, p .long, p .end) }; long = p .long; room = omega (arith, p .inRoom) }
+    let p = c .before .before .before .before .pre in
+    record { part = record { order = omega arith; end = p .end }; spaced = p .spaced; room = omega (arith, p .inRoom) }
 
 returns-2 : tie.Need-returns-2
 returns-2 c =
-    let s = c .before .before .before .before in
+    let s = c .before .before .before .before .before in
     let a = s .args in
     let p = s .pre in
     record {
-      told = boundary-body (a .elements .now) (a .at) (a .n) (a .d) (a .e .0) (a .rank) (p .long) (p .end) (p .no-edge) (c .before .if2 .taken) (lt-ltb _ _ (c .before .before .if1 .left)) (c .numbers-fit .ensures);
+      told = boundary-body (knownRows (a .earlier .now) (a .spacing)) (a .words .now) (a .at) (a .n) (a .d) (a .e .0) (a .rank) (p .end) (p .no-edge) (c .before .if2 .taken) (lt-ltb _ _ (c .before .before .if1 .left)) (c .numbers-fit .ensures);
       unmet = λ t. unmet-next (a .e .0) (a .met .now) (p .unmet);
     }
 
@@ -59,9 +60,9 @@ few-fits-requires : tie.Need-few-fits-requires
 few-fits-requires c κs =
     let p = start (c .before .before .before) .pre in
     record {
-      part = record { order = omega arith; end = omega (arith, p .long, p .end) };
+      part = record { order = omega arith; end = p .end };
       size = omega (arith, p .size);
-      long = p .long;
+      spaced = p .spaced;
       inRoom = p .inRoom;
       edges = p .edges;
       unmet = p .unmet;
@@ -75,7 +76,7 @@ returns-3 c =
     let h = c .before .before .if3 .taken in
     let q = c .before .before .before .few-edges .ensures in
     record {
-      told = boundary-few (a .elements .now) (a .at) (a .n) (a .d) (a .e .0) (a .rank) (p .long) (p .end) (f .if2 .left) (lt-ltb _ _ (f .before .if1 .left))
+      told = boundary-few (knownRows (a .earlier .now) (a .spacing)) (a .words .now) (a .at) (a .n) (a .d) (a .e .0) (a .rank) (p .end) (f .if2 .left) (lt-ltb _ _ (f .before .if1 .left))
           (let z : a .n ≤ few (a .d) = omega (arith, h, q) in z) (c .few-fits .ensures .told);
       unmet = c .few-fits .ensures .unmet;
     }
@@ -87,9 +88,9 @@ face-fits-requires : tie.Need-face-fits-requires
 face-fits-requires c κs =
     let p = start (c .before .before .before) .pre in
     record {
-      part = record { order = omega arith; end = omega (arith, p .long, p .end) };
+      part = record { order = omega arith; end = p .end };
       size = omega (arith, p .size);
-      long = p .long;
+      spaced = p .spaced;
       inRoom = p .inRoom;
       edges = p .edges;
       unmet = p .unmet;
@@ -103,7 +104,7 @@ returns-4 c =
     let h = c .before .before .if3 .left in
     let q = c .before .before .before .few-edges .ensures in
     record {
-      told = boundary-face (a .elements .now) (a .at) (a .n) (a .d) (a .e .0) (a .rank) (p .long) (p .end) (f .if2 .left) (lt-ltb _ _ (f .before .if1 .left))
+      told = boundary-face (knownRows (a .earlier .now) (a .spacing)) (a .words .now) (a .at) (a .n) (a .d) (a .e .0) (a .rank) (p .end) (f .if2 .left) (lt-ltb _ _ (f .before .if1 .left))
           (let z : few (a .d) < a .n = omega (arith, h, q) in z) (c .face-fits .ensures .told);
       unmet = c .face-fits .ensures .unmet;
     }

@@ -36,7 +36,7 @@ returns c =
     let begun = c .before .before .before in
     let a = begun .args in
     record {
-      told = corner-is (a .elements .now) (a .at) (a .k .0) false _ _ _ (begun .pre .corner) (not-eq 0 _ (λ q. c .if1 .taken (sym q))) refl refl refl;
+      told = corner-is (a .words .now) (a .at) (a .k .0) false _ _ _ (begun .pre .corner) (not-eq 0 _ (λ q. c .if1 .taken (sym q))) refl refl refl;
       past = λ t. absurd (false≢true t);
     }
 
@@ -54,7 +54,7 @@ returns-2 c =
     let m = c .before .before in
     let a = start m .args in
     record {
-      told = corner-is (a .elements .now) (a .at) (a .k .0) true false _ _ (start m .pre .corner) (test-eq 0 _ (sym (m .if1 .left))) (not-eq 65535 _ (λ q. c .if2 .taken (sym q))) refl refl;
+      told = corner-is (a .words .now) (a .at) (a .k .0) true false _ _ (start m .pre .corner) (test-eq 0 _ (sym (m .if1 .left))) (not-eq 65535 _ (λ q. c .if2 .taken (sym q))) refl refl;
       past = λ t. absurd (false≢true t);
     }
 
@@ -73,7 +73,7 @@ returns-3 c =
     let m = no-mark p in
     let a = start m .args in
     record {
-      told = corner-is (a .elements .now) (a .at) (a .k .0) true true false _ (start m .pre .corner) (test-eq 0 _ (sym (m .if1 .left))) (test-eq 65535 _ (sym (p .if2 .left)))
+      told = corner-is (a .words .now) (a .at) (a .k .0) true true false _ (start m .pre .corner) (test-eq 0 _ (sym (m .if1 .left))) (test-eq 65535 _ (sym (p .if2 .left)))
           (not-eq 1 _ (λ q. c .if3 .taken (sym q))) refl;
       past = λ t. absurd (false≢true t);
     }
@@ -102,7 +102,7 @@ returns-4 c =
     let m = no-mark p in
     let a = start m .args in
     record {
-      told = corner-is (a .elements .now) (a .at) (a .k .0) true true true _ (start m .pre .corner) (test-eq 0 _ (sym (m .if1 .left))) (test-eq 65535 _ (sym (p .if2 .left)))
+      told = corner-is (a .words .now) (a .at) (a .k .0) true true true _ (start m .pre .corner) (test-eq 0 _ (sym (m .if1 .left))) (test-eq 65535 _ (sym (p .if2 .left)))
           (test-eq 1 _ (sym (n .if3 .left))) (ap (λ (x : ℕ). eqb x (a .k .0)) (sym (c .before .wide .ensures .value)));
       past = λ t. c .before .before .before .gather-past .ensures;
     }

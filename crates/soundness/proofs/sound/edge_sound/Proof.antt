@@ -2,6 +2,7 @@
 use mathlib.Core.Bool.{false≢true}
 use mathlib.Core.Path.{refl, sym}
 use native.Mathlib.Omega.{arith}
+use Rattle.soundness.specs.Known.{knownRows}
 use Rattle.soundness.proofs.RowKinds.{edge-open, edge-two}
 use borrow.Author.Needs.{needs}
 use Rattle.soundness.proofs.sound.edge_sound.Statement.{statement}
@@ -13,9 +14,6 @@ start c = c .before .before .before .before
 
 abbrev two : tie.After-gather-past → tie.Else1
 two c = c .before .before
-
-mul-at : tie.Need-mul-at
-mul-at c = search needs
 
 add-if1 : tie.Need-add-if1
 add-if1 c = search needs
@@ -31,14 +29,14 @@ returns c =
     let begun = c .before .before .before .before in
     let a = begun .args in
     record {
-      told = λ d. edge-open (a .elements .now) d (a .e .0) _ refl (begun .pre .long) (begun .pre .inRoom) (c .if1 .taken);
+      told = λ d. edge-open (knownRows (a .earlier .now) (a .spacing)) (a .words .now) (a .at) d (a .e .0) _ refl (begun .pre .row) (c .if1 .taken);
       past = λ t. absurd (false≢true t);
     }
 
 gather-past-requires : tie.Need-gather-past-requires
 gather-past-requires c κs =
     let p = start (c .before) .pre in
-    record { row = omega (arith, p .long, p .inRoom); count = sym (c .before .if1 .left); fits = search needs; mask = p .mask; places = p .places }
+    record { row = p .row; count = sym (c .before .if1 .left); fits = search needs; mask = p .mask; places = p .places }
 
 add-numbers-fit : tie.Need-add-numbers-fit
 add-numbers-fit c = search needs
@@ -52,7 +50,7 @@ add-numbers-fit-3 c = search needs
 numbers-fit-requires : tie.Need-numbers-fit-requires
 numbers-fit-requires c κs =
     let p = start (two c) .pre in
-    record { part = record { order = omega arith; end = omega (arith, p .long, p .inRoom) }; long = p .long; room = omega (arith, p .inRoom) }
+    record { part = record { order = omega arith; end = omega (arith, p .row) }; spaced = p .spaced; room = omega (arith, p .inRoom) }
 
 returns-2 : tie.Need-returns-2
 returns-2 c =
@@ -61,7 +59,7 @@ returns-2 c =
     let a = start n .args in
     let p = start n .pre in
     record {
-      told = λ d. edge-two (a .elements .now) d (a .e .0) _ refl (p .long) (p .inRoom) (n .if1 .left) (c .numbers-fit .ensures);
+      told = λ d. edge-two (knownRows (a .earlier .now) (a .spacing)) (a .words .now) (a .at) d (a .e .0) _ refl (p .row) (n .if1 .left) (c .numbers-fit .ensures);
       past = λ t. g .gather-past .ensures;
     }
 
@@ -69,7 +67,6 @@ pub edge-sound-spec : {M : Type 1} → statement M
 edge-sound-spec =
     tie.close
     (tie.spec
-    mul-at
     add-if1
     mul-if1
     shared-slice-read-if1

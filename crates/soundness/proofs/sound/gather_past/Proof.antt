@@ -11,10 +11,10 @@ use Rattle.soundness.proofs.sound.gather_past.Statement.{statement}
 use Rattle.soundness.proofs.sound.gather_past.Tie as tie
 
 abbrev Inv-loop : tie.InvT-loop
-Inv-loop elements at n past seen₀ j₀ seen j = Joining elements at n seen₀ seen j
+Inv-loop words at n past seen₀ j₀ seen j = Joining words at n seen₀ seen j
 
 abbrev μ-loop : tie.MeasureT-loop
-μ-loop elements at n past seen₀ j₀ seen j = 32 - j
+μ-loop words at n past seen₀ j₀ seen j = 32 - j
 
 -- where the function began, and where a place is taken up
 abbrev start : tie.At-loop Inv-loop μ-loop → tie.Start Inv-loop μ-loop
@@ -77,8 +77,8 @@ loop-again c =
     let a = start l .args in
     let at = l .loop in
     let k = 32 - a .n + at .j in
-    joining-go (a .elements .now) (a .at) (a .n) (a .seen .now) (at .seen) (at .j) _ (at .inv) (search needs)
-    (kept-is (getD (a .past .now) k 0) (getD (a .elements .now) (a .at + 4 + at .j) 0) _ k (start l .pre .mask k (search needs)) (c .kept .ensures))
+    joining-go (a .words .now) (a .at) (a .n) (a .seen .now) (at .seen) (at .j) _ (at .inv) (search needs)
+    (kept-is (getD (a .past .now) k 0) (getD (a .words .now) (a .at + 4 + at .j) 0) _ k (start l .pre .mask k (search needs)) (c .kept .ensures))
 
 returns : tie.Need-returns Inv-loop μ-loop
 returns c =
@@ -86,9 +86,9 @@ returns c =
     let p = start (c .before) .pre in
     let at = c .before .loop in
     record {
-      clear = joining-end (a .elements .now) (a .at) (a .n) (a .seen .now) (p .fits) (p .row) (p .places) (at .seen) (at .j) (at .inv) (search needs)
-          ∙ ap (λ (m : ℕ). blankWords (a .seen .now) && blankWords (drop (a .at + 4 + m) (take (a .at + 36) (a .elements .now)))) (p .count)
-          ∙ ap (λ (b : Bool). blankWords (a .seen .now) && b) (sym (past-is (a .at) (a .elements .now)));
+      clear = joining-end (a .words .now) (a .at) (a .n) (a .seen .now) (p .fits) (p .row) (p .places) (at .seen) (at .j) (at .inv) (search needs)
+          ∙ ap (λ (m : ℕ). blankWords (a .seen .now) && blankWords (drop (a .at + 4 + m) (take (a .at + 36) (a .words .now)))) (p .count)
+          ∙ ap (λ (b : Bool). blankWords (a .seen .now) && b) (sym (past-is (a .at) (a .words .now)));
       long = at .inv .long;
     }
 

@@ -1,6 +1,7 @@
 -- The answer is read off the test of the count.
 use mathlib.Core.Bool.{false≢true}
 use native.Mathlib.Omega.{arith}
+use Rattle.soundness.specs.Known.{knownRows}
 use Rattle.soundness.proofs.RowKinds.{polytope-many, polytope-few}
 use borrow.Author.Needs.{needs}
 use Rattle.soundness.proofs.sound.higher_sound.Statement.{statement}
@@ -12,9 +13,6 @@ start c = c .before .before .before .before .before
 
 abbrev counted : tie.After-gather-past → tie.Else1
 counted c = c .before .before
-
-mul-at : tie.Need-mul-at
-mul-at c = search needs
 
 add-wide : tie.Need-add-wide
 add-wide c = search needs
@@ -33,7 +31,7 @@ returns c =
     let begun = c .before .before .before .before .before in
     let a = begun .args in
     record {
-      told = polytope-many (a .elements .now) (a .d) (a .e .0) _ (c .before .wide .ensures .value) (a .rank) (c .if1 .taken);
+      told = polytope-many (knownRows (a .earlier .now) (a .spacing)) (a .words .now) (a .at) (a .d) (a .e .0) _ (c .before .wide .ensures .value) (a .rank) (c .if1 .taken);
       unmet = λ t. absurd (false≢true t);
       past = λ t. absurd (false≢true t);
     }
@@ -42,7 +40,7 @@ gather-past-requires : tie.Need-gather-past-requires
 gather-past-requires c κs =
     let f = c .before in
     let p = start f .pre .ready .there in
-    record { row = omega (arith, p .long, p .inRoom); count = f .before .wide .ensures .value; fits = f .if1 .left; mask = p .mask; places = p .places }
+    record { row = p .row; count = f .before .wide .ensures .value; fits = f .if1 .left; mask = p .mask; places = p .places }
 
 add-boundary-sound : tie.Need-add-boundary-sound
 add-boundary-sound c = search needs
@@ -53,8 +51,8 @@ boundary-sound-requires c κs =
     let p = start f .pre in
     let r = p .ready in
     record {
-      long = r .there .long;
-      end = omega (arith, r .there .inRoom, f .if1 .left);
+      end = omega (arith, r .there .row, f .if1 .left);
+      spaced = r .there .spaced;
       size = f .if1 .left;
       inRoom = r .there .inRoom;
       no-edge = p .no-edge;
@@ -68,7 +66,7 @@ returns-2 c =
     let f = counted g in
     let a = start f .args in
     record {
-      told = polytope-few (a .elements .now) (a .d) (a .e .0) _ (f .before .wide .ensures .value) (a .rank) (f .if1 .left) (c .boundary-sound .ensures .told);
+      told = polytope-few (knownRows (a .earlier .now) (a .spacing)) (a .words .now) (a .at) (a .d) (a .e .0) _ (f .before .wide .ensures .value) (a .rank) (f .if1 .left) (c .boundary-sound .ensures .told);
       unmet = c .boundary-sound .ensures .unmet;
       past = λ t. g .gather-past .ensures;
     }
@@ -77,7 +75,6 @@ pub higher-sound-spec : {M : Type 1} → statement M
 higher-sound-spec =
     tie.close
     (tie.spec
-    mul-at
     add-wide
     mul-wide
     shared-slice-read-wide

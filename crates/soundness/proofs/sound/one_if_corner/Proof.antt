@@ -19,7 +19,7 @@ returns : tie.Need-returns
 returns c =
     let a = c .before .before .args in
     record {
-      corner = sym (ap (λ (x : ℕ). cond (eqb x 0) 1 0) (row-first (a .at) (a .elements .now)) ∙ ap (λ (b : Bool). cond b 1 0) (test-eq _ 0 (c .if1 .taken)));
+      corner = sym (ap (λ (x : ℕ). cond (eqb x 0) 1 0) (row-first (a .at) (a .words .now)) ∙ ap (λ (b : Bool). cond b 1 0) (test-eq _ 0 (c .if1 .taken)));
       most = search needs;
     }
 
@@ -27,7 +27,7 @@ returns-2 : tie.Need-returns-2
 returns-2 c =
     let a = c .before .before .args in
     record {
-      corner = sym (ap (λ (x : ℕ). cond (eqb x 0) 1 0) (row-first (a .at) (a .elements .now)) ∙ ap (λ (b : Bool). cond b 1 0) (not-eq _ 0 (c .if1 .left)));
+      corner = sym (ap (λ (x : ℕ). cond (eqb x 0) 1 0) (row-first (a .at) (a .words .now)) ∙ ap (λ (b : Bool). cond b 1 0) (not-eq _ 0 (c .if1 .left)));
       most = search needs;
     }
 

@@ -4,6 +4,7 @@ use mathlib.Core.Path.{refl, sym, _∙_}
 use native.Mathlib.Omega.{arith}
 use Rattle.rules.proofs.Laws.{test-le, not-true, not-false}
 use Rattle.soundness.proofs.FaceLoops.{unmet-next}
+use Rattle.soundness.specs.Known.{knownRows}
 use Rattle.soundness.proofs.RowKinds.{row-corner, row-polytope}
 use borrow.Author.Tests.{lt-leb}
 use borrow.Author.Needs.{needs}
@@ -27,9 +28,6 @@ fitted c = c .before .before .before
 abbrev bound : tie.After-wide2 → tie.Else4
 bound c = c .before .before
 
-mul-at : tie.Need-mul-at
-mul-at c = search needs
-
 mul-wide : tie.Need-mul-wide
 mul-wide c = search needs
 
@@ -43,14 +41,14 @@ corner-sound-requires : tie.Need-corner-sound-requires
 corner-sound-requires c κs =
     let f = c .before in
     let p = named f .pre .there in
-    record { row = omega (arith, p .long, p .inRoom); corner = sym (f .before .wide .ensures .value) ∙ f .if1 .taken; mask = p .mask; places = p .places }
+    record { row = p .row; corner = sym (f .before .wide .ensures .value) ∙ f .if1 .taken; mask = p .mask; places = p .places }
 
 returns : tie.Need-returns
 returns c =
     let f = c .before .before in
     let a = named f .args in
     record {
-      told = row-corner (a .elements .now) (a .d) (a .h) (a .k .0) (a .e .0) _ (f .before .wide .ensures .value) (f .if1 .taken) (c .corner-sound .ensures .told);
+      told = row-corner (knownRows (a .earlier .now) (a .spacing)) (a .words .now) (a .at) (a .d) (a .h) (a .k .0) (a .e .0) _ (f .before .wide .ensures .value) (f .if1 .taken) (c .corner-sound .ensures .told);
       unmet = λ t. unmet-next (a .e .0) (a .met .now) (named f .pre .unmet);
       past = c .corner-sound .ensures .past;
     }
@@ -69,7 +67,7 @@ returns-2 c =
     let r = c .before .before in
     let a = start r .args in
     record {
-      told = row-polytope (a .elements .now) (a .d) (a .h) (a .k .0) (a .e .0) _ (r .before .wide .ensures .value) _ _ false _ _ _ (r .if1 .left) refl refl
+      told = row-polytope (knownRows (a .earlier .now) (a .spacing)) (a .words .now) (a .at) (a .d) (a .h) (a .k .0) (a .e .0) _ (r .before .wide .ensures .value) _ _ false _ _ _ (r .if1 .left) refl refl
           (lt-leb _ 1 (c .if2 .taken)) refl refl refl;
       unmet = λ t. absurd (false≢true t);
       past = λ t. absurd (false≢true t);
@@ -80,7 +78,7 @@ returns-3 c =
     let r = c .before .before .before in
     let a = start r .args in
     record {
-      told = row-polytope (a .elements .now) (a .d) (a .h) (a .k .0) (a .e .0) _ (r .before .wide .ensures .value) _ _ true false _ _ (r .if1 .left) refl refl
+      told = row-polytope (knownRows (a .earlier .now) (a .spacing)) (a .words .now) (a .at) (a .d) (a .h) (a .k .0) (a .e .0) _ (r .before .wide .ensures .value) _ _ true false _ _ (r .if1 .left) refl refl
           (test-le _ 1 (c .before .if2 .left)) (lt-leb _ (a .d) (c .if3 .taken)) refl refl;
       unmet = λ t. absurd (false≢true t);
       past = λ t. absurd (false≢true t);
@@ -96,7 +94,7 @@ returns-4 c =
     let r = ranked t in
     let a = start r .args in
     record {
-      told = row-polytope (a .elements .now) (a .d) (a .h) (a .k .0) (a .e .0) _ (r .before .wide .ensures .value) _ _ true true false _ (r .if1 .left) refl refl
+      told = row-polytope (knownRows (a .earlier .now) (a .spacing)) (a .words .now) (a .at) (a .d) (a .h) (a .k .0) (a .e .0) _ (r .before .wide .ensures .value) _ _ true true false _ (r .if1 .left) refl refl
           (test-le _ 1 (t .before .if2 .left)) (test-le _ (a .d) (t .if3 .left)) (sym (w .polytope-sound .ensures .told) ∙ not-true _ (c .if4 .taken)) refl;
       unmet = λ t. absurd (false≢true t);
       past = λ t. absurd (false≢true t);
@@ -139,7 +137,7 @@ returns-5 c =
     let a = start r .args in
     let yes = not-false _ (b .if4 .left) in
     record {
-      told = row-polytope (a .elements .now) (a .d) (a .h) (a .k .0) (a .e .0) _ (r .before .wide .ensures .value) _ _ true true true _ (r .if1 .left)
+      told = row-polytope (knownRows (a .earlier .now) (a .spacing)) (a .words .now) (a .at) (a .d) (a .h) (a .k .0) (a .e .0) _ (r .before .wide .ensures .value) _ _ true true true _ (r .if1 .left)
           (q .wide2 .ensures .value) (c .before .wide3 .ensures .value) (test-le _ 1 (t .before .if2 .left)) (test-le _ (a .d) (t .if3 .left))
           (sym (w .polytope-sound .ensures .told) ∙ yes) (sym (c .facet-sound .ensures));
       unmet = λ t. w .polytope-sound .ensures .unmet yes;
@@ -150,7 +148,6 @@ pub row-sound-spec : {M : Type 1} → statement M
 row-sound-spec =
     tie.close
     (tie.spec
-    mul-at
     mul-wide
     shared-slice-read-wide
     wide-requires
