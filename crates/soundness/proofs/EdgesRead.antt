@@ -8,7 +8,7 @@ use lib.ListN.{getD, take, drop}
 use Rattle.rules.specs.Limits.{desk}
 use Rattle.space.specs.Closed.{EndsLow, stampRoom}
 use Rattle.soundness.specs.Known.{knownRows, EndsKnown}
-use Rattle.soundness.specs.declared.known.Spacing.{Spacing}
+use Rattle.soundness.specs.declared.row.Spacing.{Spacing}
 use Rattle.soundness.specs.Words.{numberFits, numbersFit, stampOf}
 use Rattle.soundness.specs.Tests.{EdgesReady}
 use Rattle.soundness.proofs.BoundaryFits.{left, fits-start, fits-go, fits-no, fits-end}

@@ -21,7 +21,7 @@ use Rattle.rules.proofs.RingWalked.{rule-ring, ring-rule, ring-along}
 use Rattle.space.specs.Closed.{EndsLow, firstEnd, secondEnd, rawEnds, asEdges, few, metTwice, ringRaw, closedRaw}
 use Rattle.space.proofs.Laid.{laid-read}
 use Rattle.space.proofs.TwiceMet.{boundary-as}
-use Rattle.soundness.specs.declared.known.Spacing.{Spacing}
+use Rattle.soundness.specs.declared.row.Spacing.{Spacing}
 use Rattle.soundness.specs.Known.{knownRow, knownRows, KnownAlike, Spaced}
 use Rattle.soundness.specs.Words.{EdgesLow, numbersFit, boundarySound, boundaryIn, elementSound, facetWords, headWords, cornerNamed, rowSound}
 

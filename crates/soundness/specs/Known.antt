@@ -8,7 +8,7 @@ use Rattle.rules.specs.Limits.{desk}
 use Rattle.rules.specs.Lists.{pad, upTo}
 use Rattle.space.specs.Numbers.{rowWidth, elementSlice}
 use Rattle.space.specs.Closed.{firstEnd, secondEnd, EndsLow, Stamped, stampRoom}
-use Rattle.soundness.specs.declared.known.Spacing.{Spacing}
+use Rattle.soundness.specs.declared.row.Spacing.{Spacing}
 
 -- element x: its rank, the first two numbers of its boundary, and zeros for what is not known
 abbrev pub knownRow : List ℕ → Spacing → ℕ → List ℕ

@@ -14,7 +14,7 @@ use Rattle.space.specs.Numbers.{rowWidth, pointSlice, planeSlice, elementSlice}
 use Rattle.space.specs.Chains.{storedRow, keyOf, newStart, Indexed}
 use Rattle.space.specs.Closed.{Unmet}
 use Rattle.soundness.specs.Known.{knownRows, Spaced}
-use Rattle.soundness.specs.declared.known.Spacing.{Spacing}
+use Rattle.soundness.specs.declared.row.Spacing.{Spacing}
 use Rattle.soundness.specs.Words.{Mask, PastSeen, countsFit, headWords, cornerNamed, polytopeWords, stampOf, EdgesLow, rowSound, rowNew, floatsSound}
 
 -- a part of a list of so many words

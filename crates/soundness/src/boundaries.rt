@@ -1,8 +1,8 @@
 // A boundary that is sound: its numbers, and test 7 in the same pass, with a word for each corner that the edges of a face meet.
-use crate::known::Spacing;
 use crate::known::join_ends;
 use crate::known::meet_ends;
 use crate::known::rank_known;
+use crate::row::Spacing;
 use rules::ElementId;
 use space::closed::CLOSES;
 use space::closed::INSIDE;

@@ -1,4 +1,5 @@
 // What the test of a row knows of the elements before it: their ranks, and the two ends of edges. The memory has them in its rows; of a file they are kept in a smaller array.
+use crate::row::Spacing;
 use rules::ElementId;
 use space::closed::join_paths;
 use space::closed::meet;
@@ -9,12 +10,6 @@ ghost use lib.ListN.{getD};
 ghost use Rattle.space.specs.Numbers.{rowWidth, NumberBelow};
 ghost use Rattle.space.specs.Closed.{EndsMet, EndsJoined};
 ghost use Rattle.soundness.specs.Known.{knownRows, ElementKnown, EndKnown, EndsKnown, PathsKnown};
-
-// How the words of earlier elements lie: so many for each, the rank first, and from where on the two ends of an edge.
-pub struct Spacing {
-    pub width: usize,
-    pub ends: usize,
-}
 
 pub fn rank_known(earlier: &[u16], spacing: Spacing, x: ElementId) -> usize
     requires { ⌜ ElementKnown (now earlier) spacing (x .0) ⌝ }

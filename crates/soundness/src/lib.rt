@@ -3,4 +3,5 @@ mod boundaries;
 mod chains;
 mod floats;
 mod known;
+pub mod row;
 pub mod sound;

@@ -12,7 +12,7 @@ use Rattle.rules.proofs.Laws.{not-true, not-false}
 use Rattle.space.specs.Closed.{Stamped, Unmet, joining, joined}
 use Rattle.space.proofs.PathsJoined.{Paths, paths-start, paths-few, paths-stamped}
 use Rattle.soundness.specs.Known.{knownRows}
-use Rattle.soundness.specs.declared.known.Spacing.{Spacing}
+use Rattle.soundness.specs.declared.row.Spacing.{Spacing}
 use Rattle.soundness.specs.Words.{numberFits, faceWords, stampOf}
 use Rattle.soundness.proofs.EdgesRead.{Numbers, NumberRead, numbers-start, numbers-end, read-no, read-ends, read-edge, read-on}
 use Rattle.soundness.proofs.FaceLoops.{face-go, face-thrice, face-early, face-last, face-none, stamped-next}

@@ -7,8 +7,8 @@ use Rattle.soundness.specs.Words.{blankWords}
 use Rattle.soundness.proofs.PastLoops.{Joining, kept-is, joining-start, joining-go, joining-end}
 use Rattle.soundness.proofs.RowLoops.{past-is}
 use borrow.Author.Needs.{needs}
-use Rattle.soundness.proofs.sound.gather_past.Statement.{statement}
-use Rattle.soundness.proofs.sound.gather_past.Tie as tie
+use Rattle.soundness.proofs.row.gather_past.Statement.{statement}
+use Rattle.soundness.proofs.row.gather_past.Tie as tie
 
 abbrev Inv-loop : tie.InvT-loop
 Inv-loop words at n past seen₀ j₀ seen j = Joining words at n seen₀ seen j

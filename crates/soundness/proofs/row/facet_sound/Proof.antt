@@ -6,8 +6,8 @@ use native.Mathlib.Omega.{arith}
 use Rattle.rules.proofs.Laws.{test-eq, not-eq}
 use Rattle.soundness.proofs.BoundaryLoops.{facet-are}
 use borrow.Author.Needs.{needs}
-use Rattle.soundness.proofs.sound.facet_sound.Statement.{statement}
-use Rattle.soundness.proofs.sound.facet_sound.Tie as tie
+use Rattle.soundness.proofs.row.facet_sound.Statement.{statement}
+use Rattle.soundness.proofs.row.facet_sound.Tie as tie
 
 sub-if1 : tie.Need-sub-if1
 sub-if1 c = search needs

@@ -6,8 +6,8 @@ use lib.Dec.{eqb}
 use Rattle.rules.proofs.Laws.{test-eq, not-eq}
 use Rattle.soundness.proofs.RowLoops.{row-first}
 use borrow.Author.Needs.{needs}
-use Rattle.soundness.proofs.sound.one_if_corner.Statement.{statement}
-use Rattle.soundness.proofs.sound.one_if_corner.Tie as tie
+use Rattle.soundness.proofs.row.one_if_corner.Statement.{statement}
+use Rattle.soundness.proofs.row.one_if_corner.Tie as tie
 
 mul-if1 : tie.Need-mul-if1
 mul-if1 c = search needs

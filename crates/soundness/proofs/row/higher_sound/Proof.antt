@@ -4,8 +4,8 @@ use native.Mathlib.Omega.{arith}
 use Rattle.soundness.specs.Known.{knownRows}
 use Rattle.soundness.proofs.RowKinds.{polytope-many, polytope-few}
 use borrow.Author.Needs.{needs}
-use Rattle.soundness.proofs.sound.higher_sound.Statement.{statement}
-use Rattle.soundness.proofs.sound.higher_sound.Tie as tie
+use Rattle.soundness.proofs.row.higher_sound.Statement.{statement}
+use Rattle.soundness.proofs.row.higher_sound.Tie as tie
 
 -- where the count was found to fit, and where the function began
 abbrev start : tie.Else1 → tie.Start

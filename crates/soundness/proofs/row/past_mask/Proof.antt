@@ -5,8 +5,8 @@ use mathlib.Core.Path.{_≡_}
 use lib.ListN.{length}
 use Rattle.soundness.proofs.PastLoops.{MaskTo, mask-start, mask-go}
 use borrow.Author.Needs.{needs}
-use Rattle.soundness.proofs.sound.past_mask.Statement.{statement}
-use Rattle.soundness.proofs.sound.past_mask.Tie as tie
+use Rattle.soundness.proofs.row.past_mask.Statement.{statement}
+use Rattle.soundness.proofs.row.past_mask.Tie as tie
 
 pub record Made (past : List ℕ) (k : ℕ) : Type 0 where
   pub most : k ≤ 64

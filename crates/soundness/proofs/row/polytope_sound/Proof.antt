@@ -6,8 +6,8 @@ use Rattle.rules.specs.Limits.{desk}
 use Rattle.soundness.specs.Known.{knownRows}
 use Rattle.soundness.specs.Words.{polytopeWords}
 use Rattle.soundness.proofs.FaceLoops.{unmet-next}
-use Rattle.soundness.proofs.sound.polytope_sound.Statement.{statement}
-use Rattle.soundness.proofs.sound.polytope_sound.Tie as tie
+use Rattle.soundness.proofs.row.polytope_sound.Statement.{statement}
+use Rattle.soundness.proofs.row.polytope_sound.Tie as tie
 
 -- where the rank was found to be an edge's, or not
 abbrev edge : tie.After-edge-sound → tie.Then1

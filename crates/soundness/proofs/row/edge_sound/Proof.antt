@@ -5,8 +5,8 @@ use native.Mathlib.Omega.{arith}
 use Rattle.soundness.specs.Known.{knownRows}
 use Rattle.soundness.proofs.RowKinds.{edge-open, edge-two}
 use borrow.Author.Needs.{needs}
-use Rattle.soundness.proofs.sound.edge_sound.Statement.{statement}
-use Rattle.soundness.proofs.sound.edge_sound.Tie as tie
+use Rattle.soundness.proofs.row.edge_sound.Statement.{statement}
+use Rattle.soundness.proofs.row.edge_sound.Tie as tie
 
 -- where the function began, and where the count was two
 abbrev start : tie.Else1 → tie.Start

@@ -4,8 +4,8 @@ use mathlib.Core.Path.{_≡_, ap, _∙_}
 use native.Mathlib.Nat.{mod-eq-of-lt}
 use lib.Bits.{bitAnd, and-zero-r, and-mask}
 use borrow.Author.Needs.{needs}
-use Rattle.soundness.proofs.sound.kept.Statement.{statement}
-use Rattle.soundness.proofs.sound.kept.Tie as tie
+use Rattle.soundness.proofs.row.kept.Statement.{statement}
+use Rattle.soundness.proofs.row.kept.Tie as tie
 
 all-ones : (x m : ℕ) → x < 65536 → m ≡ 65535 → bitAnd x m ≡ x
 all-ones x m l e = ap (bitAnd x) e ∙ and-mask x 16 ∙ mod-eq-of-lt l

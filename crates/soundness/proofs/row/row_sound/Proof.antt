@@ -8,8 +8,8 @@ use Rattle.soundness.specs.Known.{knownRows}
 use Rattle.soundness.proofs.RowKinds.{row-corner, row-polytope}
 use borrow.Author.Tests.{lt-leb}
 use borrow.Author.Needs.{needs}
-use Rattle.soundness.proofs.sound.row_sound.Statement.{statement}
-use Rattle.soundness.proofs.sound.row_sound.Tie as tie
+use Rattle.soundness.proofs.row.row_sound.Statement.{statement}
+use Rattle.soundness.proofs.row.row_sound.Tie as tie
 
 -- where the function began, for a vertex
 abbrev named : tie.Then1 → tie.Start

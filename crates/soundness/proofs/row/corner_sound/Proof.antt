@@ -6,8 +6,8 @@ use lib.Dec.{eqb}
 use Rattle.rules.proofs.Laws.{test-eq, not-eq}
 use Rattle.soundness.proofs.RowKinds.{corner-is}
 use borrow.Author.Needs.{needs}
-use Rattle.soundness.proofs.sound.corner_sound.Statement.{statement}
-use Rattle.soundness.proofs.sound.corner_sound.Tie as tie
+use Rattle.soundness.proofs.row.corner_sound.Statement.{statement}
+use Rattle.soundness.proofs.row.corner_sound.Tie as tie
 
 -- where the function began, and where the row had no mark, no hyperplane and a count of one
 abbrev start : tie.Else1 → tie.Start
