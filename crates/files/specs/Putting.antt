@@ -26,6 +26,14 @@ module _ {A B : Type 0} where
   pub record RecordsPut (f : List ℕ → Reading A) (g : A → List B) (z : B) (room : ℕ) (bs : List ℕ) (at n : ℕ) (xs : List B) : Type 0 where
     pub rows : (end : ℕ) (t : Together f bs at n end) → xs ≡ laid z room g (t .list)
 
+-- the counts of a file fit the room
+pub record CountsReady (l : Laid) (cs : List ℕ) : Type 0 where
+  pub dimension : l .dimension ≤ desk .dimensions
+  pub elements : l .elements ≤ desk .elements
+  pub vertices : l .vertices ≤ desk .vertices
+  pub hyperplanes : l .hyperplanes ≤ desk .hyperplanes
+  pub long : length cs ≡ 4
+
 -- the bytes are the layout of a table that fits, and the four slices have their lengths
 pub record PutReady (bs : List ℕ) (l : Laid) (cs : List ℕ) (ps hs : List Float) (es : List ℕ) : Type 0 where
   pub table : Table

@@ -15,6 +15,8 @@ use space::words::POINT_FLOATS;
 use space::words::WIDTH;
 use space::words::wide;
 ghost use Prim.Native.Nat.{_≤_};
+ghost use mathlib.Core.List.{[], _∷_};
+ghost use mathlib.Core.Path.{_≡_};
 ghost use Rattle.rules.specs.Limits.{desk};
 ghost use Rattle.rules.specs.Lists.{pad};
 ghost use Rattle.rules.specs.Floats.{plusZero};
@@ -22,7 +24,7 @@ ghost use Rattle.rules.specs.Memory.{planeRow, planeWidth};
 ghost use Rattle.rules.specs.Held.{elementWords};
 ghost use Rattle.rules.specs.Files.{pointIn, planeIn, elementIn};
 ghost use Rattle.space.specs.Numbers.{rowWidth, pointSlice, planeSlice, elementSlice};
-ghost use Rattle.files.specs.Putting.{RecordsReady, RecordsPut, PutReady, TablePut};
+ghost use Rattle.files.specs.Putting.{RecordsReady, RecordsPut, CountsReady, PutReady, TablePut};
 
 // A vertex's record has a mark, and 8 bytes for each coordinate.
 fn put_points(bytes: &[u8], from: usize, n: usize, d: usize, points: &mut [f64])
@@ -69,6 +71,16 @@ fn put_elements(bytes: &[u8], from: usize, n: usize, elements: &mut [u16])
     restore::clear_numbers(elements, n * WIDTH, ELEMENT_WORDS - n * WIDTH);
 }
 
+fn put_counts(laid: Laid, counts: &mut [u16])
+    requires { ⌜ CountsReady laid (now counts) ⌝ }
+    ensures { λ r. ⌜ now (counts .exit) ≡ laid .dimension ∷ laid .elements ∷ laid .vertices ∷ laid .hyperplanes ∷ [] ⌝ }
+{
+    counts[0] = laid.dimension as u16;
+    counts[1] = laid.elements as u16;
+    counts[2] = laid.vertices as u16;
+    counts[3] = laid.hyperplanes as u16;
+}
+
 pub fn put(
     bytes: &[u8],
     laid: Laid,
@@ -80,12 +92,8 @@ pub fn put(
     requires { ⌜ PutReady (now bytes) laid (now counts) (now points) (now planes) (now elements) ⌝ }
     ensures { λ r. ⌜ TablePut (now (bytes .entry)) (now (counts .exit)) (now (points .exit)) (now (planes .exit)) (now (elements .exit)) ⌝ }
 {
-    let d = laid.dimension;
-    put_points(bytes, HEADER, laid.vertices, d, points);
-    put_planes(bytes, laid.planes_at, laid.hyperplanes, d, planes);
+    put_counts(laid, counts);
+    put_points(bytes, HEADER, laid.vertices, laid.dimension, points);
+    put_planes(bytes, laid.planes_at, laid.hyperplanes, laid.dimension, planes);
     put_elements(bytes, laid.elements_at, laid.elements, elements);
-    counts[0] = d as u16;
-    counts[1] = laid.elements as u16;
-    counts[2] = laid.vertices as u16;
-    counts[3] = laid.hyperplanes as u16;
 }
