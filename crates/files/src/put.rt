@@ -94,6 +94,12 @@ pub fn put(
 {
     put_counts(laid, counts);
     put_points(bytes, HEADER, laid.vertices, laid.dimension, points);
-    put_planes(bytes, laid.planes_at, laid.hyperplanes, laid.dimension, planes);
+    put_planes(
+        bytes,
+        laid.planes_at,
+        laid.hyperplanes,
+        laid.dimension,
+        planes,
+    );
     put_elements(bytes, laid.elements_at, laid.elements, elements);
 }
