@@ -31,7 +31,7 @@ ghost use Rattle.soundness.specs.Words.{blankWords, countsFit, rowSound,
 ghost use Rattle.soundness.specs.Tests.{PartOf, StoredReady, RowTested, RowsReady, RowsTested, MemoryTested};
 
 // The dimension and every count fit the room, and the hyperplanes of the space are there.
-fn counts_fit(d: usize, n: usize, v: usize, h: usize) -> bool
+pub fn counts_fit(d: usize, n: usize, v: usize, h: usize) -> bool
     ensures { λ r. ⌜ r ≡ countsFit desk d n v h ⌝ }
 {
     if d < 1 {
