@@ -4,3 +4,4 @@ pub mod Passed
 pub mod Laid
 pub mod Saved
 pub mod Entries
+pub mod Judged
