@@ -3,4 +3,5 @@ mod entries;
 mod judge;
 mod layout;
 mod records;
+mod rows;
 pub mod save;
