@@ -1,6 +1,8 @@
 // A table as the bytes of its one file, and back.
 mod entries;
+mod judge;
 mod layout;
 mod put;
 mod records;
+mod rows;
 pub mod save;
