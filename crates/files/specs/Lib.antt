@@ -6,3 +6,4 @@ pub mod Saved
 pub mod Entries
 pub mod Putting
 pub mod Judged
+pub mod Kept
