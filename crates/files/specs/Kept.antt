@@ -48,17 +48,19 @@ pub record KeptTo (bs : List ℕ) (l : Laid) (t : Table) (n : ℕ) (kept : List 
 -- ---- what the functions ask for and what they answer
 
 -- the row of element x can be read again, and its first boundary number is kept
-pub record RowKept (bs : List ℕ) (l : Laid) (kept : List ℕ) (x : ℕ) : Type 0 where
+pub record RowKept (bs : List ℕ) (l : Laid) (kept : List ℕ) (x : ℕ) (row : List ℕ) : Type 0 where
+  pub long : length row ≡ rowWidth
   pub room : x < desk .elements
   pub ready : RowReady bs (placeOf l kept x)
   pub first : getD kept (x * keptWidth + 1) 0 ≡ getD (keptRow bs l kept x) 4 0
 
 -- the first n elements are kept, and their rows are in the index
-pub record SearchKept (bs : List ℕ) (l : Laid) (kept : List ℕ) (n : ℕ) (index : List ℕ) : Type 0 where
+pub record SearchKept (bs : List ℕ) (l : Laid) (kept : List ℕ) (n : ℕ) (row index : List ℕ) : Type 0 where
   pub says : SaysFitting bs l
   pub few : n ≤ l .elements
-  pub keeps : KeptTo bs l (says .table) n kept
-  pub earlier : Indexed (elementsOf desk (says .table)) n index
+  pub long : length row ≡ rowWidth
+  pub keeps : (t : Table) → Whole bs l t → KeptTo bs l t n kept
+  pub earlier : (t : Table) → Whole bs l t → Indexed (elementsOf desk t) n index
 
 -- the lowest of them that has a row
 pub record LastKept (bs : List ℕ) (l : Laid) (n : ℕ) (row : List ℕ) (reply : ℕ) : Type 0 where
@@ -66,9 +68,9 @@ pub record LastKept (bs : List ℕ) (l : Laid) (n : ℕ) (row : List ℕ) (reply
 
 -- and the row is that of element n
 pub record RowReadyToKeep (bs : List ℕ) (l : Laid) (kept : List ℕ) (n : ℕ) (row index : List ℕ) : Type 0 where
-  pub search : SearchKept bs l kept n index
+  pub search : SearchKept bs l kept n row index
   pub more : n < l .elements
-  pub own : row ≡ storedRow (elementsOf desk (search .says .table)) n
+  pub own : (t : Table) → Whole bs l t → row ≡ storedRow (elementsOf desk t) n
 
 -- whether it is new
 pub record NewJudged (bs : List ℕ) (l : Laid) (n : ℕ) (index : List ℕ) (reply : Bool) (index′ : List ℕ) : Type 0 where

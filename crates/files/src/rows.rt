@@ -35,7 +35,7 @@ fn same_as_kept(
     x: usize,
     row: &[u16; WIDTH],
 ) -> bool
-    requires { ⌜ RowKept (now bytes) laid (now kept) x ⌝ }
+    requires { ⌜ RowKept (now bytes) laid (now kept) x (now row) ⌝ }
     ensures { λ r. ⌜ r ≡ alike eqb (now (row .entry)) (keptRow (now (bytes .entry)) laid (now (kept .entry)) x) ⌝ }
 {
     if row[4] != kept[x * KEPT + 1] {
@@ -55,7 +55,7 @@ fn last_kept(
     row: &[u16; WIDTH],
     index: &[u16; INDEX],
 ) -> usize
-    requires { ⌜ SearchKept (now bytes) laid (now kept) n (now index) ⌝ }
+    requires { ⌜ SearchKept (now bytes) laid (now kept) n (now row) (now index) ⌝ }
     ensures { λ r. ⌜ LastKept (now (bytes .entry)) laid n (now (row .entry)) r ⌝ }
 {
     let mut met = 0usize;
