@@ -2,7 +2,7 @@
 -- Once all are put and the remainder is filled up, the slice is the rows of the records, laid out in it.
 use Prim.Native.Nat.{ℕ, zero, suc, _+_, _*_, _-_, _≤_, _<_}
 use mathlib.Core.List.{List, [], _∷_, _++_, map, append-nil}
-use mathlib.Core.Path.{_≡_, refl, sym, ap, ap₂, subst, _∙_}
+use mathlib.Core.Path.{_≡_, sym, ap, ap₂, subst, _∙_}
 use native.Mathlib.Nat.{zero-mul, suc-mul, mul-le-mul-right, le-of-suc-le-suc, not-suc-le-zero}
 use native.Mathlib.Numerals.{add-one}
 use native.Mathlib.Omega.{arith}
@@ -14,7 +14,6 @@ use Rattle.rules.specs.Files.{Reading}
 use Rattle.rules.proofs.ByteLaws.{got-value}
 use Rattle.space.proofs.Laid.{map-append, concat-append, rows-size}
 use Rattle.files.specs.Runs.{Run}
-use Rattle.files.specs.Passed.{Together}
 use Rattle.files.specs.Putting.{RecordsReady, RecordsPut}
 use Rattle.files.proofs.Passes.{together-reads}
 

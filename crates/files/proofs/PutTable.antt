@@ -1,6 +1,6 @@
 -- The four slices together: a table that fits is what each part of `put` asks, and its memory is what they make.
 -- For the caller: a sound table's file can be put (`sound-ready`), and then the memory is what is written of the table (`put-memory`).
-use Prim.Native.Nat.{ℕ, _*_, _≤_}
+use Prim.Native.Nat.{ℕ, _≤_}
 use mathlib.Core.Bool.{true}
 use mathlib.Core.List.{List, [], _∷_}
 use mathlib.Core.Path.{_≡_, sym, subst, _∙_}
@@ -13,7 +13,7 @@ use Rattle.rules.specs.Floats.{plusZero}
 use Rattle.rules.specs.Table.{Table}
 use Rattle.rules.specs.Sound.{sound}
 use Rattle.rules.specs.Memory.{planeRow, rightSize, encode}
-use Rattle.rules.specs.Held.{Fits, Holds, elementWords, countsOf, pointsOf, planesOf, elementsOf, memoryOf}
+use Rattle.rules.specs.Held.{Holds, elementWords, countsOf, pointsOf, planesOf, elementsOf, memoryOf}
 use Rattle.rules.specs.Files.{got, layout, pointIn, planeIn, elementIn}
 use Rattle.rules.proofs.ByteLaws.{got-value}
 use Rattle.rules.proofs.Good.{sound-good}

@@ -22,9 +22,9 @@ use Rattle.space.specs.Shared.{rowOf}
 use Rattle.space.proofs.Laid.{length-padded}
 use Rattle.space.proofs.VertexMemo.{four-is}
 use Rattle.files.specs.Runs.{Run}
-use Rattle.files.specs.Entries.{planeAt, numbersAt, countAt, rowAt}
+use Rattle.files.specs.Entries.{planeAt, countAt, rowAt}
 use Rattle.files.proofs.Runs.{run-next}
-use Rattle.files.proofs.EntriesRead.{numbers-long, PointRead, point-read, PlaneRead, plane-read, ElementRead, element-read}
+use Rattle.files.proofs.EntriesRead.{numbers-long, point-read, plane-read, element-read}
 
 -- a record of a known size behind i others
 further : (at i size : ℕ) → at + i * size + size ≡ at + suc i * size
