@@ -1,5 +1,5 @@
 // Whether a lent memory is sound, on any four slices, line by line.
 mod boundaries;
 mod chains;
-mod floats;
+pub mod floats;
 pub mod sound;

@@ -37,7 +37,7 @@ const HEAD: usize = 4;
 const MASK: usize = 64;
 
 // The dimension and every count fit the room, and the hyperplanes of the space are there.
-fn counts_fit(d: usize, n: usize, v: usize, h: usize) -> bool
+pub fn counts_fit(d: usize, n: usize, v: usize, h: usize) -> bool
     ensures { λ r. ⌜ r ≡ countsFit desk d n v h ⌝ }
 {
     if d < 1 {
