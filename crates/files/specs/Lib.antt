@@ -5,3 +5,4 @@ pub mod Laid
 pub mod Saved
 pub mod Entries
 pub mod Putting
+pub mod Judged

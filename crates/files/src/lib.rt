@@ -1,5 +1,6 @@
 // A table as the bytes of its one file, and back.
 mod entries;
+mod judge;
 mod layout;
 mod put;
 mod records;
