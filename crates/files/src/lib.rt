@@ -4,4 +4,5 @@ mod judge;
 mod layout;
 mod put;
 mod records;
+mod rows;
 pub mod save;
