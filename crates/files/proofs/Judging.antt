@@ -2,14 +2,13 @@
 -- Then what is told of the records holds of the table that the bytes say, since they say one table only.
 use Prim.Native.Nat.{ℕ, zero, suc, _+_, _*_, _-_, _≤_, _<_}
 use mathlib.Core.Bool.{Bool, true, false, _&&_}
-use mathlib.Core.List.{List, [], _∷_, _++_}
+use mathlib.Core.List.{List, []}
 use mathlib.Core.Path.{_≡_, refl, sym, ap, ap₂, subst, _∙_}
 use native.Mathlib.Omega.{arith}
 use lib.Dec.{leb}
 use lib.Ieee.{Float}
 use lib.ListN.{length, getD, take, drop, replicate, length-append}
 use lib.Seq.{take-at, drop-at}
-use Rattle.rules.specs.Limits.{desk}
 use Rattle.rules.specs.Lists.{all, pad}
 use Rattle.rules.specs.Floats.{plusZero, sameBits, within, farthest, farthestPlane, unit}
 use Rattle.rules.specs.Bytes.{floatsAt}
@@ -26,7 +25,7 @@ use Rattle.hypermath.specs.Answers.{unitNormal}
 use Rattle.soundness.proofs.ReadBack.{and-one}
 use Rattle.soundness.proofs.SoundWhole.{fit-counts}
 use Rattle.files.specs.Runs.{Run}
-use Rattle.files.specs.Laid.{headerSize, Whole}
+use Rattle.files.specs.Laid.{headerSize}
 use Rattle.files.specs.Entries.{planeAt, countAt}
 use Rattle.files.specs.Judged.{SaysFitting, Judged, widthFits, widthsFit, verticesSound, hyperplanesSound}
 use Rattle.files.specs.declared.layout.Laid.{Laid}

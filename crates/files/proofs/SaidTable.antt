@@ -1,14 +1,14 @@
 -- A table that a file says, and whose counts and boundaries fit the room: its rows fit, and those of its elements stand in the file, record by record.
-use Prim.Native.Nat.{ℕ, suc, _+_, _*_, _-_, _≤_, _<_}
+use Prim.Native.Nat.{ℕ, _+_, _*_, _-_, _<_}
 use mathlib.Core.Bool.{Bool, true, false}
-use mathlib.Core.List.{List, [], _∷_, map}
+use mathlib.Core.List.{List, [], map}
 use mathlib.Core.Path.{_≡_, refl, sym, ap, subst, _∙_}
 use native.Mathlib.Omega.{arith}
 use lib.Dec.{eqb}
 use lib.ListN.{length, getD, take, drop, replicate, length-map, List·getD-map}
 use lib.Seq.{drop-cons}
 use Rattle.rules.specs.Limits.{desk}
-use Rattle.rules.specs.Lists.{if_then_else_, all, pad, joined, rows}
+use Rattle.rules.specs.Lists.{if_then_else_, pad, joined, rows}
 use Rattle.rules.specs.Table.{Element, corner, polytope, Table, element, elementCount}
 use Rattle.rules.specs.Memory.{readElement, planeNamed}
 use Rattle.rules.specs.Held.{Fits, elementWords, elementsOf, fitting}

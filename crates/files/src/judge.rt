@@ -3,10 +3,14 @@ use crate::entries::plane_at;
 use crate::entries::point_at;
 use crate::layout::HEADER;
 use crate::layout::Laid;
+use crate::rows::rows_judged;
 use lent_bytes::read;
 use soundness::floats::coordinates_fit;
 use soundness::floats::hyperplane_sound;
+use soundness::sound::counts_fit;
 use space::words::BOUNDARY;
+ghost use Rattle.rules.specs.Limits.{desk};
+ghost use Rattle.rules.specs.Sound.{sound};
 ghost use Rattle.files.specs.Judged.{Says, SaysFitting, Judged, widthsFit, verticesSound, hyperplanesSound};
 
 // Every boundary has place in a row of the room.
@@ -53,4 +57,29 @@ fn hyperplanes_sound(bytes: &[u8], laid: Laid) -> bool
         at = at + 10 + 8 * laid.dimension;
     }
     true
+}
+
+// The counts and the boundaries first: only a table that fits the room has rows to test.
+pub fn table_sound(bytes: &[u8], laid: Laid) -> bool
+    requires { ⌜ Says (now bytes) laid ⌝ }
+    ensures { λ r. ⌜ Judged (now (bytes .entry)) laid (sound desk) r ⌝ }
+{
+    if !counts_fit(
+        laid.dimension,
+        laid.elements,
+        laid.vertices,
+        laid.hyperplanes,
+    ) {
+        return false;
+    }
+    if !widths_fit(bytes, laid) {
+        return false;
+    }
+    if !vertices_sound(bytes, laid) {
+        return false;
+    }
+    if !hyperplanes_sound(bytes, laid) {
+        return false;
+    }
+    rows_judged(bytes, laid)
 }

@@ -1,6 +1,5 @@
 -- The elements whose boundaries are left fit exactly where all do, up to the first that does not.
 use Prim.Native.Nat.{_-_}
-use native.Mathlib.Omega.{arith}
 use lib.ListN.{length}
 use Rattle.rules.specs.Files.{elementIn}
 use Rattle.rules.specs.Table.{corner}
