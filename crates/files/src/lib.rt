@@ -2,6 +2,7 @@
 mod entries;
 mod judge;
 mod layout;
+pub mod open;
 mod put;
 mod records;
 mod rows;
