@@ -43,8 +43,11 @@ sound-is c = let s = says (fitted (c .before .before)) in sym (c .before .table-
 abbrev judged : tie.After-put-arg4 → tie.Else3
 judged c = c .before .before .before .before
 
+abbrev floats-told : tie.After-slice-known8 → tie.After-slice-known6
+floats-told c = c .before .before .before .before
+
 abbrev put : tie.After-slice-known8 → tie.After-put
-put c = c .before .before .before .before .before .before .before .before
+put c = floats-told c .before .before .before .before
 
 laid-out-requires : tie.Need-laid-out-requires
 laid-out-requires c κs = search needs

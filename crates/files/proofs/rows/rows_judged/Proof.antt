@@ -77,8 +77,11 @@ sub-keep : tie.Need-sub-keep Inv-loop μ-loop
 sub-keep c = search needs
 
 -- where the row was found to be new, once it was kept
+abbrev fresh : tie.After-one-if-corner Inv-loop μ-loop → tie.Else2 Inv-loop μ-loop
+fresh c = c .before .before .before .before .before .before
+
 abbrev kept : tie.After-one-if-corner Inv-loop μ-loop → tie.After-row-new Inv-loop μ-loop
-kept c = c .before .before .before .before .before .before .before
+kept c = fresh c .before
 
 -- the record that was read stands within the bytes
 abbrev ready : (c : tie.After-row-at Inv-loop μ-loop) → let l = in-loop c .before in RowReady (start l .args .bytes .now) (l .loop .at)
@@ -146,9 +149,9 @@ loop-again c =
     let l = in-loop r in
     let inv = l .before .loop .inv in
     let yes = not-false _ (e .if1 .left) in
-    let fresh = not-false _ (o .before .before .before .before .before .before .if2 .left) in
+    let new = not-false _ (fresh o .if2 .left) in
     let s = t .row-sound .ensures in
-    judged-on (start (l .before) .pre) inv (l .loop-test .taken) (r .row-at .result) (r .row-at .ensures) (s .told) (w .row-new .ensures .told) yes fresh _ _ (s .past yes) (s .unmet yes)
+    judged-on (start (l .before) .pre) inv (l .loop-test .taken) (r .row-at .result) (r .row-at .ensures) (s .told) (w .row-new .ensures .told) yes new _ _ (s .past yes) (s .unmet yes)
     _ _ _ (let z : start (l .before) .args .laid .«elements_at» + (l .before .loop .at - start (l .before) .args .laid .«elements_at») ≡ l .before .loop .at = omega (arith, inv .from) in z)
     (o .one-if-corner .ensures .corner) (o .one-if-corner .ensures .most) (c .wide .ensures .value) _ (o .before .before .keep .ensures)
 
