@@ -159,11 +159,11 @@ pub record StoredReady (es : List ℕ) (e : ℕ) (met past seen : List ℕ) : Ty
   pub mask : Mask past
   pub places : length seen ≡ desk .boundary
 
--- the answer of its test, and how the next row finds the corners met and what was seen
-pub record RowTested (test : Bool) (row : List ℕ) (e : ℕ) (reply : Bool) (met′ seen seen′ : List ℕ) : Type 0 where
-  pub told : reply ≡ test
+-- the answer of its test, from word `at` on, and how the next row finds the corners met and what was seen
+pub record RowTested (test : List ℕ → Bool) (es : List ℕ) (at e : ℕ) (reply : Bool) (met′ seen seen′ : List ℕ) : Type 0 where
+  pub told : reply ≡ test (take rowWidth (drop at es))
   pub unmet : reply ≡ true → Unmet (stampOf (e + 1)) met′
-  pub past : reply ≡ true → PastSeen row seen seen′
+  pub past : reply ≡ true → PastSeen (take rowWidth (drop at es)) seen seen′
 
 -- ---- rows in turn, with their index
 

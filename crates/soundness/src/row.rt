@@ -136,7 +136,7 @@ fn higher_sound(
     seen: &mut [u16; BOUNDARY],
 ) -> bool
     requires { ⌜ HigherReady (now words) at (now earlier) spacing (e .0) rank (now met) (now past) (now seen) ⌝ }
-    ensures { λ r. ⌜ RowTested (polytopeWords desk (knownRows (now (earlier .entry)) spacing) d (e .0) rank (take rowWidth (drop at (now (words .entry))))) (take rowWidth (drop at (now (words .entry)))) (e .0) r (now (met .exit)) (now (seen .entry)) (now (seen .exit)) ⌝ }
+    ensures { λ r. ⌜ RowTested (polytopeWords desk (knownRows (now (earlier .entry)) spacing) d (e .0) rank) (now (words .entry)) at (e .0) r (now (met .exit)) (now (seen .entry)) (now (seen .exit)) ⌝ }
 {
     let n = wide(words[at + 3]);
     if BOUNDARY < n {
@@ -160,7 +160,7 @@ fn polytope_sound(
     seen: &mut [u16; BOUNDARY],
 ) -> bool
     requires { ⌜ RowReady (now words) at (now earlier) spacing (e .0) (now met) (now past) (now seen) ⌝ }
-    ensures { λ r. ⌜ RowTested (polytopeWords desk (knownRows (now (earlier .entry)) spacing) d (e .0) rank (take rowWidth (drop at (now (words .entry))))) (take rowWidth (drop at (now (words .entry)))) (e .0) r (now (met .exit)) (now (seen .entry)) (now (seen .exit)) ⌝ }
+    ensures { λ r. ⌜ RowTested (polytopeWords desk (knownRows (now (earlier .entry)) spacing) d (e .0) rank) (now (words .entry)) at (e .0) r (now (met .exit)) (now (seen .entry)) (now (seen .exit)) ⌝ }
 {
     if rank == 1 {
         return edge_sound(words, at, earlier, spacing, e, past, seen);
@@ -183,7 +183,7 @@ pub fn row_sound(
     seen: &mut [u16; BOUNDARY],
 ) -> bool
     requires { ⌜ RowReady (now words) at (now earlier) spacing (e .0) (now met) (now past) (now seen) ⌝ }
-    ensures { λ r. ⌜ RowTested (rowSound desk (knownRows (now (earlier .entry)) spacing) d h (k .0) (e .0) (take rowWidth (drop at (now (words .entry))))) (take rowWidth (drop at (now (words .entry)))) (e .0) r (now (met .exit)) (now (seen .entry)) (now (seen .exit)) ⌝ }
+    ensures { λ r. ⌜ RowTested (rowSound desk (knownRows (now (earlier .entry)) spacing) d h (k .0) (e .0)) (now (words .entry)) at (e .0) r (now (met .exit)) (now (seen .entry)) (now (seen .exit)) ⌝ }
 {
     let rank = wide(words[at]);
     if rank == 0 {

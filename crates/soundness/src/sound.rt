@@ -19,6 +19,7 @@ use space::words::VERTICES;
 use space::words::WIDTH;
 use space::words::right_size;
 use space::words::wide;
+ghost use Prim.Native.Nat.{_*_};
 ghost use mathlib.Core.Path.{_≡_};
 ghost use mathlib.Core.Bool.{_&&_};
 ghost use lib.ListN.{length, take, drop};
@@ -26,7 +27,8 @@ ghost use Rattle.rules.specs.Limits.{desk};
 ghost use Rattle.rules.specs.Memory.{soundMemory};
 ghost use Rattle.rules.specs.Held.{memoryOf};
 ghost use Rattle.rules.specs.Replies.{isSoundReply};
-ghost use Rattle.space.specs.Chains.{Indexed, storedRow};
+ghost use Rattle.space.specs.Numbers.{rowWidth};
+ghost use Rattle.space.specs.Chains.{Indexed};
 ghost use Rattle.soundness.specs.Words.{blankWords, countsFit, rowSound, rowsInUse, rowsDistinct, rowsSound};
 ghost use Rattle.soundness.specs.Tests.{PartOf, StoredReady, RowTested, RowsReady, RowsTested, MemoryTested};
 
@@ -79,7 +81,7 @@ fn stored_row_sound(
     seen: &mut [u16; BOUNDARY],
 ) -> bool
     requires { ⌜ StoredReady (now elements) (e .0) (now met) (now past) (now seen) ⌝ }
-    ensures { λ r. ⌜ RowTested (rowSound desk (now (elements .entry)) d h (k .0) (e .0) (storedRow (now (elements .entry)) (e .0))) (storedRow (now (elements .entry)) (e .0)) (e .0) r (now (met .exit)) (now (seen .entry)) (now (seen .exit)) ⌝ }
+    ensures { λ r. ⌜ RowTested (rowSound desk (now (elements .entry)) d h (k .0) (e .0)) (now (elements .entry)) (e .0 * rowWidth) (e .0) r (now (met .exit)) (now (seen .entry)) (now (seen .exit)) ⌝ }
 {
     let spacing = Spacing {
         width: WIDTH,

@@ -1,6 +1,7 @@
 -- The answer is read off the tests that were taken: of the count, and of the numbers and the whole as the rank asks.
-use Prim.Native.Nat.{_≤_, _<_}
+use Prim.Native.Nat.{ℕ, _≤_, _<_}
 use mathlib.Core.Bool.{false, false≢true}
+use mathlib.Core.List.{List}
 use mathlib.Core.Path.{refl}
 use native.Mathlib.Omega.{arith}
 use borrow.Author.Needs.{needs}
@@ -11,6 +12,10 @@ use Rattle.soundness.proofs.BoundaryLoops.{boundary-by, boundary-few, b
 use Rattle.soundness.proofs.FaceLoops.{unmet-next}
 use Rattle.soundness.proofs.boundaries.boundary_sound.Statement.{statement}
 use Rattle.soundness.proofs.boundaries.boundary_sound.Tie as tie
+
+-- the rows by what is known of them
+abbrev known : tie.Start → List ℕ
+known s = knownRows (s .args .earlier .now) (s .args .spacing)
 
 -- a face: where the function began, and where its rank was found to be 2
 abbrev start : tie.Else2 → tie.Start
@@ -28,7 +33,7 @@ returns c =
     let a = s .args in
     let p = s .pre in
     record {
-      told = boundary-by (knownRows (a .earlier .now) (a .spacing)) (a .words .now) (a .at) (a .n) (a .d) (a .e .0) (a .rank) (p .end) false _ _ (le-ltb _ _ (c .if1 .taken)) refl refl;
+      told = boundary-by (known s) (a .words .now) (a .at) (a .n) (a .d) (a .e .0) (a .rank) (p .end) false _ _ (le-ltb _ _ (c .if1 .taken)) refl refl;
       unmet = λ t. absurd (false≢true t);
     }
 
@@ -46,7 +51,7 @@ returns-2 c =
     let a = s .args in
     let p = s .pre in
     record {
-      told = boundary-body (knownRows (a .earlier .now) (a .spacing)) (a .words .now) (a .at) (a .n) (a .d) (a .e .0) (a .rank) (p .end) (p .no-edge) (c .before .if2 .taken) (lt-ltb _ _ (c .before .before .if1 .left)) (c .numbers-fit .ensures);
+      told = boundary-body (known s) (a .words .now) (a .at) (a .n) (a .d) (a .e .0) (a .rank) (p .end) (p .no-edge) (c .before .if2 .taken) (lt-ltb _ _ (c .before .before .if1 .left)) (c .numbers-fit .ensures);
       unmet = λ t. unmet-next (a .e .0) (a .met .now) (p .unmet);
     }
 
@@ -71,12 +76,13 @@ few-fits-requires c κs =
 returns-3 : tie.Need-returns-3
 returns-3 c =
     let f = counted c in
-    let a = start f .args in
-    let p = start f .pre in
+    let s = start f in
+    let a = s .args in
+    let p = s .pre in
     let h = c .before .before .if3 .taken in
     let q = c .before .before .before .few-edges .ensures in
     record {
-      told = boundary-few (knownRows (a .earlier .now) (a .spacing)) (a .words .now) (a .at) (a .n) (a .d) (a .e .0) (a .rank) (p .end) (f .if2 .left) (lt-ltb _ _ (f .before .if1 .left))
+      told = boundary-few (known s) (a .words .now) (a .at) (a .n) (a .d) (a .e .0) (a .rank) (p .end) (f .if2 .left) (lt-ltb _ _ (f .before .if1 .left))
           (let z : a .n ≤ few (a .d) = omega (arith, h, q) in z) (c .few-fits .ensures .told);
       unmet = c .few-fits .ensures .unmet;
     }
@@ -99,12 +105,13 @@ face-fits-requires c κs =
 returns-4 : tie.Need-returns-4
 returns-4 c =
     let f = joined c in
-    let a = start f .args in
-    let p = start f .pre in
+    let s = start f in
+    let a = s .args in
+    let p = s .pre in
     let h = c .before .before .if3 .left in
     let q = c .before .before .before .few-edges .ensures in
     record {
-      told = boundary-face (knownRows (a .earlier .now) (a .spacing)) (a .words .now) (a .at) (a .n) (a .d) (a .e .0) (a .rank) (p .end) (f .if2 .left) (lt-ltb _ _ (f .before .if1 .left))
+      told = boundary-face (known s) (a .words .now) (a .at) (a .n) (a .d) (a .e .0) (a .rank) (p .end) (f .if2 .left) (lt-ltb _ _ (f .before .if1 .left))
           (let z : few (a .d) < a .n = omega (arith, h, q) in z) (c .face-fits .ensures .told);
       unmet = c .face-fits .ensures .unmet;
     }
