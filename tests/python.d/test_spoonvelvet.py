@@ -224,7 +224,7 @@ class Refusals(Case):
             self.assertEqual(t, before)
 
     def test_each_number_has_words(self):
-        self.assertEqual(list(REFUSALS), list(range(1, 13)))
+        self.assertEqual(list(REFUSALS), list(range(1, 14)))
         self.assertEqual(str(Refused(10)), "refused 10: there is no room for another hyperplane")
         self.assertEqual(copy.copy(Refused(4)).number, 4)
 
