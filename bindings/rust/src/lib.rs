@@ -18,6 +18,7 @@
 
 pub mod raw;
 mod refused;
+pub mod session;
 mod table;
 mod values;
 
