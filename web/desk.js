@@ -6,7 +6,7 @@ import { History } from "./history.js";
 import { Bench } from "./bench.js";
 import { Shapes } from "./shapes.js";
 import { previewOf, removedSides } from "./preview.js";
-import { axis } from "./plane.js";
+import { aimAfter, aimOf } from "./target.js";
 
 const NOTHING = { elements: 0, vertices: 0, hyperplanes: 0 };
 const VIEW = { yaw: 30, pitch: 35, roll: 25, apart: 0 };
@@ -20,7 +20,7 @@ class Desk {
         this.live = new Table(engine); // the table that stands
         this.trial = new Table(engine); // the copy that is cut before a cut is made
         this.aside = new Table(engine); // a copy for what is asked beside an answer
-        this.blank = this.live.save();
+        this.blank = this.live.bytes.slice();
         this.history = new History();
         this.earlier = null; // the session before this one and its lesson, if there was one
         this.lesson = null; // which part of it is gone through
@@ -85,7 +85,7 @@ class Desk {
         this.aside.restore(live.bytes);
         this.history.take({
             record, reply, line, before: isNew ? NOTHING : before, after: live.sizes,
-            saved: isSame ? step.saved : live.save(),
+            bytes: isSame ? step.bytes : live.bytes.slice(),
             shapes: isSame ? step.shapes : new Shapes(live, older),
             bench: this.bench.after(record, reply, live),
             removed: removedSides(this.aside, record, reply),
@@ -129,7 +129,7 @@ class Desk {
         }
         if (!this.step) {
             Object.assign(this, { history, lesson: oldLesson, earlier });
-            this.live.restore(this.step?.saved ?? this.blank);
+            this.live.restore(this.step?.bytes ?? this.blank);
             return `${says || "There is no record."} The session is as it was.`;
         }
         this.aimNext();
@@ -148,7 +148,7 @@ class Desk {
 
     go(to) {
         this.history.go(to);
-        this.live.restore(this.step?.saved ?? this.blank);
+        this.live.restore(this.step?.bytes ?? this.blank);
         this.aimNext();
         this.tell("changed");
     }
@@ -157,9 +157,9 @@ class Desk {
         if (!this.history.can(steps)) return;
         const undone = steps === -1 ? this.step.record : null;
         this.history.go(this.history.at + steps);
-        this.live.restore(this.step.saved);
+        this.live.restore(this.step.bytes);
         this.aimNext();
-        if (undone?.kind === "cut") this.aimLike(undone, true);
+        if (undone?.kind === "cut" && undone.normal.length === this.live.dimension) Object.assign(this.aim, aimOf(undone, true));
         this.tell("changed");
     }
 
@@ -170,21 +170,8 @@ class Desk {
         return { kind: "cut", kept, root, normal, distance };
     }
 
-    aimLike({ normal, distance, kept, root }, aiming) {
-        if (normal.length === this.live.dimension) Object.assign(this.aim, { normal, distance, kept, root, aiming });
-    }
-
-    // after a cube, its last element; after a cut, a piece that it answered
     aimNext() {
-        const { record, reply } = this.step ?? {};
-        if (!this.stands) return;
-        if (record.kind === "cube" || record.normal.length !== this.live.dimension) {
-            const root = this.live.sizes.elements - 1;
-            Object.assign(this.aim, { normal: axis(this.live.dimension, 0), distance: 0, kept: "both", root, aiming: reply.number === 0 });
-            return;
-        }
-        this.aimLike(record, false);
-        if (reply.number === 0 && !reply.flush && this.live.isFull(record.root)) this.aim.root = reply.inside ?? reply.outside ?? record.root;
+        if (this.stands) Object.assign(this.aim, aimAfter(this.step, this.live));
     }
 
     aimAt(change) {

@@ -33,7 +33,7 @@ export async function checkSessions(checks, hands) {
         checks.same(`${name}: no two vertices look the same`, new Set(texts).size, texts.length);
     }
     await hands.runLines("cube 2 1\n" + "cut both 8 1 0 0\n".repeat(300));
-    checks.same("a table that is the same is kept once", await hands.run("[desk.history.steps.length, new Set(desk.history.steps.map(({ saved }) => saved)).size]"), [301, 2]);
+    checks.same("a table that is the same is kept once", await hands.run("[desk.history.steps.length, new Set(desk.history.steps.map(({ bytes }) => bytes)).size]"), [301, 2]);
     await hands.runLines("cube 2 1\ncut some 8 1 0 0");
     checks.same("no record", await hands.text("#runsays"), "no record: cut some 8 1 0 0. The session is as it was.");
     await hands.press("#history button[data-step='0']");
