@@ -8,6 +8,7 @@ import { REFUSALS } from "../words.js";
 import { partsOf } from "../lesson.js";
 import { Checks } from "./check.mjs";
 import { checkColours } from "./colours.mjs";
+import { checkSaved } from "./saved.mjs";
 
 const checks = new Checks();
 const read = name => readFileSync(name, "utf8");
@@ -70,6 +71,9 @@ checks.same("greatest common of many", table.ask("greatestCommon", Array(2000).f
 checks.same("the walk of M10", table.ask("edgesInOrder", 8), { number: 0, list: [0, 1, 1, 3, 3, 2, 2, 0] });
 checks.same("M1", cut({}), { number: 0, flush: false, inside: 16, outside: 17, face: 15 });
 checks.holds("sound", table.isSound());
+
+// a table's file
+await checkSaved(checks, parts);
 
 // a word for each refusal of document 01, and the colours
 checks.same("refusals", Object.keys(REFUSALS).map(Number), [1, 2, 3, 4, 5, 6, 7, 8, 9, 10, 11, 12]);
