@@ -48,7 +48,7 @@ function facetTable(table, e, rank) {
     if (rank !== 2 && rank !== 4) return "";
     const row = facet => `<tr><td>${tag("E", facet)}</td><td class="walk">${tags("v", table.list("vertexSet", facet))}</td>${planeCells(table, facet)}</tr>`;
     const rows = table.element(e).boundary.map(row);
-    return `<table class="facets"><caption>${rank === 2 ? "Edges" : "Bodies"} and their planes</caption>
+    return `<table class="planes"><caption>${rank === 2 ? "Edges" : "Bodies"} and their planes</caption>
         ${head(["element", "corners", ...PLANE])}<tbody>${rows.join("")}</tbody></table>`;
 }
 
