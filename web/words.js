@@ -19,7 +19,8 @@ export const REFUSALS = {
     9: "there is no room for another element",
     10: "there is no room for another hyperplane",
     11: "a boundary would have more than 32 elements",
-    12: "the room for the list is too short",
+    12: "the room for the list or the file is too short",
+    13: "the bytes are not laid out as a file",
 };
 
 const sentence = (words) => `${words[0].toUpperCase()}${words.slice(1)}.`;
