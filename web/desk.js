@@ -1,17 +1,18 @@
 // What stands and what is aimed at: the one state of the page. Panels read it, change it through these calls, and are told.
 import { TABLE_BYTES, Table } from "./table.js";
 import { fits, load } from "./engine.js";
-import { ask, bytesOf, printed, turns } from "./session.js";
+import { FILE_BYTES, FileRoom } from "./file.js";
+import { ask, beginsWithCut, bytesOf, printed, turns } from "./session.js";
 import { History } from "./history.js";
 import { Bench } from "./bench.js";
-import { Shapes } from "./shapes.js";
-import { previewOf, removedSides } from "./preview.js";
+import { openingOf } from "./opened.js";
+import { previewOf } from "./preview.js";
+import { NOTHING, stepOf } from "./step.js";
 import { aimAfter, aimOf } from "./target.js";
 
-const NOTHING = { elements: 0, vertices: 0, hyperplanes: 0 };
 const VIEW = { yaw: 30, pitch: 35, roll: 25, apart: 0 };
 
-export const loadDesk = async (bytes, parts) => new Desk(await load(bytes, 3 * TABLE_BYTES), parts);
+export const loadDesk = async (bytes, parts) => new Desk(await load(bytes, 3 * TABLE_BYTES + FILE_BYTES), parts);
 
 class Desk {
     constructor(engine, parts) {
@@ -20,6 +21,7 @@ class Desk {
         this.live = new Table(engine); // the table that stands
         this.trial = new Table(engine); // the copy that is cut before a cut is made
         this.aside = new Table(engine); // a copy for what is asked beside an answer
+        this.room = new FileRoom(engine); // for the file that is saved or opened
         this.blank = this.live.bytes.slice();
         this.history = new History();
         this.earlier = null; // the session before this one and its lesson, if there was one
@@ -43,13 +45,8 @@ class Desk {
         return this.step?.bench ?? new Bench();
     }
 
-    get cubeStep() {
-        const { steps, at } = this.history;
-        return steps.findLastIndex(({ record, reply }, i) => i <= at && record.kind === "cube" && reply.number === 0);
-    }
-
     get radius() {
-        return this.history.steps[this.cubeStep]?.record.radius ?? 1;
+        return this.history.beginning?.record.radius ?? 1;
     }
 
     // ---- telling the panels: `changed` after a record or a step, `aimed` when the plane moved, `looked` when the view did
@@ -76,20 +73,8 @@ class Desk {
 
     // ---- records
 
-    // where nothing was added the table is the same, for old entries never change, and is kept once
     take(record, reply, line, before) {
-        const { live, step } = this;
-        const isNew = record.kind === "cube" && reply.number === 0;
-        const isSame = step !== null && !isNew && Object.keys(NOTHING).every(list => step.after[list] === live.sizes[list]);
-        const older = isNew || !step ? null : step.shapes;
-        this.aside.restore(live.bytes);
-        this.history.take({
-            record, reply, line, before: isNew ? NOTHING : before, after: live.sizes,
-            bytes: isSame ? step.bytes : live.bytes.slice(),
-            shapes: isSame ? step.shapes : new Shapes(live, older),
-            bench: this.bench.after(record, reply, live),
-            removed: removedSides(this.aside, record, reply),
-        });
+        this.history.take(stepOf(this, { record, reply, line, before }));
     }
 
     make(record) {
@@ -115,25 +100,53 @@ class Desk {
         this.tell("changed");
     }
 
-    // a session's bytes in place of the session that is there; gives words for what was bad, or none
-    run(bytes, lesson = null) {
+    // a session of its own; the one before it is kept, to go back to
+    begin(lesson) {
         const { history, lesson: oldLesson, earlier } = this;
         Object.assign(this, { history: new History(), lesson, earlier: history.step && { history, lesson: oldLesson } });
-        this.live.restore(this.blank);
+        return { history, lesson: oldLesson, earlier };
+    }
+
+    // a session's bytes in place of the session that is there; cuts at its front go on from the table that this one was opened with;
+    // gives words for what was bad, or none
+    run(bytes, lesson = null) {
+        const opened = beginsWithCut(bytes) ? this.history.opened : null;
+        const old = this.begin(lesson);
+        this.live.restore(opened?.bytes ?? this.blank);
+        if (opened) this.history.take(opened);
         let says = "";
-        let before = NOTHING;
+        let before = opened?.after ?? NOTHING;
         for (const { record, reply, line, bad } of turns(this.live, bytes)) {
             if (bad !== undefined) says = `${line}: the bytes from ${bad} on are no record.`;
             else this.take(record, reply, line, before);
             before = this.live.sizes;
         }
-        if (!this.step) {
-            Object.assign(this, { history, lesson: oldLesson, earlier });
+        if (this.history.records().length === 0) {
+            Object.assign(this, old);
             this.live.restore(this.step?.bytes ?? this.blank);
             return `${says || "There is no record."} The session is as it was.`;
         }
         this.aimNext();
         return says;
+    }
+
+    // ---- the table's file
+
+    // { number } when refused, else { number: 0, file }
+    save() {
+        return this.room.save(this.live);
+    }
+
+    // the table of a file in place of the one that stands, as the beginning of a session of its own; gives the number of a refusal, or 0
+    async open(name, file) {
+        const number = await this.room.open(this.live, file);
+        if (number !== 0) return number;
+        this.begin(null);
+        const record = openingOf(name, file, this.live);
+        this.take(record, { number }, printed(record, { number }, this.live.sizes), NOTHING);
+        this.aimNext();
+        this.tell("changed");
+        return 0;
     }
 
     backToEarlier() {

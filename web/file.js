@@ -5,6 +5,9 @@ import { ROOM, TABLE_BYTES, Table } from "./table.js";
 export const FILE_BYTES = 10 + ROOM.vertices * (2 + 8 * ROOM.dimensions) + ROOM.hyperplanes * (10 + 8 * ROOM.dimensions) +
     ROOM.elements * (8 + 2 * ROOM.boundary);
 
+// the mark of a header stands first, and no session begins with it
+export const isFileOfTable = bytes => bytes[0] === 0x48 && bytes[1] === 0x44;
+
 export class FileRoom {
     constructor(engine, length = FILE_BYTES) {
         this.engine = engine;

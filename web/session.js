@@ -1,4 +1,5 @@
-// Sessions: record's plain lines, the bytes that cutlist reads, and the lines that it prints.
+// Sessions: record's plain lines, the bytes that cutlist reads, and the lines that it prints. A table that was opened begins a session
+// as a cube does; it is no record, and its line is the page's own.
 import { fits } from "./engine.js";
 
 export const KEPT = ["neither", "inside", "outside", "both"];
@@ -40,19 +41,21 @@ function recordOf(line) {
 
 const stands = ({ dimension, radius }) => dimension >= 1 && dimension <= 4 && radius >= 1 && radius <= 65536;
 
-// a cut's length follows the cube that stands: with another the bytes of the next record would be read as its own
-export function recordsOf(text) {
-    let dimensions = 0;
+// a cut's length follows the table that stands, at first one that was opened: with another the bytes of the next record would be read
+// as its own
+export function recordsOf(text, opened = 0) {
+    let dimensions = opened;
     return text.split("\n").map(line => line.split("#")[0]).filter(line => line.trim() !== "").map(line => {
         const record = recordOf(line);
         if (record.kind === "cube" && stands(record)) dimensions = record.dimension;
         if (record.kind === "cut" && record.normal.length !== dimensions)
-            throw new NoRecord(`no record: ${line.trim()}: ${dimensions ? `the cube that stands has ${dimensions} dimensions` : "no cube stands"}`);
+            throw new NoRecord(`no record: ${line.trim()}: ${dimensions ? `the table that stands has ${dimensions} dimensions` : "no table stands"}`);
         return record;
     });
 }
 
 export function lineOf(record) {
+    if (record.kind === "open") return `open ${record.name}`;
     return record.kind === "cube"
         ? `cube ${record.dimension} ${plain(record.radius)}`
         : `cut ${record.kept} ${record.root} ${[...record.normal, record.distance].map(plain).join(" ")}`;
@@ -72,6 +75,8 @@ function recordBytes(record) {
 }
 
 export const bytesOf = records => new Uint8Array(records.flatMap(recordBytes));
+
+export const beginsWithCut = bytes => bytes[0] === 0x43 && bytes[1] === 0x54;
 
 // the record at an offset and its length, or null for bad; a cut's length follows the dimension of the table that stands
 function recordAt(bytes, at, dimension) {
@@ -108,7 +113,7 @@ export function ask(table, record, kept = record.kept) {
 export function printed(record, reply, { elements, vertices, hyperplanes }) {
     const counts = [elements, vertices, hyperplanes];
     if (reply.number !== 0) return `refused ${reply.number}`;
-    if (record.kind === "cube") return ["cube", ...counts].join(" ");
+    if (record.kind !== "cut") return [record.kind, ...counts].join(" ");
     if (reply.flush) return ["flush", ...counts].join(" ");
     return ["cut", ...[reply.inside, reply.outside, reply.face].map(e => e ?? "-"), ...counts].join(" ");
 }
