@@ -43,8 +43,8 @@ const ACTIONS = `(async count => {
 })`;
 
 export async function checkRandom(checks, hands) {
-    const { wrong, kinds } = await hands.run(`${ACTIONS}(120)`);
-    checks.same("nothing wrong in 120 random actions", wrong, []);
+    const { wrong, kinds } = await hands.run(`${ACTIONS}(200)`);
+    checks.same("nothing wrong in 200 random actions", wrong, []);
     checks.same("of every kind", kinds, ["cube", "cut", "flush", "open", "refused"]);
     checks.holds("nothing to tell", await hands.run("document.querySelector('#noengine').hidden"));
     await hands.run("desk.go(Infinity)");

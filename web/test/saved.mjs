@@ -4,6 +4,8 @@ import { createHash } from "node:crypto";
 import { readFileSync, readdirSync } from "node:fs";
 import { load } from "../engine.js";
 import { FILE_BYTES, FileRoom } from "../file.js";
+import { Bench } from "../bench.js";
+import { benchOf } from "../opened.js";
 import { bytesOf, recordsOf, turns } from "../session.js";
 import { TABLE_BYTES, Table } from "../table.js";
 
@@ -13,6 +15,7 @@ const hex = bytes => Buffer.from(bytes).toString("hex");
 
 // bytes in a few words, to be compared
 const sum = (...parts) => parts.reduce((hash, part) => hash.update(part), createHash("sha256")).digest("hex");
+const savedIn = (room, table) => room.save(table).file ?? Buffer.alloc(0);
 const slices = ({ counts, points, planes, words }) => sum(counts, points, planes, words);
 
 // the file that the page shows, and its changes, each with the number that it has
@@ -51,20 +54,20 @@ function written(table) {
 // every session that leaves a table: the lesson's and the stored ones
 export function sessions(parts) {
     const stored = readdirSync("tests/sessions").filter(name => name.endsWith(".session") && !name.startsWith("bad-"));
-    return [...parts.map(({ title, session }) => [title, bytesOf(recordsOf(session))]),
+    return [...parts.filter(({ from }) => from === null).map(({ title, session }) => [title, bytesOf(recordsOf(session))]),
         ...stored.map(name => [name, readFileSync(`tests/sessions/${name}`)])];
 }
 
 async function checkNumbers(checks, engine, table, room) {
     checks.same("no table, no file", room.save(table), { number: 3 });
     const line = [...turns(table, bytesOf(recordsOf("cube 1 1\ncut both 2 1 0")))].at(-1);
-    checks.same("the line cut in two", [line.line, hex(room.save(table).file)], ["cut 4 5 3 6 3 1", hex(SHOWN)]);
+    checks.same("the line cut in two", [line.line, hex(savedIn(room, table))], ["cut 4 5 3 6 3 1", hex(SHOWN)]);
     checks.same("no room for its last byte", [SHOWN.length - 1, SHOWN.length].map(length => new FileRoom(engine, length).save(table).number), [12, 0]);
     checks.holds("changes of every kind", CHANGES.length >= 15 && new Set(CHANGES.map(([, number]) => number)).size === 3);
     for (const [change, number] of CHANGES) {
         const before = slices(table);
         checks.same(change, await room.open(table, changed(change)), number);
-        if (number === 0) checks.same(`${change}: its one file`, hex(room.save(table).file), hex(changed(change)));
+        if (number === 0) checks.same(`${change}: its one file`, hex(savedIn(room, table)), hex(changed(change)));
         else checks.same(`${change}: as it was`, slices(table), before);
     }
     const planes = Buffer.concat([Buffer.from("4844010000000000ff0f", "hex"), ...Array(0xfff).fill(Buffer.concat([Buffer.from("HP"), Buffer.alloc(16)]))]);
@@ -93,21 +96,44 @@ function lists(table) {
         each(table.sizes.elements, e => row(table.element(e)))];
 }
 
+// the pieces of an opened table are those that lay there when it was saved: halves, a part of one, a side removed, another cut of the
+// same square, and a side that two cuts give
+const BENCHES = ["cut both 8 1 0 0", "cut both 8 1 0 0\ncut both 16 0 1 0", "cut inside 8 1 0 0\ncut both 14 0 1 0", "cut both 8 1 0 0\ncut both 8 0 1 0",
+    "cut both 8 1 0 0.5\ncut both 16 1 0 0", "cut both 16 0 1 0"];
+
+function checkBenches(checks, table, copy) {
+    for (const cuts of BENCHES) {
+        table.restore(new Uint8Array(TABLE_BYTES));
+        let bench = new Bench();
+        for (const { record, reply } of turns(table, bytesOf(recordsOf(`cube 2 1\n${cuts}`)))) bench = bench.after(record, reply, table);
+        const opened = benchOf(table, copy);
+        checks.same(`pieces after ${cuts}`, opened.pieces, bench.pieces);
+        checks.holds(`each apart from the others after ${cuts}`, opened.pieces.every(a => opened.pieces.every(b => a === b || opened.apart(a, b))));
+    }
+}
+
 export async function checkSaved(checks, parts) {
     const engine = await load(readFileSync("target/web/desk.wasm"), 2 * TABLE_BYTES + 2 * FILE_BYTES);
     const [table, other, room] = [new Table(engine), new Table(engine), new FileRoom(engine)];
     await checkNumbers(checks, engine, table, room);
+    checkBenches(checks, table, other);
     const files = [], wanted = [];
+    for (const { title, session, from, lines } of parts.filter(({ from }) => from !== null)) {
+        table.restore(new Uint8Array(TABLE_BYTES));
+        checks.holds(`${title}: the evening before`, [...turns(table, bytesOf(recordsOf(from)))].length > 0);
+        checks.same(`${title}: opened`, await room.open(other, savedIn(room, table)), 0);
+        checks.same(`${title}: goes on`, [...turns(other, bytesOf(recordsOf(session, other.dimension)))].map(({ line }) => line + "\n").join(""), lines);
+    }
     for (const [name, bytes] of sessions(parts)) {
         table.restore(new Uint8Array(TABLE_BYTES));
         const last = [...turns(table, bytes)].at(-1);
-        const { file } = room.save(table);
+        const file = savedIn(room, table);
         checks.same(`${name}: saved`, sum(file), sum(written(table)));
         other.restore(new Uint8Array(TABLE_BYTES).fill(0x5a));
         checks.same(`${name}: opened`, [await room.open(other, file), slices(other)], [0, slices(table)]);
         if (last.record.kind === "cut") {
             const again = [...turns(other, bytesOf([last.record]))].at(-1);
-            checks.same(`${name}: the same cut again`, [again.line, sum(room.save(other).file)], [last.line, sum(file)]);
+            checks.same(`${name}: the same cut again`, [again.line, sum(savedIn(room, other))], [last.line, sum(file)]);
         }
         files.push(hex(file));
         wanted.push(sum(JSON.stringify(lists(table))));
