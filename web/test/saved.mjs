@@ -14,15 +14,15 @@ const block = kind => new RegExp("^```" + kind + "\n([^]*?)^```$", "m").exec(PAG
 const hex = bytes => Buffer.from(bytes).toString("hex");
 
 // bytes in a few words, to be compared
-const sum = (...parts) => parts.reduce((hash, part) => hash.update(part), createHash("sha256")).digest("hex");
+export const sum = (...parts) => parts.reduce((hash, part) => hash.update(part), createHash("sha256")).digest("hex");
 const savedIn = (room, table) => room.save(table).file ?? Buffer.alloc(0);
 const slices = ({ counts, points, planes, words }) => sum(counts, points, planes, words);
 
 // the file that the page shows, and its changes, each with the number that it has
 const SHOWN = Buffer.from(block("file").split("\n").map(row => /^ *\d+  ((?:[0-9a-f]{2} ?)+)/.exec(row)?.[1] ?? "").join("").replaceAll(" ", ""), "hex");
-const CHANGES = [...PAGE.matchAll(/^\| `(.*)` \| (\d+) \|/gm)].map(([, change, number]) => [change, Number(number)]);
+export const CHANGES = [...PAGE.matchAll(/^\| `(.*)` \| (\d+) \|/gm)].map(([, change, number]) => [change, Number(number)]);
 
-function changed(change) {
+export function changed(change) {
     const only = /^only (\d+)$/.exec(change);
     if (only) return SHOWN.subarray(0, Number(only[1]));
     return change.split(", ").reduce((file, one) => {
