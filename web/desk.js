@@ -2,7 +2,7 @@
 import { TABLE_BYTES, Table } from "./table.js";
 import { fits, load } from "./engine.js";
 import { FILE_BYTES, FileRoom } from "./file.js";
-import { ask, beginsWithCut, bytesOf, printed, turns } from "./session.js";
+import { ask, bytesOf, printed, turns } from "./session.js";
 import { History } from "./history.js";
 import { Bench } from "./bench.js";
 import { openingOf } from "./opened.js";
@@ -107,10 +107,9 @@ class Desk {
         return { history, lesson: oldLesson, earlier };
     }
 
-    // a session's bytes in place of the session that is there; cuts at its front go on from the table that this one was opened with;
-    // gives words for what was bad, or none
-    run(bytes, lesson = null) {
-        const opened = beginsWithCut(bytes) ? this.history.opened : null;
+    // a session's bytes in place of the session that is there, from no table or from the step of one that was opened; gives words for
+    // what was bad, or none
+    run(bytes, lesson = null, opened = null) {
         const old = this.begin(lesson);
         this.live.restore(opened?.bytes ?? this.blank);
         if (opened) this.history.take(opened);

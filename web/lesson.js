@@ -34,7 +34,8 @@ async function openSaved(desk, session) {
 async function start(desk, i) {
     const { session, from } = desk.parts[i];
     const { history, lesson } = desk;
-    if (from === null || await openSaved(desk, from)) desk.run(bytesOf(recordsOf(session, desk.history.opened?.record.dimension)), i);
+    if (from === null) desk.run(bytesOf(recordsOf(session)), i);
+    else if (await openSaved(desk, from)) desk.run(bytesOf(recordsOf(session, desk.live.dimension)), i, desk.step);
     desk.earlier = history.step && { history, lesson }; // what the lesson ran on its way is none of those to go back to
     desk.go(0);
     $("lessonnext").focus({ preventScroll: true });

@@ -1,16 +1,18 @@
 // The session's records: each with its line, to go back to; as bytes for cutlist and as record's plain lines, out and in.
 import { $, download, enable, escaped } from "./dom.js";
 import { isFileOfTable } from "./file.js";
-import { NoRecord, bytesOf, lineOf, recordsOf } from "./session.js";
+import { NoRecord, beginsAnew, bytesOf, lineOf, recordsOf } from "./session.js";
 
 const linesOf = records => records.map(record => lineOf(record) + "\n").join("");
 
 // plain lines begin with a word, a comment or space; bytes begin with a mark, C U or C T
 const isLines = bytes => bytes.length === 0 || !(bytes[0] === 0x43 && (bytes[1] === 0x55 || bytes[1] === 0x54));
 
+// unless they begin with a cube, they go on from the table that was opened
 function run(desk, bytesNow) {
     try {
-        const says = desk.run(bytesNow());
+        const bytes = bytesNow();
+        const says = desk.run(bytes, null, beginsAnew(bytes) ? null : desk.history.opened);
         $("runsays").textContent = says || `${desk.history.records().length} records.`;
         desk.tell("changed");
     } catch (error) {

@@ -76,8 +76,6 @@ function recordBytes(record) {
 
 export const bytesOf = records => new Uint8Array(records.flatMap(recordBytes));
 
-export const beginsWithCut = bytes => bytes[0] === 0x43 && bytes[1] === 0x54;
-
 // the record at an offset and its length, or null for bad; a cut's length follows the dimension of the table that stands
 function recordAt(bytes, at, dimension) {
     const view = new DataView(bytes.buffer, bytes.byteOffset, bytes.byteLength);
@@ -90,6 +88,12 @@ function recordAt(bytes, at, dimension) {
     const floats = Array.from({ length: dimension + 1 }, (_, i) => view.getFloat64(at + 5 + 8 * i, true));
     const [kept, root] = [KEPT[bytes[at + 2]], view.getUint16(at + 3, true)];
     return { length, record: { kind: "cut", kept, root, normal: floats.slice(0, -1), distance: floats.at(-1) } };
+}
+
+// whether a session needs no table before it: its first record is a cube that is taken
+export function beginsAnew(bytes) {
+    const first = recordAt(bytes, 0, 0)?.record;
+    return first?.kind === "cube" && stands(first);
 }
 
 // CRC-32, as zlib and gzip have it, so that a sheet can be held against its session's bytes elsewhere

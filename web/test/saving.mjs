@@ -71,8 +71,18 @@ async function checkRecords(checks, hands, { monday }) {
         await hands.openTable(monday);
         checks.same(`${name} opened`, [await hands.open(join(hands.files, name)), await hands.printed()], ["1 records.", lines]);
     }
+    await hands.type("#radius", "0.5");
     await hands.press("#addcube");
-    checks.same("a cube begins anew", [await hands.text("#stepname"), await hands.line()], ["Record 2 of 2", "cube 27 8 6"]);
+    await hands.press("#cut");
+    const refused = await hands.printed();
+    await hands.press("#run");
+    checks.same("a refused cube is none", [refused.split("\n")[2], await hands.printed()], ["refused 2", refused]);
+    await hands.press("#newsession");
+    checks.same("a new session goes on from nothing", [await hands.printed(), await hands.run("desk.stands")], ["refused 2\n", false]);
+    await hands.press("#earlier");
+    await hands.type("#radius", "1");
+    await hands.press("#addcube");
+    checks.same("a cube begins anew", [await hands.text("#stepname"), await hands.line()], ["Record 4 of 4", "cube 27 8 6"]);
     await hands.download("#savetable", "desk.table");
     await hands.start(2);
     checks.same("no table was opened", [await hands.text("#goeson"), await hands.open(join(hands.files, "desk.txt"))],
