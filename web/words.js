@@ -47,7 +47,7 @@ export function refusal(number, { root, normal, distance, dimension }, table) {
     const reason = sentence(REFUSALS[number] ?? "this number is in no table of ours");
     if (number === 1 && dimension !== undefined) return `${reason} It is ${dimension}.`;
     if (number === 4 && Number.isInteger(root))
-        return `There is no element ${root}: in use are ${runs("E", 0, table.sizes.elements)}. ` +
+        return `There is no element ${root}: ${table.sizes.elements === 0 ? "none is in use" : `in use are ${runs("E", 0, table.sizes.elements)}`}. ` +
             "Vertices and hyperplanes are other lists, with numbers of their own.";
     if (number === 5 && normal?.every(Number.isFinite) && (Math.abs(distance) <= 262144 || Math.abs(distance) === Infinity))
         return `The normal is not unit: its squares add up to ${short(normal.reduce((sum, x) => sum + x * x, 0))}, not to 1.`;
