@@ -1,7 +1,7 @@
 -- A file has few enough bytes for their count to stand above the reply's number.
 use Prim.Native.Nat.{ℕ, _≤_}
 use mathlib.Core.Bool.{Bool, true, false, not}
-use mathlib.Core.List.{List, [], _++_}
+use mathlib.Core.List.{List, _++_}
 use mathlib.Core.Path.{_≡_, refl}
 use lib.Dec.{leb}
 use lib.ListN.{length, drop}
@@ -9,7 +9,7 @@ use Rattle.rules.specs.Limits.{desk}
 use Rattle.rules.specs.Lists.{if_then_else_}
 use Rattle.rules.specs.Memory.{Memory, decode, soundMemory}
 use Rattle.rules.specs.Questions.{no-answer, answer}
-use Rattle.rules.specs.Replies.{asked, listed}
+use Rattle.rules.specs.Replies.{listed}
 use Rattle.rules.specs.Files.{fileOf, saveReply}
 use Rattle.rules.specs.declared.ListReply.{ListReply}
 use Rattle.rules.specs.declared.ListReply.the-variants.{Refused, Listed}

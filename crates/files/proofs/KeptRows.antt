@@ -2,22 +2,21 @@
 -- One element more is kept by four words behind the others, which leave those as they are.
 use Prim.Native.Nat.{ℕ, zero, suc, _+_, _*_, _-_, _≤_, _<_}
 use mathlib.Core.Bool.{Bool, true, false}
-use mathlib.Core.List.{List, [], _∷_, _++_}
+use mathlib.Core.List.{List, []}
 use mathlib.Core.Path.{_≡_, refl, sym, ap, subst, _∙_}
 use native.Mathlib.Nat.{not-suc-le-zero}
 use native.Mathlib.Omega.{arith}
 use lib.Dec.{eqb, lit≤}
-use lib.ListN.{length, getD, set, take, drop, replicate, length-set}
+use lib.ListN.{length, getD, set, drop, replicate, length-set}
 use lib.Seq.{getD-set-same, getD-set-other, drop-at}
 use Rattle.rules.specs.Held.{Fits, elementsOf}
 use Rattle.rules.specs.Limits.{desk}
-use Rattle.rules.specs.Lists.{all, pad}
+use Rattle.rules.specs.Lists.{pad}
 use Rattle.rules.specs.Table.{Table, elementCount}
 use Rattle.rules.specs.Files.{elementIn}
 use Rattle.rules.proofs.ByteLaws.{got-value}
 use Rattle.rules.proofs.Laws.{eq-test, unlike-eq}
 use Rattle.space.specs.Chains.{storedRow}
-use Rattle.space.specs.Closed.{firstEnd, secondEnd}
 use Rattle.space.proofs.Laid.{length-padded}
 use Rattle.soundness.specs.declared.row.Spacing.{Spacing}
 use Rattle.soundness.specs.Known.{knownRows, KnownAlike}
@@ -25,7 +24,7 @@ use Rattle.soundness.specs.Words.{blankWords, pastBlank}
 use Rattle.soundness.proofs.KnownRows.{rank-is, first-is, second-is}
 use Rattle.soundness.proofs.RowLoops.{row-first, row-word}
 use Rattle.files.specs.Entries.{countAt, numbersAt, rowAt, RowReady}
-use Rattle.files.specs.Kept.{placeOf, keptRow, keptWith, KeptTo, RowKept}
+use Rattle.files.specs.Kept.{keptRow, keptWith, KeptTo, RowKept}
 use Rattle.files.specs.Judged.{SaysFitting}
 use Rattle.files.specs.Laid.{Whole}
 use Rattle.files.specs.Runs.{Run}

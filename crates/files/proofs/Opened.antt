@@ -1,19 +1,16 @@
 -- The reply of opening, by the tests in turn: the layout, the size of the lent room, and whether the table that the bytes say is sound.
 use Prim.Native.Nat.{ℕ}
 use mathlib.Core.Bool.{Bool, true, false, false≢true}
-use mathlib.Core.List.{List, []}
-use mathlib.Core.Path.{_≡_, refl, sym, ap, subst, _∙_}
-use lib.Ieee.{Float}
+use mathlib.Core.List.{List}
+use mathlib.Core.Path.{_≡_, refl, sym, ap, _∙_}
 use Rattle.rules.specs.Limits.{desk}
 use Rattle.rules.specs.Lists.{if_then_else_}
-use Rattle.rules.specs.Table.{Table}
 use Rattle.rules.specs.Sound.{sound}
 use Rattle.rules.specs.Memory.{Memory, encode, rightSize}
-use Rattle.rules.specs.Held.{memoryOf}
-use Rattle.rules.specs.Questions.{Asked, no-answer, answer}
-use Rattle.rules.specs.Files.{got, layout, judged, tableIn, opened, openReply}
+use Rattle.rules.specs.Questions.{no-answer, answer}
+use Rattle.rules.specs.Files.{layout, judged, tableIn, opened, openReply}
 use Rattle.files.specs.Judged.{Says, Judged}
-use Rattle.files.specs.Laid.{Whole, LayoutTold, breaks, stands}
+use Rattle.files.specs.Laid.{LayoutTold, breaks, stands}
 use Rattle.files.specs.declared.layout.Laid.{Laid}
 
 -- where the layout stands, the bytes are that of a table

@@ -6,13 +6,13 @@ use mathlib.Core.List.{List}
 use mathlib.Core.Path.{_≡_, refl, sym, ap, ap₂, subst, _∙_}
 use native.Mathlib.Nat.{le-of-eq}
 use native.Mathlib.Omega.{arith}
-use lib.Dec.{eqb, lit≤}
+use lib.Dec.{eqb}
 use lib.ListN.{length, getD, take, drop, replicate}
 use lib.Seq.{take-all}
 use Rattle.rules.specs.Held.{Fits, elementsOf}
 use Rattle.rules.specs.Limits.{desk}
 use Rattle.rules.specs.Lists.{pad}
-use Rattle.rules.specs.Table.{Table, elementCount}
+use Rattle.rules.specs.Table.{Table}
 use Rattle.rules.specs.Files.{elementIn}
 use Rattle.rules.proofs.Laws.{eq-test, unlike-eq}
 use Rattle.space.specs.Chains.{Indexed, storedRow}
@@ -23,7 +23,7 @@ use Rattle.space.proofs.Room.{elements-size}
 use Rattle.soundness.specs.declared.row.Spacing.{Spacing}
 use Rattle.soundness.specs.Known.{knownRows, KnownAlike, Spaced}
 use Rattle.soundness.specs.Tests.{RowReady, NewTested}
-use Rattle.soundness.specs.Words.{blankWords, pastBlank, Mask, EdgesLow, stampOf, rowSound, rowNew, rowsInUse, rowsDistinct, PastSeen}
+use Rattle.soundness.specs.Words.{blankWords, pastBlank, Mask, EdgesLow, stampOf, rowSound, rowsInUse, PastSeen}
 use Rattle.soundness.proofs.BoundaryLoops.{edges-none, edges-on}
 use Rattle.soundness.proofs.Distinct.{apart, apart-go, apart-no, apart-is}
 use Rattle.soundness.proofs.KnownRows.{alike-back, edges-alike, row-alike}
@@ -34,7 +34,7 @@ use Rattle.files.specs.Kept.{keptWith, KeptTo, RowReadyToKeep}
 use Rattle.files.specs.Laid.{Whole}
 use Rattle.files.specs.Runs.{Run}
 use Rattle.files.specs.declared.layout.Laid.{Laid}
-use Rattle.files.proofs.KeptRows.{one-table, says-fits, says-few, says-room, kept-none, kept-known, kept-go, read-long, read-blank}
+use Rattle.files.proofs.KeptRows.{one-table, says-fits, says-room, kept-none, kept-known, kept-go, read-long, read-blank}
 use Rattle.files.proofs.SaidTable.{RowHere, row-here}
 
 -- rows up to i were judged: what is left of a table that the bytes say

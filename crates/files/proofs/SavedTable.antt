@@ -30,7 +30,7 @@ use Rattle.soundness.proofs.SoundLines.{Own, records-own}
 use Rattle.soundness.proofs.SoundWhole.{CountsLow, fit-counts, words-memory}
 use Rattle.lent_bytes.specs.Lent.{Put}
 use Rattle.lent_bytes.proofs.Puts.{then as behind, put-as, put-length}
-use Rattle.files.specs.Saved.{headerSaved, pointSaved, planeSaved, rowSaved, areNumbers, pointClear, planeClear, countFits, saved, fileSize, RowsReady, HeaderReady, RowsUsed, SizeReady}
+use Rattle.files.specs.Saved.{headerSaved, pointSaved, planeSaved, rowSaved, areNumbers, pointClear, planeClear, countFits, saved, fileSize, RowsReady, HeaderReady, SizeReady}
 use Rattle.files.proofs.SavedSizes.{elements-few, points-few, planes-few}
 use Rattle.files.proofs.SavedRecords.{header-long, point-long, plane-long, rows-front-long}
 

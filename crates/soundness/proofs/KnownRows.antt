@@ -1,29 +1,28 @@
 -- The words that tell of earlier elements, read as rows: ranks and ends stand where the tests look for them. And where two memories say the same
 -- of the elements before a row, the row is sound in the one exactly if it is in the other: only a number below the row's own is ever looked at.
 use Prim.Native.Nat.{ℕ, zero, suc, _+_, _*_, _≤_, _<_}
-use mathlib.Core.Bool.{Bool, true, false, cond, _&&_, false≢true}
-use mathlib.Core.List.{List, [], _∷_, _++_, map}
+use mathlib.Core.Bool.{Bool, true, false, cond, _&&_}
+use mathlib.Core.List.{List, [], _∷_, map}
 use mathlib.Core.Path.{_≡_, refl, sym, ap, ap₂, subst, _∙_}
 use native.Mathlib.Nat.{mul-le-mul-right, suc-mul, zero-add}
 use native.Mathlib.Omega.{arith}
 use lib.Dec.{eqb, leb, ltb, lit≤}
-use lib.ListN.{length, getD, take, drop}
+use lib.ListN.{length, getD}
 use borrow.Author.Tests.{ltb-true}
 use Rattle.rules.specs.Held.{Wide}
 use Rattle.rules.specs.Limits.{desk}
 use Rattle.rules.specs.Lists.{all, member, occurrences, rises, upTo, upFrom, if_then_else_}
-use Rattle.rules.specs.Sound.{closed}
 use Rattle.rules.specs.Table.{boundary}
 use Rattle.rules.proofs.Counting.{length-up, getD-up}
 use Rattle.rules.proofs.FaceEdges.{Two, of-all}
-use Rattle.rules.proofs.Laws.{and-left, and-right, and-when, both-ways, eq-test, eqb-self, or-left, or-right}
+use Rattle.rules.proofs.Laws.{and-left, and-right, both-ways, eq-test}
 use Rattle.rules.proofs.RingWalked.{rule-ring, ring-rule, ring-along}
-use Rattle.space.specs.Closed.{EndsLow, firstEnd, secondEnd, rawEnds, asEdges, few, metTwice, ringRaw, closedRaw}
+use Rattle.space.specs.Closed.{EndsLow, firstEnd, secondEnd, rawEnds, asEdges, few, ringRaw, closedRaw}
 use Rattle.space.proofs.Laid.{laid-read}
 use Rattle.space.proofs.TwiceMet.{boundary-as}
 use Rattle.soundness.specs.declared.row.Spacing.{Spacing}
 use Rattle.soundness.specs.Known.{knownRow, knownRows, KnownAlike, Spaced}
-use Rattle.soundness.specs.Words.{EdgesLow, numbersFit, boundarySound, boundaryIn, elementSound, facetWords, headWords, cornerNamed, rowSound}
+use Rattle.soundness.specs.Words.{EdgesLow, boundarySound, boundaryIn, elementSound, facetWords, headWords, cornerNamed, rowSound}
 
 -- ---- the words as rows
 

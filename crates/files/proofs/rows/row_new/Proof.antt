@@ -2,12 +2,10 @@
 use Prim.Native.Nat.{ℕ, _+_}
 use mathlib.Core.Bool.{false≢true}
 use mathlib.Core.List.{List}
-use mathlib.Core.Option.{none}
 use mathlib.Core.Path.{_≡_, refl, sym, ap, subst, _∙_}
 use native.Mathlib.Nat.{le-of-eq}
 use native.Mathlib.Omega.{arith}
 use lib.Dec.{eqb}
-use lib.ListN.{take}
 use lib.Seq.{take-all}
 use borrow.Author.Needs.{needs}
 use Rattle.rules.specs.Held.{elementsOf}

@@ -1,7 +1,6 @@
 -- The answer is read off the tests that were taken, those of a vertex or those of a polytope.
 use mathlib.Core.Bool.{true, false, false≢true}
 use mathlib.Core.Path.{refl, sym, _∙_}
-use native.Mathlib.Omega.{arith}
 use Rattle.rules.proofs.Laws.{test-le, not-true, not-false}
 use Rattle.soundness.proofs.FaceLoops.{unmet-next}
 use Rattle.soundness.specs.Known.{knownRows}
