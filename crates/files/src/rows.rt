@@ -25,7 +25,7 @@ ghost use Rattle.files.specs.Kept.{keptRow, keptWith, RowKept, SearchKep
 // What is kept of an element: its rank, the first two numbers of its boundary, and how far behind the first record of an element its own stands.
 const KEPT: usize = 4;
 
-const KEPT_WORDS: usize = 2048;
+const KEPT_WORDS: usize = KEPT * ELEMENTS;
 
 // Whether the row of an element that is kept is the given one: its first boundary number nearly always tells, and spares reading its record again.
 fn same_as_kept(
