@@ -10,11 +10,13 @@
 
 #define TABLE counts, DESK_COUNTS, points, DESK_POINTS, planes, DESK_PLANES, elements, DESK_ELEMENTS
 #define SIZE(array) (int)(sizeof(array) / sizeof *(array))
-#define KINDS 8
+#define KINDS 10
 #define BUDGET 0.2e9
 
 static uint16_t counts[DESK_COUNTS], elements[DESK_ELEMENTS], list[512];
 static double points[DESK_POINTS], planes[DESK_PLANES];
+static uint8_t file[DESK_LONGEST_FILE];
+static size_t file_size;
 
 /* With one soundness test more before each cut, the difference is what the cut's own test costs. */
 static int one_test_more, cuts;
@@ -157,10 +159,12 @@ static void slanted_cuts(int steps) {
         uint16_t inside = inside_of(slanted_cut(step, piece));
         if (inside != DESK_NONE) piece = inside;
     }
+    file_size = desk_file_size(desk_save(TABLE, file, sizeof file));
 }
 
-/* Kind 0 is the soundness test alone, which every other call makes first. The root of a question is the last piece; the
-   greatest common one is of the first two elements of its boundary, which stands from the fifth word of its row. */
+/* Kind 0 is the soundness test alone, which every other call makes first, and opening makes of the file. The root of a question is the
+   last piece; the greatest common one is of the first two elements of its boundary, which stands from the fifth word of its row. The
+   file that is opened is the table's own. */
 static uint64_t call(int kind) {
     uint16_t last = (uint16_t)(counts[1] - 1);
     const uint16_t *roots = elements + 36 * last + 4;
@@ -172,6 +176,8 @@ static uint64_t call(int kind) {
     case 5: return desk_edges_in_order(TABLE, 8, list, SIZE(list));
     case 6: return desk_has_primordial_facet(TABLE, 26);
     case 7: return slanted_cut(0, 26);
+    case 8: return desk_save(TABLE, file, sizeof file);
+    case 9: return desk_open(TABLE, file, file_size);
     default: return desk_is_sound(TABLE);
     }
 }

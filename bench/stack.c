@@ -13,6 +13,8 @@
 
 static uint16_t counts[DESK_COUNTS], elements[DESK_ELEMENTS], list[512];
 static double points[DESK_POINTS], planes[DESK_PLANES];
+static uint8_t file[DESK_LONGEST_FILE];
+static size_t file_size;
 static const uint16_t cube = 80, face = 8, roots[2] = {80, 80};
 
 static void no_call(void) {}
@@ -31,6 +33,8 @@ static void vertex_set(void) { desk_vertex_set(TABLE, cube, list, 512); }
 static void greatest_common(void) { desk_greatest_common_subelements(TABLE, roots, 2, list, 512); }
 static void edges_in_order(void) { desk_edges_in_order(TABLE, face, list, 512); }
 static void primordial_facet(void) { desk_has_primordial_facet(TABLE, cube); }
+static void save_file(void) { file_size = desk_file_size(desk_save(TABLE, file, sizeof file)); }
+static void open_file(void) { desk_open(TABLE, file, file_size); }
 
 static const struct {
     const char *name;
@@ -45,6 +49,8 @@ static const struct {
     {"desk_greatest_common_subelements", greatest_common},
     {"desk_edges_in_order", edges_in_order},
     {"desk_has_primordial_facet", primordial_facet},
+    {"desk_save", save_file},
+    {"desk_open", open_file},
 };
 
 static int bytes_changed(void (*call)(void)) {

@@ -33,7 +33,8 @@ export const answer = {
         aside.restore(live.bytes);
         const { places, says } = meaning({ ...step, table: live, copy: aside });
         const [word] = step.line.split(" ");
-        $("stepname").textContent = `Record ${history.at + 1} of ${history.steps.length}`;
+        const skip = history.opened ? 1 : 0; // opening is no record
+        $("stepname").textContent = step.record.kind === "open" ? "Opened" : `Record ${history.at + 1 - skip} of ${history.steps.length - skip}`;
         $("asked").textContent = lineOf(step.record);
         $("line").dataset.line = step.line;
         $("line").innerHTML = `<span class="word ${word}">${escaped(word)}</span>${slots(step)}`;

@@ -1,17 +1,18 @@
 // What stands and what is aimed at: the one state of the page. Panels read it, change it through these calls, and are told.
 import { TABLE_BYTES, Table } from "./table.js";
 import { fits, load } from "./engine.js";
+import { FILE_BYTES, FileRoom } from "./file.js";
 import { ask, bytesOf, printed, turns } from "./session.js";
 import { History } from "./history.js";
 import { Bench } from "./bench.js";
-import { Shapes } from "./shapes.js";
-import { previewOf, removedSides } from "./preview.js";
-import { axis } from "./plane.js";
+import { openingOf } from "./opened.js";
+import { previewOf } from "./preview.js";
+import { NOTHING, stepOf } from "./step.js";
+import { aimAfter, aimOf } from "./target.js";
 
-const NOTHING = { elements: 0, vertices: 0, hyperplanes: 0 };
 const VIEW = { yaw: 30, pitch: 35, roll: 25, apart: 0 };
 
-export const loadDesk = async (bytes, parts) => new Desk(await load(bytes, 3 * TABLE_BYTES), parts);
+export const loadDesk = async (bytes, parts) => new Desk(await load(bytes, 3 * TABLE_BYTES + FILE_BYTES), parts);
 
 class Desk {
     constructor(engine, parts) {
@@ -20,7 +21,8 @@ class Desk {
         this.live = new Table(engine); // the table that stands
         this.trial = new Table(engine); // the copy that is cut before a cut is made
         this.aside = new Table(engine); // a copy for what is asked beside an answer
-        this.blank = this.live.save();
+        this.room = new FileRoom(engine); // for the file that is saved or opened
+        this.blank = this.live.bytes.slice();
         this.history = new History();
         this.earlier = null; // the session before this one and its lesson, if there was one
         this.lesson = null; // which part of it is gone through
@@ -43,13 +45,8 @@ class Desk {
         return this.step?.bench ?? new Bench();
     }
 
-    get cubeStep() {
-        const { steps, at } = this.history;
-        return steps.findLastIndex(({ record, reply }, i) => i <= at && record.kind === "cube" && reply.number === 0);
-    }
-
     get radius() {
-        return this.history.steps[this.cubeStep]?.record.radius ?? 1;
+        return this.history.beginning?.record.radius ?? 1;
     }
 
     // ---- telling the panels: `changed` after a record or a step, `aimed` when the plane moved, `looked` when the view did
@@ -76,20 +73,8 @@ class Desk {
 
     // ---- records
 
-    // where nothing was added the table is the same, for old entries never change, and is kept once
     take(record, reply, line, before) {
-        const { live, step } = this;
-        const isNew = record.kind === "cube" && reply.number === 0;
-        const isSame = step !== null && !isNew && Object.keys(NOTHING).every(list => step.after[list] === live.sizes[list]);
-        const older = isNew || !step ? null : step.shapes;
-        this.aside.restore(live.bytes);
-        this.history.take({
-            record, reply, line, before: isNew ? NOTHING : before, after: live.sizes,
-            saved: isSame ? step.saved : live.save(),
-            shapes: isSame ? step.shapes : new Shapes(live, older),
-            bench: this.bench.after(record, reply, live),
-            removed: removedSides(this.aside, record, reply),
-        });
+        this.history.take(stepOf(this, { record, reply, line, before }));
     }
 
     make(record) {
@@ -115,25 +100,52 @@ class Desk {
         this.tell("changed");
     }
 
-    // a session's bytes in place of the session that is there; gives words for what was bad, or none
-    run(bytes, lesson = null) {
+    // a session of its own; the one before it is kept, to go back to
+    begin(lesson) {
         const { history, lesson: oldLesson, earlier } = this;
         Object.assign(this, { history: new History(), lesson, earlier: history.step && { history, lesson: oldLesson } });
-        this.live.restore(this.blank);
+        return { history, lesson: oldLesson, earlier };
+    }
+
+    // a session's bytes in place of the session that is there, from no table or from the step of one that was opened; gives words for
+    // what was bad, or none
+    run(bytes, lesson = null, opened = null) {
+        const old = this.begin(lesson);
+        this.live.restore(opened?.bytes ?? this.blank);
+        if (opened) this.history.take(opened);
         let says = "";
-        let before = NOTHING;
+        let before = opened?.after ?? NOTHING;
         for (const { record, reply, line, bad } of turns(this.live, bytes)) {
             if (bad !== undefined) says = `${line}: the bytes from ${bad} on are no record.`;
             else this.take(record, reply, line, before);
             before = this.live.sizes;
         }
-        if (!this.step) {
-            Object.assign(this, { history, lesson: oldLesson, earlier });
-            this.live.restore(this.step?.saved ?? this.blank);
+        if (this.history.records().length === 0) {
+            Object.assign(this, old);
+            this.live.restore(this.step?.bytes ?? this.blank);
             return `${says || "There is no record."} The session is as it was.`;
         }
         this.aimNext();
         return says;
+    }
+
+    // ---- the table's file
+
+    // { number } when refused, else { number: 0, file }
+    save() {
+        return this.room.save(this.live);
+    }
+
+    // the table of a file in place of the one that stands, as the beginning of a session of its own; gives the number of a refusal, or 0
+    async open(name, file) {
+        const number = await this.room.open(this.live, file);
+        if (number !== 0) return number;
+        this.begin(null);
+        const record = openingOf(name, file, this.live);
+        this.take(record, { number }, printed(record, { number }, this.live.sizes), NOTHING);
+        this.aimNext();
+        this.tell("changed");
+        return 0;
     }
 
     backToEarlier() {
@@ -148,7 +160,7 @@ class Desk {
 
     go(to) {
         this.history.go(to);
-        this.live.restore(this.step?.saved ?? this.blank);
+        this.live.restore(this.step?.bytes ?? this.blank);
         this.aimNext();
         this.tell("changed");
     }
@@ -157,9 +169,9 @@ class Desk {
         if (!this.history.can(steps)) return;
         const undone = steps === -1 ? this.step.record : null;
         this.history.go(this.history.at + steps);
-        this.live.restore(this.step.saved);
+        this.live.restore(this.step.bytes);
         this.aimNext();
-        if (undone?.kind === "cut") this.aimLike(undone, true);
+        if (undone?.kind === "cut" && undone.normal.length === this.live.dimension) Object.assign(this.aim, aimOf(undone, true));
         this.tell("changed");
     }
 
@@ -170,21 +182,8 @@ class Desk {
         return { kind: "cut", kept, root, normal, distance };
     }
 
-    aimLike({ normal, distance, kept, root }, aiming) {
-        if (normal.length === this.live.dimension) Object.assign(this.aim, { normal, distance, kept, root, aiming });
-    }
-
-    // after a cube, its last element; after a cut, a piece that it answered
     aimNext() {
-        const { record, reply } = this.step ?? {};
-        if (!this.stands) return;
-        if (record.kind === "cube" || record.normal.length !== this.live.dimension) {
-            const root = this.live.sizes.elements - 1;
-            Object.assign(this.aim, { normal: axis(this.live.dimension, 0), distance: 0, kept: "both", root, aiming: reply.number === 0 });
-            return;
-        }
-        this.aimLike(record, false);
-        if (reply.number === 0 && !reply.flush && this.live.isFull(record.root)) this.aim.root = reply.inside ?? reply.outside ?? record.root;
+        if (this.stands) Object.assign(this.aim, aimAfter(this.step, this.live));
     }
 
     aimAt(change) {

@@ -18,5 +18,11 @@ export function named(target) {
     return { list, n: Number(part.dataset[list]) };
 }
 
+export function download(name, type, content) {
+    const href = URL.createObjectURL(new Blob([content], { type }));
+    Object.assign(document.createElement("a"), { download: name, href }).click();
+    setTimeout(() => URL.revokeObjectURL(href), 1000);
+}
+
 // a button that can do nothing now stays where the keyboard finds it
 export const enable = (button, can) => button.setAttribute("aria-disabled", String(!can));

@@ -3,7 +3,7 @@
 export const NONE = 0xffff;
 const LIST_WORDS = 512;
 const CALLS = ["desk_is_sound", "desk_cube", "desk_cut", "desk_subelements_of", "desk_subelements_with_rank", "desk_vertex_set",
-    "desk_greatest_common_subelements", "desk_edges_in_order", "desk_has_primordial_facet"];
+    "desk_greatest_common_subelements", "desk_edges_in_order", "desk_has_primordial_facet", "desk_save", "desk_open"];
 
 export const fits = (n, bits) => Number.isInteger(n) && n >= 0 && n < 2 ** bits;
 
@@ -13,17 +13,18 @@ const whole = n => (fits(n, 32) ? n : 2 ** 32 - 1);
 
 // `room` is how many bytes will be lent: memory that grows later would take the views of what was lent before.
 export async function load(bytes, room) {
-    const { instance } = await WebAssembly.instantiate(bytes, {});
+    const { module, instance } = await WebAssembly.instantiate(bytes, {});
     const missing = CALLS.filter(name => typeof instance.exports[name] !== "function");
     if (missing.length > 0) throw new Error(`the module has no ${missing.join(", ")}`);
-    return new Engine(instance.exports, room + 4 * LIST_WORDS + 64);
+    return new Engine(module, instance, room);
 }
 
 class Engine {
-    constructor(exports, room) {
+    constructor(module, { exports }, room) {
+        this.module = module;
         this.calls = Object.fromEntries(CALLS.map(name => [name, exports[name]]));
         this.free = (exports.__heap_base.value + 15) & ~15;
-        const short = this.free + room - exports.memory.buffer.byteLength;
+        const short = this.free + room + 4 * LIST_WORDS + 64 - exports.memory.buffer.byteLength;
         if (short > 0) exports.memory.grow(Math.ceil(short / 65536));
         this.memory = exports.memory.buffer;
         this.list = this.lend(2 * LIST_WORDS);
@@ -34,6 +35,11 @@ class Engine {
         const at = this.free;
         this.free = (at + bytes + 15) & ~15;
         return at;
+    }
+
+    // the same engine with a memory of its own
+    async another(room) {
+        return new Engine(this.module, await WebAssembly.instantiate(this.module, {}), room);
     }
 
     // ---- each takes a table as it is lent: pointer and length, four times
@@ -59,6 +65,17 @@ class Engine {
             return e === NONE ? null : e;
         };
         return { number, flush: false, inside: place(16n), outside: place(32n), face: place(48n) };
+    }
+
+    // { number } when refused, else { number: 0, size }: so many bytes at the front of the room
+    save(lent, at, length) {
+        const word = BigInt.asUintN(64, this.calls.desk_save(...lent, at, BigInt(length)));
+        const number = Number(word & 0xffn);
+        return number === 0 ? { number, size: Number(word >> 8n) } : { number };
+    }
+
+    open(lent, at, length) {
+        return this.calls.desk_open(...lent, at, BigInt(length)) >>> 0;
     }
 
     // { number } when refused, else { number: 0, list }

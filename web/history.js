@@ -25,8 +25,23 @@ export class History {
         this.at = Math.max(0, Math.min(this.steps.length - 1, to));
     }
 
-    // the records up to where we are
-    records() {
-        return this.steps.slice(0, this.at + 1).map(({ record }) => record);
+    // the step of the table that the session goes on from, if it was opened
+    get opened() {
+        const [first] = this.steps;
+        return first?.record.kind === "open" ? first : null;
+    }
+
+    // the step that the table here begins with: a cube that was taken, or a table that was opened
+    get beginning() {
+        return this.steps[this.beginsAt] ?? null;
+    }
+
+    get beginsAt() {
+        return this.steps.findLastIndex(({ record, reply }, i) => i <= this.at && record.kind !== "cut" && reply.number === 0);
+    }
+
+    // the records up to where we are; opening is none
+    records(from = 0) {
+        return this.steps.slice(from, this.at + 1).map(({ record }) => record).filter(({ kind }) => kind !== "open");
     }
 }

@@ -1,4 +1,4 @@
-// The keyboard: in the drawing all that a hand does, and undo and redo everywhere.
+// The keyboard: in the drawing all that a hand does; undo and redo, saving and opening everywhere.
 import { $ } from "./dom.js";
 import { anglesOf, axis, normalOf, rounded } from "./plane.js";
 import { KEPT } from "./session.js";
@@ -55,11 +55,14 @@ function inDrawing(event, desk) {
     event.preventDefault();
 }
 
+const FILES = { s: "savetable", o: "opentable" };
+
 function everywhere(event, desk) {
     const isWriting = event.target.matches("textarea, input:not([type=range]):not([type=radio]):not([type=checkbox])");
-    if (!(event.ctrlKey || event.metaKey) || isWriting) return;
     const key = event.key.toLowerCase();
-    if (key === "z" && !event.shiftKey) desk.by(-1);
+    if (!(event.ctrlKey || event.metaKey) || (isWriting && !FILES[key])) return;
+    if (FILES[key]) $(FILES[key]).click();
+    else if (key === "z" && !event.shiftKey) desk.by(-1);
     else if (key === "y" || key === "z") desk.by(1);
     else return;
     event.preventDefault();

@@ -2,24 +2,41 @@
 import { $, enable, escaped } from "./dom.js";
 import { bytesOf, lineOf, recordsOf } from "./session.js";
 
-// every session: its title, the session, the lines that it prints, and the text around it
+// every session: its title, the session, the lines that it prints, and the text around it; cuts that go on from a saved table have the
+// session that left it
 export function partsOf(markdown) {
     return markdown.split(/^## /m).slice(1).flatMap(part => {
         const title = part.split("\n")[0].trim();
-        const blocks = kind => [...part.matchAll(new RegExp("^```" + kind + "\\n([^]*?)^```$", "gm"))].map(found => found[1]);
+        const all = [];
+        let last = null;
+        for (const [, kind, text] of part.matchAll(/^```(\w+)\n([^]*?)^```$/gm)) {
+            if (kind === "session") all.push({ session: last = text, from: null });
+            if (kind === "opened") all.push({ session: text, from: last });
+            if (kind === "lines" || kind === "prints") all.at(-1).lines = text;
+        }
         const text = part.slice(part.indexOf("\n")).replace(/^```[^]*?^```$/gm, "").trim();
-        const paragraphs = text.split(/\n\s*\n/).map(words => words.replace(/\s+/g, " "));
-        const [sessions, lines] = [blocks("session"), blocks("lines")];
-        const named = i => (sessions.length === 1 ? title : `${title} (${i + 1} of ${sessions.length})`);
-        return sessions.map((session, i) => ({ title: named(i), session, lines: lines[i], paragraphs }));
+        const paragraphs = text.split(/\n\s*\n/).map(words => (isCode(words) ? words : words.replace(/\s+/g, " ")));
+        return all.map((one, i) => ({ ...one, title: all.length === 1 ? title : `${title} (${i + 1} of ${all.length})`, paragraphs }));
     });
 }
 
+const isCode = text => text.startsWith("    ");
 const marked = text => escaped(text).replace(/`([^`]+)`/g, "<code>$1</code>").replace(/\*([^*]+)\*/g, "<em>$1</em>");
+const paragraph = text => (isCode(text) ? `<pre>${escaped(text.replace(/^ {4}/gm, ""))}</pre>` : `<p>${marked(text)}</p>`);
 
-function start(desk, i) {
-    const { session } = desk.parts[i];
-    desk.run(bytesOf(recordsOf(session)), i);
+// the table that a session leaves, saved and opened
+async function openSaved(desk, session) {
+    desk.run(bytesOf(recordsOf(session)));
+    const { number, file } = desk.save();
+    return number === 0 && await desk.open("monday.table", file) === 0;
+}
+
+async function start(desk, i) {
+    const { session, from } = desk.parts[i];
+    const { history, lesson } = desk;
+    if (from === null) desk.run(bytesOf(recordsOf(session)), i);
+    else if (await openSaved(desk, from)) desk.run(bytesOf(recordsOf(session, desk.live.dimension)), i, desk.step);
+    desk.earlier = history.step && { history, lesson }; // what the lesson ran on its way is none of those to go back to
     desk.go(0);
     $("lessonnext").focus({ preventScroll: true });
 }
@@ -57,7 +74,7 @@ export const lesson = {
         $("lessontitle").textContent = `${i + 1}. ${title}`;
         $("lessonsteps").innerHTML = history.steps.map((step, k) => row(step, k, history.at)).join("");
         $("lessonat").textContent = `step ${history.at + 1} of ${history.steps.length}`;
-        $("lessontext").innerHTML = paragraphs.map(text => `<p>${marked(text)}</p>`).join("");
+        $("lessontext").innerHTML = paragraphs.map(paragraph).join("");
         enable($("lessonnext"), history.can(1));
         enable($("lessonback"), history.can(-1));
     },

@@ -79,12 +79,20 @@ function cubeSays({ record, after, table }) {
     return [`A new table with the ${name} of radius ${short(record.radius)}: ${counts.join(", ")}, and the ${name} itself, ${E(last)}.`];
 }
 
+// nothing of how it came about is in a file
+function openSays({ record, after }) {
+    const counts = [["elements", "element"], ["vertices", "vertex"], ["hyperplanes", "hyperplane"]].map(([list, one]) => count(after[list], one, list));
+    return [`The table of ${record.name}: ${counts.slice(0, 2).join(", ")} and ${counts[2]}. Every entry has the number that it had when it was saved.`,
+        "A file holds a table and no session: which cuts added its entries it does not say. A cut that was made before answers as it did, and adds nothing."];
+}
+
 // { places, says }: the three places, or none, and sentences. `copy` is a copy of the table, for what is asked beside the answer
 export function meaning(answer) {
     const { record, reply, before, after, table } = answer;
     if (reply.number !== 0)
         return { places: [], says: [refusal(reply.number, record, table), "A refused record leaves the table as it was."] };
     if (record.kind === "cube") return { places: [], says: cubeSays(answer) };
+    if (record.kind === "open") return { places: [], says: openSays(answer) };
     const says = [added(before, after)];
     if (reply.flush) return { places: [], says: [`${E(record.root)} lies in the plane: it is flush, and neither side can be told.`, ...says] };
     return {

@@ -12,10 +12,11 @@ import { keys } from "./keys.js";
 import { lists } from "./lists.js";
 import { questions } from "./questions.js";
 import { records } from "./records.js";
+import { saving } from "./saving.js";
 import { sheet } from "./sheet.js";
 import { view } from "./view.js";
 
-const PANELS = [facets, view, aim, answer, lists, lesson, records, questions, sheet, keys];
+const PANELS = [facets, view, aim, answer, lists, lesson, records, saving, questions, sheet, keys];
 
 async function fetched(name) {
     const response = await fetch(name);

@@ -12,7 +12,7 @@ function outline(copy, e, name) {
 }
 
 export function removedSides(copy, record, reply) {
-    if (record.kind === "cube" || record.kept === "both" || reply.number !== 0 || reply.flush || !copy.isFull(record.root)) return [];
+    if (record.kind !== "cut" || record.kept === "both" || reply.number !== 0 || reply.flush || !copy.isFull(record.root)) return [];
     const both = ask(copy, record, "both");
     if (both.number !== 0) return [];
     return ["inside", "outside"].filter(name => reply[name] === null && both[name] !== null).map(name => outline(copy, both[name], name));

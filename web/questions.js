@@ -39,7 +39,7 @@ export const questions = {
     },
 
     changed(desk) {
-        if (desk.step.record.kind === "cube" && desk.stands) $("questionroots").value = desk.live.sizes.elements - 1;
+        if (desk.step.record.kind !== "cut" && desk.stands) $("questionroots").value = desk.live.sizes.elements - 1;
         show(desk);
     },
 };

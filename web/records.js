@@ -1,22 +1,19 @@
 // The session's records: each with its line, to go back to; as bytes for cutlist and as record's plain lines, out and in.
-import { $, enable, escaped } from "./dom.js";
-import { NoRecord, bytesOf, lineOf, recordsOf } from "./session.js";
-
-function download(name, type, content) {
-    const href = URL.createObjectURL(new Blob([content], { type }));
-    Object.assign(document.createElement("a"), { download: name, href }).click();
-    setTimeout(() => URL.revokeObjectURL(href), 1000);
-}
+import { $, download, enable, escaped } from "./dom.js";
+import { isFileOfTable } from "./file.js";
+import { NoRecord, beginsAnew, bytesOf, lineOf, recordsOf } from "./session.js";
 
 const linesOf = records => records.map(record => lineOf(record) + "\n").join("");
 
 // plain lines begin with a word, a comment or space; bytes begin with a mark, C U or C T
 const isLines = bytes => bytes.length === 0 || !(bytes[0] === 0x43 && (bytes[1] === 0x55 || bytes[1] === 0x54));
 
+// unless they begin with a cube, they go on from the table that was opened
 function run(desk, bytesNow) {
     try {
-        const says = desk.run(bytesNow());
-        $("runsays").textContent = says || `${desk.history.steps.length} records.`;
+        const bytes = bytesNow();
+        const says = desk.run(bytes, null, beginsAnew(bytes) ? null : desk.history.opened);
+        $("runsays").textContent = says || `${desk.history.records().length} records.`;
         desk.tell("changed");
     } catch (error) {
         if (!(error instanceof NoRecord)) throw error;
@@ -24,17 +21,23 @@ function run(desk, bytesNow) {
     }
 }
 
-async function open(desk, file) {
-    const bytes = new Uint8Array(await file.arrayBuffer());
+// what plain lines say; the first may be a cut of the table that was opened
+const read = (desk, text) => bytesOf(recordsOf(text, desk.history.opened?.record.dimension));
+
+export function openSession(desk, bytes) {
     run(desk, () => {
+        if (isFileOfTable(bytes)) throw new NoRecord("this is a saved table and no session: open it with Open table, at the top");
         if (!isLines(bytes)) return bytes;
         const text = new TextDecoder().decode(bytes);
-        return /^[\s\x21-\x7e]*$/.test(text) ? bytesOf(recordsOf(text)) : bytes;
+        return /^[\s\x21-\x7e]*$/.test(text) ? read(desk, text) : bytes;
     });
 }
 
+// cutlist has no record that opens a table, so its records are read only where that table stands
+const goesOn = ({ name }) => `These records go on from the table of ${name}. Open that first, and then them; cutlist has no table for them.`;
+
 const row = ({ record, line }, i, at) =>
-    `<li class="${i === at ? "now" : i > at ? "later" : ""}"><button type="button" data-step="${i}"${i === at ? ' aria-current="step"' : ""}>` +
+    `<li class="${i === at ? "now" : i > at ? "later" : ""}${record.kind === "open" ? " opened" : ""}"><button type="button" data-step="${i}"${i === at ? ' aria-current="step"' : ""}>` +
     `<code>${escaped(lineOf(record))}</code><code class="gives">${escaped(line)}</code></button></li>`;
 
 export const records = {
@@ -42,11 +45,11 @@ export const records = {
         const now = () => desk.history.records();
         $("savebytes").onclick = () => download("desk.session", "application/octet-stream", bytesOf(now()));
         $("savelines").onclick = () => download("desk.txt", "text/plain", linesOf(now()));
-        $("run").onclick = () => run(desk, () => bytesOf(recordsOf($("lines").value)));
+        $("run").onclick = () => run(desk, () => read(desk, $("lines").value));
         $("earlier").onclick = () => desk.backToEarlier();
         $("open").onchange = async ({ target }) => {
             const [file] = target.files;
-            if (file) await open(desk, file);
+            if (file) openSession(desk, new Uint8Array(await file.arrayBuffer()));
             target.value = "";
         };
         $("undo").onclick = () => desk.by(-1);
@@ -62,6 +65,7 @@ export const records = {
     changed({ history, earlier }) {
         $("history").innerHTML = history.steps.map((step, i) => row(step, i, history.at)).join("");
         $("lines").value = linesOf(history.records());
+        $("goeson").textContent = history.opened ? goesOn(history.opened.record) : "";
         enable($("undo"), history.can(-1));
         enable($("redo"), history.can(1));
         enable($("earlier"), earlier !== null);

@@ -1,4 +1,5 @@
-// Sessions: record's plain lines, the bytes that cutlist reads, and the lines that it prints.
+// Sessions: record's plain lines, the bytes that cutlist reads, and the lines that it prints. A table that was opened begins a session
+// as a cube does; it is no record, and its line is the page's own.
 import { fits } from "./engine.js";
 
 export const KEPT = ["neither", "inside", "outside", "both"];
@@ -40,19 +41,21 @@ function recordOf(line) {
 
 const stands = ({ dimension, radius }) => dimension >= 1 && dimension <= 4 && radius >= 1 && radius <= 65536;
 
-// a cut's length follows the cube that stands: with another the bytes of the next record would be read as its own
-export function recordsOf(text) {
-    let dimensions = 0;
+// a cut's length follows the table that stands, at first one that was opened: with another the bytes of the next record would be read
+// as its own
+export function recordsOf(text, opened = 0) {
+    let dimensions = opened;
     return text.split("\n").map(line => line.split("#")[0]).filter(line => line.trim() !== "").map(line => {
         const record = recordOf(line);
         if (record.kind === "cube" && stands(record)) dimensions = record.dimension;
         if (record.kind === "cut" && record.normal.length !== dimensions)
-            throw new NoRecord(`no record: ${line.trim()}: ${dimensions ? `the cube that stands has ${dimensions} dimensions` : "no cube stands"}`);
+            throw new NoRecord(`no record: ${line.trim()}: ${dimensions ? `the table that stands has ${dimensions} dimensions` : "no table stands"}`);
         return record;
     });
 }
 
 export function lineOf(record) {
+    if (record.kind === "open") return `open ${record.name}`;
     return record.kind === "cube"
         ? `cube ${record.dimension} ${plain(record.radius)}`
         : `cut ${record.kept} ${record.root} ${[...record.normal, record.distance].map(plain).join(" ")}`;
@@ -87,6 +90,12 @@ function recordAt(bytes, at, dimension) {
     return { length, record: { kind: "cut", kept, root, normal: floats.slice(0, -1), distance: floats.at(-1) } };
 }
 
+// whether a session needs no table before it: its first record is a cube that is taken
+export function beginsAnew(bytes) {
+    const first = recordAt(bytes, 0, 0)?.record;
+    return first?.kind === "cube" && stands(first);
+}
+
 // CRC-32, as zlib and gzip have it, so that a sheet can be held against its session's bytes elsewhere
 export function checksum(bytes) {
     let sum = 0xffffffff;
@@ -108,7 +117,7 @@ export function ask(table, record, kept = record.kept) {
 export function printed(record, reply, { elements, vertices, hyperplanes }) {
     const counts = [elements, vertices, hyperplanes];
     if (reply.number !== 0) return `refused ${reply.number}`;
-    if (record.kind === "cube") return ["cube", ...counts].join(" ");
+    if (record.kind !== "cut") return [record.kind, ...counts].join(" ");
     if (reply.flush) return ["flush", ...counts].join(" ");
     return ["cut", ...[reply.inside, reply.outside, reply.face].map(e => e ?? "-"), ...counts].join(" ");
 }

@@ -2,8 +2,9 @@
 // the engine's; what is printed is this sheet and nothing else.
 import { $, tag } from "./dom.js";
 import { picture } from "./drawing.js";
-import { bytesOf, checksum, lineOf, plain } from "./session.js";
-import { AXES, MANY, SHAPES } from "./words.js";
+import { originOf, promiseOf, tableOf } from "./origin.js";
+import { plain } from "./session.js";
+import { AXES, MANY } from "./words.js";
 
 const NEAR = 1e-4; // of the radius: nearer than this, two corners look alike in a few digits
 
@@ -48,7 +49,7 @@ function facetTable(table, e, rank) {
     if (rank !== 2 && rank !== 4) return "";
     const row = facet => `<tr><td>${tag("E", facet)}</td><td class="walk">${tags("v", table.list("vertexSet", facet))}</td>${planeCells(table, facet)}</tr>`;
     const rows = table.element(e).boundary.map(row);
-    return `<table class="facets"><caption>${rank === 2 ? "Edges" : "Bodies"} and their planes</caption>
+    return `<table class="planes"><caption>${rank === 2 ? "Edges" : "Bodies"} and their planes</caption>
         ${head(["element", "corners", ...PLANE])}<tbody>${rows.join("")}</tbody></table>`;
 }
 
@@ -77,24 +78,14 @@ function piece(table, shapes, e, corners, look, radius) {
     </article>`;
 }
 
-const PROMISE = `<p class="promise"><strong>One crossing, one corner.</strong> The counts on this sheet rest on a proved promise: from a cube,
-    by any cuts, no vertex matches an earlier one. It holds for a table that came from a cube by cuts, and this one did: its session
-    stands below. So no corner is entered twice. Two corners match when every coordinate of theirs is the same within 1/1,048,576.</p>`;
-
 function sheetOf(desk, pieces) {
-    const { live, step, look, radius, history } = desk;
-    const all = history.records();
-    const used = all.slice(desk.cubeStep);
-    const cube = used[0];
+    const { live, step, look, radius } = desk;
     return `<header class="sheethead"><div><h2>Sheet for the mould shop</h2>
-        <p>${pieces.length} ${pieces.length === 1 ? "piece" : "pieces"} of the ${SHAPES[live.dimension]} of radius ${plain(cube.radius)}.
+        <p>${pieces.length} ${pieces.length === 1 ? "piece" : "pieces"} of ${tableOf(desk)}.
         Three numberings, never one for another: ${tag("v")} a vertex, ${tag("E")} an element, ${tag("h")} a hyperplane.</p></div>
         <dl class="sign"><div><dt>Date</dt><dd></dd></div><div><dt>Signed</dt><dd></dd></div></dl></header>
-        ${PROMISE}${pieces.map(e => piece(live, step.shapes, e, live.cornerElements(), look, radius)).join("") || "<p>No piece is chosen.</p>"}
-        <footer><h3>The session that this sheet comes from</h3>
-        <p class="digest">${all.length} records, checksum <code>${checksum(bytesOf(all))}</code> (CRC-32 of the session’s bytes).
-        The table comes from the last ${used.length}:</p>
-        <pre>${used.map(lineOf).join("\n")}</pre>
+        ${promiseOf(desk)}${pieces.map(e => piece(live, step.shapes, e, live.cornerElements(), look, radius)).join("") || "<p>No piece is chosen.</p>"}
+        <footer>${originOf(desk)}
         <p>Coordinates are the shortest decimals that read back as the same numbers, to the last bit.</p></footer>`;
 }
 
@@ -133,7 +124,7 @@ export const sheet = {
 
     changed(desk) {
         isOld = true;
-        if (desk.step?.record.kind === "cube") left.clear();
+        if (desk.step?.record.kind !== "cut") left.clear();
         if (isSeen) show(desk);
         else for (const id of ["sheet", "choice"]) $(id).replaceChildren();
     },

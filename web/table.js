@@ -27,12 +27,8 @@ export class Table {
             PARTS.map(([type, length], i) => new type(engine.memory, at + OFFSETS[i], length));
     }
 
-    save() {
-        return this.bytes.slice();
-    }
-
-    restore(saved) {
-        this.bytes.set(saved);
+    restore(bytes) {
+        this.bytes.set(bytes);
     }
 
     // ---- asked of the engine

@@ -19,7 +19,8 @@ export const REFUSALS = {
     9: "there is no room for another element",
     10: "there is no room for another hyperplane",
     11: "a boundary would have more than 32 elements",
-    12: "the room for the list is too short",
+    12: "the room for the list or the file is too short",
+    13: "the bytes are not laid out as a file",
 };
 
 const sentence = (words) => `${words[0].toUpperCase()}${words.slice(1)}.`;
@@ -46,7 +47,7 @@ export function refusal(number, { root, normal, distance, dimension }, table) {
     const reason = sentence(REFUSALS[number] ?? "this number is in no table of ours");
     if (number === 1 && dimension !== undefined) return `${reason} It is ${dimension}.`;
     if (number === 4 && Number.isInteger(root))
-        return `There is no element ${root}: in use are ${runs("E", 0, table.sizes.elements)}. ` +
+        return `There is no element ${root}: ${table.sizes.elements === 0 ? "none is in use" : `in use are ${runs("E", 0, table.sizes.elements)}`}. ` +
             "Vertices and hyperplanes are other lists, with numbers of their own.";
     if (number === 5 && normal?.every(Number.isFinite) && (Math.abs(distance) <= 262144 || Math.abs(distance) === Infinity))
         return `The normal is not unit: its squares add up to ${short(normal.reduce((sum, x) => sum + x * x, 0))}, not to 1.`;

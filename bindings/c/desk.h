@@ -1,7 +1,7 @@
-/* Every entry point of the desk, for C: first what there is to know, then the nine functions of the archive, then readers of
+/* Every entry point of the desk, for C: first what there is to know, then the eleven functions of the archive, then readers of
    their replies and a table as one struct, which are written here. What each function does is its contract in
-   crates/desk/src/lib.rt: every table, number and float is allowed, and a refused call leaves the table and the list room as
-   they came.
+   crates/desk/src/lib.rt: every table, number, float and byte is allowed, and a refused call leaves the table and the room for a
+   list or a file as they came.
 
    A cut does not make pieces: it adds entries to a table, and a piece that the plane misses is its old entry. Elements,
    vertices and hyperplanes are three lists, each numbered from 0: a vertex number is no element number.
@@ -64,6 +64,9 @@ extern "C" {
 /* No list is longer. */
 #define DESK_LONGEST_LIST 512
 
+/* No file of a table has more bytes: a header, and so many vertices, hyperplanes and elements as there is room for. */
+#define DESK_LONGEST_FILE 48266
+
 /* What stands for "none" in the reply of a cut, and for "no hyperplane" in a row. */
 #define DESK_NONE 0xffff
 
@@ -80,7 +83,8 @@ extern "C" {
     each(9, ELEMENTS_FULL, "there is no room for another element")                                            \
     each(10, HYPERPLANES_FULL, "there is no room for another hyperplane")                                     \
     each(11, BOUNDARY_FULL, "a boundary would have more than 32 elements")                                    \
-    each(12, LIST_SHORT, "the room for the list is too short")
+    each(12, ROOM_SHORT, "the room for the list or the file is too short")                                    \
+    each(13, LAYOUT, "the bytes are not laid out as a file")
 
 #define DESK_NAMED(number, name, words) DESK_REFUSED_##name = number,
 enum desk_number { DESK_REFUSALS(DESK_NAMED) DESK_DONE = 0 };
@@ -123,6 +127,14 @@ uint32_t desk_edges_in_order(DESK_READS, uint32_t root, uint16_t *list, size_t l
 /* Bits 0 to 7 the number, bit 8 the answer. */
 uint32_t desk_has_primordial_facet(DESK_READS, uint32_t root);
 
+/* A table as its one file, whose bytes are in docs/FILE.md. Bits 0 to 7 the number: 0, 3, or 12 where the room is too short; above
+   them how many bytes the file has. It fills the front of its room. */
+uint64_t desk_save(DESK_READS, uint8_t *file, size_t file_len);
+
+/* 0, 3 or 13: the table of a file, in place of all that the memory had. Bytes that are not laid out as a file are 13, which comes
+   before every 3; file_len is all of the file, for bytes after its last record are 13 too. */
+uint32_t desk_open(DESK_WRITES, const uint8_t *file, size_t file_len);
+
 /* ---- Readers of a reply */
 
 /* DESK_DONE, or why it was refused. */
@@ -150,6 +162,9 @@ static inline uint32_t desk_size(uint32_t list) { return list >> 8; }
 
 /* Of the question about a primordial facet: the answer. */
 static inline int desk_is_yes(uint32_t facet) { return (int)(facet >> 8 & 1); }
+
+/* Of saving: how many bytes the file has. */
+static inline size_t desk_file_size(uint64_t save) { return (size_t)(save >> 8); }
 
 /* ---- A table as one struct */
 
@@ -211,6 +226,16 @@ static inline uint32_t desk_table_edges_in_order(const struct desk_table *table,
 
 static inline uint32_t desk_table_has_primordial_facet(const struct desk_table *table, uint32_t root) {
     return desk_has_primordial_facet(DESK_LENT(table), root);
+}
+
+/* DESK_LONGEST_FILE bytes are enough for every table. */
+static inline uint64_t desk_table_save(const struct desk_table *table, uint8_t *file, size_t file_len) {
+    return desk_save(DESK_LENT(table), file, file_len);
+}
+
+/* It may be any memory, as for a cube. */
+static inline uint32_t desk_table_open(struct desk_table *table, const uint8_t *file, size_t file_len) {
+    return desk_open(DESK_LENT(table), file, file_len);
 }
 
 /* The last element in use; of a fresh cube the cube itself, the root of its first cut. DESK_NONE in a table without elements. */

@@ -24,9 +24,10 @@ pub fn cube(r: &mut Random) -> Call {
 }
 
 /// One call of each entry point that only reads the table.
-pub fn questions(r: &mut Random, table: Option<&Table>) -> [Call; 7] {
+pub fn questions(r: &mut Random, table: Option<&Table>) -> [Call; 8] {
     [
         Call::IsSound,
+        Call::Save,
         Call::SubElements { root: root(r, table) },
         Call::WithRank { root: root(r, table), rank: rank(r) },
         Call::VertexSet { root: root(r, table) },

@@ -2,19 +2,20 @@
 //!
 //! Little-endian, floats by their bits, lengths in brackets:
 //!
-//! - a call: the exported name's length (1) and the name; memory; how many arguments (1), and each; reply (8); memory; words
+//! - a call: the exported name's length (1) and the name; memory; how many arguments (1), and each; reply (8); memory; bytes
 //! - memory: 0 where it is the memory before it, else 1 and four slices, each its length (4) and its entries
-//! - an argument: `n` and a number (4), `f` and a float (8), or `w` and words
-//! - words: their length (4) and the words (2 each); those at the end are the list room as it was left, or none
+//! - an argument: `n` and a number (4), `f` and a float (8), `w` and words, or `b` and bytes
+//! - words: their length (4) and the words (2 each)
+//! - bytes: their length (4) and the bytes; those at the end are the room for a list or a file as it was left, or none
 
-use crate::call::Call;
+use crate::call::{Call, Room};
 use crate::model::memory::Memory;
 use std::io::{Result, Write};
 
 /// What a call is lent, before it or after it.
 pub struct Lent<'a> {
     pub memory: &'a Memory,
-    pub room: &'a [u16],
+    pub room: &'a Room,
 }
 
 pub struct Calls<W: Write> {
@@ -35,7 +36,7 @@ impl<W: Write> Calls<W> {
         self.arguments(call, before.room)?;
         self.out.write_all(&reply.to_le_bytes())?;
         self.memory(after.memory)?;
-        self.words(if call.has_list() { after.room } else { &[] })
+        self.bytes(&after.room.bytes())
     }
 
     pub fn end(&mut self) -> Result<()> {
@@ -56,7 +57,7 @@ impl<W: Write> Calls<W> {
     }
 
     /// In the order of `bindings/c/desk.h`.
-    fn arguments(&mut self, call: &Call, room: &[u16]) -> Result<()> {
+    fn arguments(&mut self, call: &Call, room: &Room) -> Result<()> {
         match call {
             Call::IsSound => self.out.write_all(&[0]),
             Call::Cube { dimension, radius } => {
@@ -73,24 +74,33 @@ impl<W: Write> Calls<W> {
             Call::SubElements { root } | Call::VertexSet { root } | Call::EdgesInOrder { root } => {
                 self.out.write_all(&[2])?;
                 self.number(*root)?;
-                self.slice(room)
+                self.slice(&room.list)
             }
             Call::WithRank { root, rank } => {
                 self.out.write_all(&[3])?;
                 self.number(*root)?;
                 self.number(*rank)?;
-                self.slice(room)
+                self.slice(&room.list)
             }
             Call::GreatestCommon { roots } => {
                 self.out.write_all(&[2])?;
                 self.slice(roots)?;
-                self.slice(room)
+                self.slice(&room.list)
             }
             Call::PrimordialFacet { root } => {
                 self.out.write_all(&[1])?;
                 self.number(*root)
             }
+            Call::Save => self.file(&room.file),
+            Call::Open { file } => self.file(file),
         }
+    }
+
+    /// The only argument.
+    fn file(&mut self, file: &[u8]) -> Result<()> {
+        self.out.write_all(&[1])?;
+        self.out.write_all(b"b")?;
+        self.bytes(file)
     }
 
     fn number(&mut self, n: u32) -> Result<()> {
@@ -111,6 +121,11 @@ impl<W: Write> Calls<W> {
     fn words(&mut self, words: &[u16]) -> Result<()> {
         self.out.write_all(&(words.len() as u32).to_le_bytes())?;
         self.out.write_all(&words.iter().flat_map(|word| word.to_le_bytes()).collect::<Vec<_>>())
+    }
+
+    fn bytes(&mut self, bytes: &[u8]) -> Result<()> {
+        self.out.write_all(&(bytes.len() as u32).to_le_bytes())?;
+        self.out.write_all(bytes)
     }
 
     fn floats(&mut self, floats: &[f64]) -> Result<()> {

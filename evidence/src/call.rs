@@ -3,7 +3,7 @@
 use crate::model::cut::{Answer, Kept};
 use crate::model::floats::Hyperplane;
 use crate::model::memory::{Lent, Memory};
-use crate::model::{cube, cut, questions, Refusal};
+use crate::model::{cube, cut, files, questions, Refusal};
 use spoonvelvet::raw;
 
 #[derive(Clone, Debug)]
@@ -17,29 +17,49 @@ pub enum Call {
     GreatestCommon { roots: Vec<u16> },
     EdgesInOrder { root: u32 },
     PrimordialFacet { root: u32 },
+    Save,
+    Open { file: Vec<u8> },
+}
+
+/// What a call is lent beside the four slices to be filled: room for a list or for a file, or none.
+#[derive(Clone, Debug, Default, PartialEq, Eq)]
+pub struct Room {
+    pub list: Vec<u16>,
+    pub file: Vec<u8>,
+}
+
+impl Room {
+    /// As it is lent, little-endian.
+    pub fn bytes(&self) -> Vec<u8> {
+        self.list.iter().flat_map(|word| word.to_le_bytes()).chain(self.file.iter().copied()).collect()
+    }
 }
 
 impl Call {
-    /// The model's reply; the memory and the list room are left as the call leaves them.
-    pub fn by_model(&self, lent: &mut Lent, room: &mut [u16]) -> u64 {
+    /// The model's reply; the memory and the room are left as the call leaves them.
+    pub fn by_model(&self, lent: &mut Lent, room: &mut Room) -> u64 {
+        let Room { list, file: file_room } = room;
         match self {
             Call::IsSound => done_word(lent.table().map(|_| ())),
             Call::Cube { dimension, radius } => done_word(cube::with_primordial_cube_radius(lent, *dimension, *radius)),
             Call::Cut { divider, inside, outside, root } => {
                 cut_word(cut::cut(lent, *divider, kept(*inside, *outside), *root))
             }
-            Call::SubElements { root } => list_word(questions::subelements_of(lent, *root, room)),
-            Call::WithRank { root, rank } => list_word(questions::subelements_with_rank(lent, *root, *rank, room)),
-            Call::VertexSet { root } => list_word(questions::vertex_set(lent, *root, room)),
-            Call::GreatestCommon { roots } => list_word(questions::greatest_common_subelements(lent, roots, room)),
-            Call::EdgesInOrder { root } => list_word(questions::edges_in_order(lent, *root, room)),
+            Call::SubElements { root } => list_word(questions::subelements_of(lent, *root, list)),
+            Call::WithRank { root, rank } => list_word(questions::subelements_with_rank(lent, *root, *rank, list)),
+            Call::VertexSet { root } => list_word(questions::vertex_set(lent, *root, list)),
+            Call::GreatestCommon { roots } => list_word(questions::greatest_common_subelements(lent, roots, list)),
+            Call::EdgesInOrder { root } => list_word(questions::edges_in_order(lent, *root, list)),
             Call::PrimordialFacet { root } => facet_word(questions::has_primordial_facet(lent, *root)),
+            Call::Save => list_word(files::save(lent, file_room)),
+            Call::Open { file } => done_word(files::open(lent, file)),
         }
     }
 
     /// The engine's reply, through the functions that hosts link.
-    pub fn by_engine(&self, memory: &mut Memory, room: &mut [u16]) -> u64 {
+    pub fn by_engine(&self, memory: &mut Memory, room: &mut Room) -> u64 {
         let Memory { counts: c, points: p, planes: h, elements: e } = memory;
+        let Room { list, file: file_room } = room;
         match self {
             Call::IsSound => raw::is_sound(c, p, h, e).into(),
             Call::Cube { dimension, radius } => raw::cube(c, p, h, e, *dimension, *radius).into(),
@@ -47,12 +67,14 @@ impl Call {
                 let divider = spoonvelvet::Hyperplane { normal: divider.normal, distance: divider.distance };
                 raw::cut(c, p, h, e, divider, *inside, *outside, *root)
             }
-            Call::SubElements { root } => raw::subelements_of(c, p, h, e, *root, room).into(),
-            Call::WithRank { root, rank } => raw::subelements_with_rank(c, p, h, e, *root, *rank, room).into(),
-            Call::VertexSet { root } => raw::vertex_set(c, p, h, e, *root, room).into(),
-            Call::GreatestCommon { roots } => raw::greatest_common_subelements(c, p, h, e, roots, room).into(),
-            Call::EdgesInOrder { root } => raw::edges_in_order(c, p, h, e, *root, room).into(),
+            Call::SubElements { root } => raw::subelements_of(c, p, h, e, *root, list).into(),
+            Call::WithRank { root, rank } => raw::subelements_with_rank(c, p, h, e, *root, *rank, list).into(),
+            Call::VertexSet { root } => raw::vertex_set(c, p, h, e, *root, list).into(),
+            Call::GreatestCommon { roots } => raw::greatest_common_subelements(c, p, h, e, roots, list).into(),
+            Call::EdgesInOrder { root } => raw::edges_in_order(c, p, h, e, *root, list).into(),
             Call::PrimordialFacet { root } => raw::has_primordial_facet(c, p, h, e, *root).into(),
+            Call::Save => raw::save(c, p, h, e, file_room),
+            Call::Open { file } => raw::open(c, p, h, e, file).into(),
         }
     }
 
@@ -67,6 +89,8 @@ impl Call {
             Call::GreatestCommon { .. } => "greatest_common_subelements",
             Call::EdgesInOrder { .. } => "edges_in_order",
             Call::PrimordialFacet { .. } => "has_primordial_facet",
+            Call::Save => "save",
+            Call::Open { .. } => "open",
         }
     }
 
@@ -78,16 +102,23 @@ impl Call {
         }
     }
 
-    /// Whether it is lent room for a list, and not the four slices alone.
-    pub fn has_list(&self) -> bool {
-        !matches!(self, Call::IsSound | Call::Cube { .. } | Call::Cut { .. } | Call::PrimordialFacet { .. })
+    /// So much room, in bytes or in words of a list, that more is never needed; none for a call that is lent none.
+    pub fn longest(&self) -> Room {
+        match self {
+            Call::Save => Room { file: vec![0; raw::LONGEST_FILE], ..Room::default() },
+            Call::IsSound | Call::Cube { .. } | Call::Cut { .. } | Call::PrimordialFacet { .. } | Call::Open { .. } => {
+                Room::default()
+            }
+            _ => Room { list: vec![0; raw::LONGEST_LIST], ..Room::default() },
+        }
     }
 
     /// Which refusal or kind of answer a reply of this call is.
     pub fn outcome(&self, word: u64) -> String {
         match (word as u8, self) {
             (0, Call::IsSound) => "sound".into(),
-            (0, Call::Cube { .. }) => "done".into(),
+            (0, Call::Cube { .. } | Call::Open { .. }) => "done".into(),
+            (0, Call::Save) => "file".into(),
             (0, Call::Cut { .. }) => answer_outcome(answer(word)),
             (0, Call::PrimordialFacet { .. }) => if is_set(word) { "yes" } else { "no" }.into(),
             (0, _) => if word == 0 { "empty list" } else { "list" }.into(),

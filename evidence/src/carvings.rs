@@ -1,6 +1,6 @@
 //! Order 14 on the engine: a slice, and two carvings of the same table, for the inside and then for the outside.
 
-use crate::call::{cut_reply, Call};
+use crate::call::{cut_reply, Call, Room};
 use crate::model::cut::Answer;
 use crate::model::floats::Hyperplane;
 use crate::model::memory::{Lent, Memory};
@@ -34,7 +34,8 @@ impl<'a> Trial<'a> {
     pub fn new(before: &'a Memory, divider: Hyperplane, root: u16) -> Self {
         let cut = |inside, outside, memory: &Memory| {
             let mut memory = memory.clone();
-            let word = Call::Cut { divider, inside, outside, root: root.into() }.by_engine(&mut memory, &mut []);
+            let call = Call::Cut { divider, inside, outside, root: root.into() };
+            let word = call.by_engine(&mut memory, &mut Room::default());
             Left { reply: cut_reply(word), memory }
         };
         let first = cut(1, 0, before);

@@ -1,6 +1,6 @@
 //! Memories to be lent: random words, other lengths, tables after cuts, damaged ones, strange ones.
 
-use crate::call::Call;
+use crate::call::{Call, Room};
 use crate::model::memory::{self, Lent, Memory};
 use crate::model::table::Table;
 use crate::random::Random;
@@ -73,7 +73,7 @@ fn cube(r: &mut Random) -> Memory {
     let dimension = r.pick(&[1, 1, 1, 2, 2, 2, 2, 2, 2, 2, 3, 3, 3, 4]);
     let radius = r.pick(&[1.0, 1.0, 2.0, 1.5, 65_536.0, 1.0 + f64::EPSILON]);
     let mut lent = Lent::new(Memory::clear());
-    Call::Cube { dimension, radius }.by_model(&mut lent, &mut []);
+    Call::Cube { dimension, radius }.by_model(&mut lent, &mut Room::default());
     lent.memory().clone()
 }
 

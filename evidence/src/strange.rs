@@ -178,7 +178,7 @@ pub fn fill(r: &mut Random, table: &mut Table, vertices: usize, elements: usize)
     add_edges(r, table, ELEMENT_ROOM - elements);
 }
 
-fn add_corners(r: &mut Random, table: &mut Table, count: usize) {
+pub(crate) fn add_corners(r: &mut Random, table: &mut Table, count: usize) {
     while table.vertices.len() < count {
         let point = [0; 4].map(|_| r.fraction() * 40_000.0);
         add_corner(table, &point);
@@ -186,7 +186,7 @@ fn add_corners(r: &mut Random, table: &mut Table, count: usize) {
 }
 
 /// Edges between any two corners; with too few corners there are no more that differ.
-fn add_edges(r: &mut Random, table: &mut Table, count: usize) {
+pub(crate) fn add_edges(r: &mut Random, table: &mut Table, count: usize) {
     let corners = table.vertices.len().max(40);
     add_corners(r, table, corners);
     let corners: Vec<u16> = (0..table.elements.len() as u16).filter(|&e| table.rank(e) == 0).collect();

@@ -1,4 +1,5 @@
-//! Order 1, save a table and open it tomorrow, on the model alone: files written out record by record, from the document's words.
+//! Order 1, save a table and open it tomorrow, by the model and by the engine: files written out record by record, from the
+//! document's words.
 
 use evidence::memories;
 use evidence::model::cube::with_primordial_cube_radius;
@@ -7,6 +8,7 @@ use evidence::model::files::{file_of, open, save};
 use evidence::model::floats::Hyperplane;
 use evidence::model::memory::{write, Lent, Memory};
 use evidence::model::table::{Element, Polytope, Table};
+use evidence::opened;
 use evidence::random::Random;
 use std::sync::LazyLock;
 
@@ -81,7 +83,7 @@ fn square() -> Vec<u8> {
     file_of(cube(2).table().unwrap())
 }
 
-/// The number; a refused file leaves the memory, and one that is taken is saved as it was.
+/// The number, which is the engine's too; a refused file leaves the memory, and one that is taken is saved as it was.
 fn opened(file: &[u8]) -> u8 {
     let mut lent = OLD.clone();
     let reply = open(&mut lent, file);
@@ -89,7 +91,9 @@ fn opened(file: &[u8]) -> u8 {
         Ok(()) => assert_eq!(saved(&lent), file),
         Err(_) => assert!(lent.memory().is_same(OLD.memory())),
     }
-    reply.err().unwrap_or(0)
+    let number = reply.err().unwrap_or(0);
+    assert_eq!(opened::number(file, &OLD), Ok(number));
+    number
 }
 
 fn saved(lent: &Lent) -> Vec<u8> {

@@ -1,10 +1,12 @@
-//! docs/FILE.md with the model: the file shown there is the one of its table, and each change to it gives the number beside it.
+//! docs/FILE.md with the model and the engine: the file shown there is the one of its table, and each change to it gives the number
+//! beside it.
 
 use evidence::model::cube::with_primordial_cube_radius;
 use evidence::model::cut::{cut, Kept};
 use evidence::model::files::{open, save};
 use evidence::model::floats::Hyperplane;
 use evidence::model::memory::{Lent, Memory};
+use evidence::opened;
 
 const PAGE: &str = include_str!("../../docs/FILE.md");
 
@@ -68,7 +70,6 @@ fn each_change_gives_its_number() {
     let changes = changes();
     assert!(changes.len() > 15 && [0, 3, 13].iter().all(|number| changes.iter().any(|row| row.1 == *number)));
     for (change, number) in changes {
-        let reply = open(&mut Lent::new(Memory::clear()), &changed(shown(), change));
-        assert_eq!(reply.err().unwrap_or(0), number, "{change}");
+        assert_eq!(opened::number(&changed(shown(), change), &opened::old_memory()), Ok(number), "{change}");
     }
 }

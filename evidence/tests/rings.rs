@@ -1,6 +1,6 @@
 //! Order 4, two triangles are no polygon: the smallest tables, by the model and by the engine.
 
-use evidence::call::Call;
+use evidence::call::{Call, Room};
 use evidence::model::floats::{Hyperplane, Point};
 use evidence::model::memory::{write, Lent};
 use evidence::model::table::{Element, Polytope, Table};
@@ -48,7 +48,8 @@ fn ring(first: u16, size: u16) -> Vec<[u16; 3]> {
 fn call(call: &Call, table: &Table) -> (u64, bool) {
     let lent = write(table);
     let (mut by_model, mut by_engine) = (Lent::new(lent.clone()), lent.clone());
-    let replies = [call.by_model(&mut by_model, &mut []), call.by_engine(&mut by_engine, &mut [])];
+    let replies =
+        [call.by_model(&mut by_model, &mut Room::default()), call.by_engine(&mut by_engine, &mut Room::default())];
     assert_eq!(replies[0], replies[1], "by the model and by the engine");
     assert!(by_engine.is_same(by_model.memory()));
     (replies[0], by_engine.is_same(&lent))

@@ -8,6 +8,7 @@
     if (!(what)) return printf("%s:%d: %s\n", __FILE__, __LINE__, #what), 1
 
 static struct desk_table table, before;
+static uint8_t file[DESK_LONGEST_FILE], old_file[DESK_LONGEST_FILE];
 
 static uint64_t at_x(double distance, uint32_t kept, uint32_t root) {
     struct desk_hyperplane divider = {{1.0, 0.0, 0.0, 0.0}, distance};
@@ -35,6 +36,8 @@ static int rows(void) {
     HOLDS(DESK_POINTS == DESK_VERTEX_ROOM * DESK_AXES && DESK_PLANES == DESK_HYPERPLANE_ROOM * DESK_PLANE_WIDTH);
     HOLDS(DESK_ELEMENTS == DESK_ELEMENT_ROOM * DESK_ELEMENT_WIDTH && DESK_ELEMENT_WIDTH == DESK_ROW_BOUNDARY + DESK_BOUNDARY_ROOM);
     HOLDS(sizeof table == 47624);
+    HOLDS(DESK_LONGEST_FILE == 10 + DESK_VERTEX_ROOM * (2 + 8 * DESK_AXES) + DESK_HYPERPLANE_ROOM * (10 + 8 * DESK_AXES) +
+                                   DESK_ELEMENT_ROOM * (8 + 2 * DESK_BOUNDARY_ROOM));
     return 0;
 }
 
@@ -43,7 +46,7 @@ static int replies(void) {
     HOLDS(desk_size(desk_table_subelements_of(&table, 8, list, DESK_LONGEST_LIST)) == 9 && list[8] == 8);
     HOLDS(desk_size(desk_table_subelements_with_rank(&table, 8, 1, list, DESK_LONGEST_LIST)) == 4 && list[0] == 2);
     HOLDS(desk_size(desk_table_vertex_set(&table, 7, list, 2)) == 2 && list[0] == 1 && list[1] == 3);
-    HOLDS(desk_number_of(desk_table_vertex_set(&table, 7, list, 1)) == DESK_REFUSED_LIST_SHORT);
+    HOLDS(desk_number_of(desk_table_vertex_set(&table, 7, list, 1)) == DESK_REFUSED_ROOM_SHORT);
     HOLDS(desk_table_greatest_common_subelements(&table, roots, 2, list, DESK_LONGEST_LIST) == 0);
     HOLDS(desk_size(desk_table_edges_in_order(&table, 8, list, 8)) == 8 && list[2] == 1 && list[3] == 3);
     HOLDS(desk_is_yes(desk_table_has_primordial_facet(&table, 8)));
@@ -102,4 +105,39 @@ static int numbers(void) {
     return 0;
 }
 
-int main(void) { return rows() || replies() || refusals() || numbers(); }
+/* The file of a square cut in two: a header, 6 vertices, 5 hyperplanes, 6 corners, 9 edges and 3 faces. */
+static int files(void) {
+    HOLDS(desk_table_cube(&table, 2, 1.0) == DESK_DONE && desk_number_of(at_x(0.0, DESK_KEEP_BOTH, 8)) == DESK_DONE);
+    memset(file, 0xa5, sizeof file);
+    uint64_t save = desk_table_save(&table, file, sizeof file);
+    size_t size = desk_file_size(save);
+    HOLDS(desk_number_of(save) == DESK_DONE && size == 10 + 6 * 18 + 5 * 26 + 6 * 10 + 9 * 12 + 3 * 16);
+    HOLDS(memcmp(file, "HD\2\0\22\0\6\0\5\0VX", 12) == 0 && file[size] == 0xa5 && file[sizeof file - 1] == 0xa5);
+    before = table;
+    memset(&table, 0x5a, sizeof table);
+    HOLDS(desk_table_open(&table, file, size) == DESK_DONE && memcmp(&table, &before, sizeof table) == 0);
+    HOLDS(desk_table_save(&table, file, size) == save && desk_table_save(&table, file, size - 1) == DESK_REFUSED_ROOM_SHORT);
+    return 0;
+}
+
+static int refused_files(void) {
+    size_t size = desk_file_size(desk_table_save(&table, file, sizeof file));
+    before = table;
+    HOLDS(desk_table_open(&table, file, size - 1) == DESK_REFUSED_LAYOUT && desk_table_open(&table, file, size + 1) == DESK_REFUSED_LAYOUT);
+    HOLDS(desk_table_open(&table, file, 0) == DESK_REFUSED_LAYOUT);
+    HOLDS(desk_open(DESK_LENT(&table) - 1, file, size) == DESK_REFUSED_NOT_SOUND);
+    HOLDS(desk_open(DESK_LENT(&table) - 1, file, size - 1) == DESK_REFUSED_LAYOUT);
+    file[2] = 3; /* dimensions */
+    HOLDS(desk_table_open(&table, file, size) == DESK_REFUSED_LAYOUT);
+    file[2] = 2;
+    file[10 + 6 * 18 + 9] = 0x40; /* a component of hyperplane 0 is 2 */
+    HOLDS(desk_table_open(&table, file, size) == DESK_REFUSED_NOT_SOUND);
+    HOLDS(memcmp(&table, &before, sizeof table) == 0);
+    memcpy(old_file, file, sizeof file);
+    table.counts[DESK_COUNT_VERTICES] = 5;
+    HOLDS(desk_table_save(&table, file, sizeof file) == DESK_REFUSED_NOT_SOUND && desk_table_save(&table, file, 0) == DESK_REFUSED_NOT_SOUND);
+    HOLDS(memcmp(old_file, file, sizeof file) == 0);
+    return 0;
+}
+
+int main(void) { return rows() || replies() || refusals() || numbers() || files() || refused_files(); }

@@ -70,7 +70,7 @@ function takeArgument() {
     const kind = String.fromCharCode(byte());
     if (kind === "n") return number();
     if (kind === "f") return float();
-    return lend(number(), 2);
+    return lend(number(), kind === "b" ? 1 : 2);
 }
 
 // a slice is handed over as a pointer and a length
@@ -90,7 +90,7 @@ function firstUnlike() {
     let at = 0;
     while (at < end + 16 && held[at] === memory[start + at]) at++;
     const slice = slices.findIndex(slice => at < slice.at + slice.length * (slice.isFloats ? 8 : 2));
-    return `byte ${at} of what was lent, ${["counts", "points", "planes", "elements"][slice] ?? "roots or list"} or its guard`;
+    return `byte ${at} of what was lent, ${["counts", "points", "planes", "elements"][slice] ?? "roots, list or file"} or its guard`;
 }
 
 // ---- the calls
@@ -103,10 +103,11 @@ function replay() {
     end = tableEnd;
     const given = Array.from({ length: byte() }, takeArgument);
     held.copy(memory, start, 0, end + 16);
-    const reply = BigInt.asUintN(name === "desk_cut" ? 64 : 32, BigInt(exports[name](...[...slices, ...given].flatMap(handed))));
+    const replied = exports[name](...[...slices, ...given].flatMap(handed));
+    const reply = BigInt.asUintN(typeof replied === "bigint" ? 64 : 32, BigInt(replied));
     const wanted = take(8).readBigUInt64LE();
     if (byte() !== 0) for (const { at, isFloats } of slices) take(number() * (isFloats ? 8 : 2)).copy(held, at);
-    const left = take(2 * number());
+    const left = take(number());
     if (left.length > 0) left.copy(held, given.at(-1).at);
     counts.set(name, (counts.get(name) ?? 0) + 1);
     const unlike = reply !== wanted ? `reply ${reply}, and the archive's is ${wanted}` : isSame() ? null : firstUnlike();
@@ -122,4 +123,4 @@ if (isAlike) {
     const stack = start - memory.subarray(0, start).findIndex(mark => mark !== STACK_MARK);
     console.log(`${[...counts].map(([name, count]) => `${count} ${name}`).join(", ")}: alike; ${stack} bytes of stack`);
 }
-process.exit(isAlike && counts.size === 9 ? 0 : 1);
+process.exit(isAlike && counts.size === 11 ? 0 : 1);

@@ -1,4 +1,4 @@
-"""The marked examples of document 01, refusals, the three kinds of numbers and the rows of a table, through the Python module."""
+"""The marked examples of document 01, refusals, the three kinds of numbers, the rows of a table and files, through the Python module."""
 
 import copy
 import doctest
@@ -134,7 +134,7 @@ class Calls(Case):
         self.assertEqual(len(t.vertex_set(answer.intersection)), 6)
         self.assertTrue(t.is_sound())
 
-    def test_there_is_no_table_but_from_a_cube(self):
+    def test_there_is_no_table_but_from_a_cube_or_a_file(self):
         self.assertRaises(TypeError, Table)
 
     def test_a_table_changes_and_so_has_no_hash(self):
@@ -221,10 +221,11 @@ class Refusals(Case):
                 self.refused(3, call, SQUARE)
             self.refused(3, t.subelements_with_rank, SQUARE, 1)
             self.refused(3, t.greatest_common_subelements, ids(8))
+            self.refused(3, t.save)
             self.assertEqual(t, before)
 
     def test_each_number_has_words(self):
-        self.assertEqual(list(REFUSALS), list(range(1, 13)))
+        self.assertEqual(list(REFUSALS), list(range(1, 14)))
         self.assertEqual(str(Refused(10)), "refused 10: there is no room for another hyperplane")
         self.assertEqual(copy.copy(Refused(4)).number, 4)
 
@@ -292,6 +293,55 @@ class Rows(Case):
         self.assertEqual(t.counts(), Counts(elements=9, vertices=4, hyperplanes=4))
         self.assertEqual(t.room_left(), Counts(elements=503, vertices=252, hyperplanes=60))
         self.assertEqual(t.last_element(), SQUARE)
+
+
+class Files(Case):
+    LINE = bytes.fromhex(
+        "4844 0100 0300 0200 0000  5658 000000000000f0bf  5658 000000000000f03f"
+        "454c 00 00 ffff 0100 0000  454c 00 00 ffff 0100 0100  454c 01 00 ffff 0200 0000 0100"
+    )
+
+    def test_the_line_byte_by_byte(self):
+        line = Table.with_primordial_cube_radius(1, 1.0)
+        self.assertEqual(line.save(), self.LINE)
+        self.assertEqual(Table.open(self.LINE), line)
+
+    def test_what_was_saved_opens_as_the_same_table(self):
+        for ndim in (1, 2, 3, 4):
+            t = Table.with_primordial_cube_radius(ndim, 1.0)
+            for _ in range(2):
+                opened = Table.open(t.save())
+                self.assertEqual(opened, t)
+                self.assertEqual(opened.slice(at_x(0.25), opened.last_element()), t.slice(at_x(0.25), t.last_element()))
+                self.assertEqual(opened, t)
+
+    def test_minus_zero_is_another_table(self):
+        files = []
+        for distance in (0.0, -0.0):
+            t = square()
+            t.slice(at_x(distance), SQUARE)
+            self.assertEqual(Table.open(t.save()), t)
+            files.append(t.save())
+        self.assertNotEqual(*files)
+
+    def test_other_bytes_are_13_and_an_unsound_table_3(self):
+        for n in range(len(self.LINE)):
+            self.refused(13, Table.open, self.LINE[:n])
+        self.refused(13, Table.open, self.LINE + b"\0")
+        self.refused(3, Table.open, b"HD\x05" + bytes(7))
+        self.refused(3, Table.open, self.LINE[:-2] + b"\2\0")
+        self.refused(13, Table.open, self.LINE[:-2] + b"\2")
+        self.assertEqual(Table.open(b"HD\x01" + bytes(7)).counts(), (0, 0, 0))
+
+    def test_a_file_is_bytes_of_any_kind(self):
+        for kind in (bytes, bytearray, memoryview):
+            self.assertEqual(Table.open(kind(self.LINE)).save(), self.LINE)
+        for other in (5, "HD", None, list(self.LINE)):
+            self.assertRaises(TypeError, Table.open, other)
+
+    def test_the_longest_file(self):
+        self.assertEqual(raw.LONGEST_FILE, 48_266)
+        self.assertEqual(raw.ELEMENT_WIDTH, 36)
 
 
 def load_tests(loader, tests, pattern):

@@ -13,6 +13,9 @@ function otherSize(wasm) {
     return other;
 }
 
+// the file of a table with no elements
+const NO_ELEMENTS = Buffer.from("48440100000000000000", "hex");
+
 const BROKEN = {
     "a module that wants another size": { "desk.wasm": otherSize },
     "a room of another size": { "table.js": text => text.toString().replace("elements: 512", "elements: 511") },
@@ -26,6 +29,7 @@ export async function checkBroken(checks, chromium) {
         const hands = new Hands(page, null);
         checks.same(name, [await hands.line(), await hands.texts("#says p")],
             ["refused 3", ["The table is not sound, or its room has another size.", "A refused record leaves the table as it was."]]);
+        checks.same(`${name}: not saved, not opened`, await hands.run(`(async () => [desk.save(), await desk.open("none.table", Uint8Array.from([${[...NO_ELEMENTS]}]))])()`), [{ number: 3 }, 3]);
         await hands.press("#cut");
         await hands.press('[data-lesson="0"]');
         await hands.press("#lessonnext");

@@ -8,6 +8,7 @@ import { REFUSALS } from "../words.js";
 import { partsOf } from "../lesson.js";
 import { Checks } from "./check.mjs";
 import { checkColours } from "./colours.mjs";
+import { checkSaved } from "./saved.mjs";
 
 const checks = new Checks();
 const read = name => readFileSync(name, "utf8");
@@ -26,15 +27,16 @@ for (const name of built.filter(name => /\.(js|css|html)$/.test(name))) {
 
 // the lesson is docs/LESSON.md, every session of it
 const text = read("docs/LESSON.md");
-const blocks = kind => [...text.matchAll(new RegExp("^```" + kind + "\n([^]*?)^```$", "gm"))].map(found => found[1]);
+const blocks = kinds => [...text.matchAll(new RegExp("^```(?:" + kinds + ")\n([^]*?)^```$", "gm"))].map(found => found[1]);
 const parts = partsOf(read("target/web/LESSON.md"));
 checks.same("the built lesson is the lesson", read("target/web/LESSON.md"), text);
-checks.same("its sessions", parts.map(({ session }) => session), blocks("session"));
-checks.same("its lines", parts.map(({ lines }) => lines), blocks("lines"));
+checks.same("its sessions", parts.map(({ session }) => session), blocks("session|opened"));
+checks.same("its lines", parts.map(({ lines }) => lines), blocks("lines|prints"));
+checks.same("those that go on from a saved table", parts.filter(({ from }) => from !== null).map(({ session }) => session), blocks("opened"));
 checks.holds("five sessions or more, each with a text", parts.length >= 5 && parts.every(({ paragraphs }) => paragraphs.join("").length > 100));
 
 // record's bytes and lines
-for (const { title, session } of parts) {
+for (const { title, session } of parts.filter(({ from }) => from === null)) {
     const recorded = execFileSync("./record", { input: session }).toString("hex");
     checks.same(`${title}: bytes`, Buffer.from(bytesOf(recordsOf(session))).toString("hex"), recorded);
     checks.same(`${title}: lines`, recordsOf(session).map(lineOf).join("\n") + "\n", session);
@@ -71,8 +73,11 @@ checks.same("the walk of M10", table.ask("edgesInOrder", 8), { number: 0, list: 
 checks.same("M1", cut({}), { number: 0, flush: false, inside: 16, outside: 17, face: 15 });
 checks.holds("sound", table.isSound());
 
+// a table's file
+await checkSaved(checks, parts);
+
 // a word for each refusal of document 01, and the colours
-checks.same("refusals", Object.keys(REFUSALS).map(Number), [1, 2, 3, 4, 5, 6, 7, 8, 9, 10, 11, 12]);
+checks.same("refusals", Object.keys(REFUSALS).map(Number), [1, 2, 3, 4, 5, 6, 7, 8, 9, 10, 11, 12, 13]);
 checkColours(checks, "web/colours.css");
 
 process.exit(checks.told("files"));

@@ -66,13 +66,22 @@ export class Hands {
         await this.press("#run");
     }
 
-    async open(path) {
+    // what is said of a file that was chosen
+    async choose(input, says, path) {
         const { root } = await this.page.call("DOM.getDocument");
-        const { nodeId } = await this.page.call("DOM.querySelector", { nodeId: root.nodeId, selector: "#open" });
-        await this.run("document.querySelector('#runsays').textContent = ''");
+        const { nodeId } = await this.page.call("DOM.querySelector", { nodeId: root.nodeId, selector: input });
+        await this.run(`document.querySelector("${says}").textContent = "nothing yet"`);
         await this.page.call("DOM.setFileInputFiles", { nodeId, files: [path] });
-        await this.page.until("document.querySelector('#runsays').textContent !== ''");
-        return this.text("#runsays");
+        await this.page.until(`document.querySelector("${says}").textContent !== "nothing yet"`);
+        return this.text(says);
+    }
+
+    open(path) {
+        return this.choose("#open", "#runsays", path);
+    }
+
+    openTable(path) {
+        return this.choose("#opentable", "#filesays", path);
     }
 
     async download(button, name) {

@@ -4,13 +4,22 @@ import { readFileSync } from "node:fs";
 const text = readFileSync("docs/LESSON.md", "utf8");
 export const blocks = kind => [...text.matchAll(new RegExp("^```" + kind + "\n([^]*?)^```$", "gm"))].map(found => found[1]);
 
+// each session as steps and their lines; where it goes on from a saved table, that table is its first
+function lessons() {
+    const [sessions, wanted] = ["session|opened", "lines|prints"].map(kinds => blocks(`(?:${kinds})`).map(text => text.trimEnd().split("\n")));
+    const opened = blocks("opened").map(text => text.trimEnd().split("\n").join());
+    return sessions.map((records, i) => {
+        if (!opened.includes(records.join())) return [records, wanted[i]];
+        return [["open monday.table", ...records], [`open ${wanted[i - 1].at(-1).split(" ").slice(-3).join(" ")}`, ...wanted[i]]];
+    });
+}
+
 export async function checkLesson(checks, hands) {
-    const [sessions, wanted] = [blocks("session"), blocks("lines")];
-    checks.same("a button for each session", await hands.count("#lessons button"), sessions.length);
-    for (const [i, lines] of wanted.entries()) {
-        const records = sessions[i].trimEnd().split("\n");
-        const printed = lines.trimEnd().split("\n");
+    const all = lessons();
+    checks.same("a button for each session", await hands.count("#lessons button"), all.length);
+    for (const [i, [records, printed]] of all.entries()) {
         await hands.press(`[data-lesson="${i}"]`);
+        await hands.page.until(`desk.lesson === ${i}`, 3000).catch(() => {});
         for (let k = 0; k < records.length; k++) {
             const name = `lesson ${i + 1}, step ${k + 1}`;
             checks.same(name, [await hands.text("#asked"), await hands.line()], [records[k], printed[k]]);
@@ -18,12 +27,18 @@ export async function checkLesson(checks, hands) {
             await hands.press("#lessonnext");
         }
         checks.same(`lesson ${i + 1}: no step more`, await hands.line(), printed.at(-1));
-        checks.same(`lesson ${i + 1}: all of it`, await hands.printed(), lines);
+        checks.same(`lesson ${i + 1}: all of it`, await hands.printed(), printed.join("\n") + "\n");
         await hands.press("#lessonback");
         checks.same(`lesson ${i + 1}: a step back`, await hands.line(), printed.at(-2));
     }
     await hands.press("#lessonleave");
     checks.holds("closed", await hands.run("document.querySelector('#lesson').hidden"));
+    await hands.start(3);
+    await hands.press(`[data-lesson="${all.findIndex(([records]) => records[0].startsWith("open"))}"]`);
+    await hands.page.until("desk.step.record.kind === 'open'", 3000).catch(() => {});
+    checks.holds("what is to be typed keeps its lines", (await hands.texts("#lessontext pre")).some(text => text.split("\n").length === 4));
+    await hands.press("#earlier");
+    checks.same("the session before the lesson", await hands.printed(), "cube 27 8 6\n");
 }
 
 // the words that must never be wrong

@@ -11,10 +11,11 @@ import { checkKeys, checkNames } from "./keys.mjs";
 import { checkLesson, checkWords } from "./lesson.mjs";
 import { checkDrag, checkLooks } from "./looks.mjs";
 import { checkRandom } from "./random.mjs";
+import { checkSaving } from "./saving.mjs";
 import { checkCutlist, checkSessions, checkSheet } from "./session.mjs";
 
 const PARTS = [checkLesson, checkWords, checkCuts, checkHand, checkDimensions, checkRefusals, checkKeys, checkNames, checkSessions, checkCutlist,
-    checkSheet, checkLooks, checkDrag, checkRandom];
+    checkSheet, checkSaving, checkLooks, checkDrag, checkRandom];
 
 const [program, ...parts] = process.argv.slice(2);
 const isAsked = part => parts.length === 0 || parts.includes(part.name);

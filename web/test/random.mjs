@@ -22,6 +22,8 @@ const ACTIONS = `(async count => {
         () => { shape(one("1", "2", "0.5", "65536", "x")); press("#addcube"); },
         () => press("#undo"), () => press("#redo"), () => press("#earlier"),
         () => one(...document.querySelectorAll("#lessons button")).click(),
+        () => desk.stands && desk.open("random.table", desk.save().file),
+        async () => wrong.push(...[await desk.open("broken.table", desk.save().file?.slice(any(9)) ?? [])].filter(number => number !== 0 && number !== 13)),
         () => desk.lookFrom({ apart: any(8) / 10, yaw: any(360), pitch: any(170) - 85, roll: any(360), numbers: one("both", "all", "none", "vertices", "pieces") }),
         () => desk.aimAt({ root: one(any(30), NaN, 65544, 600) }),
         () => desk.aimAt({ distance: one(Infinity, -Infinity, NaN, 1e300) }),
@@ -31,7 +33,7 @@ const ACTIONS = `(async count => {
     ];
     const wrong = [], kinds = new Set();
     for (let i = 0; i < count; i++) {
-        one(...actions)();
+        await one(...actions)();
         await new Promise(done => requestAnimationFrame(done));
         kinds.add(desk.step.line.split(" ")[0]);
         if (document.querySelector("#line").dataset.line !== desk.step.line) wrong.push(i + ": another line is shown");
@@ -41,13 +43,15 @@ const ACTIONS = `(async count => {
 })`;
 
 export async function checkRandom(checks, hands) {
-    const { wrong, kinds } = await hands.run(`${ACTIONS}(120)`);
-    checks.same("nothing wrong in 120 random actions", wrong, []);
-    checks.same("of every kind", kinds, ["cube", "cut", "flush", "refused"]);
+    const { wrong, kinds } = await hands.run(`${ACTIONS}(200)`);
+    checks.same("nothing wrong in 200 random actions", wrong, []);
+    checks.same("of every kind", kinds, ["cube", "cut", "flush", "open", "refused"]);
     checks.holds("nothing to tell", await hands.run("document.querySelector('#noengine').hidden"));
     await hands.run("desk.go(Infinity)");
     const engine = await load(readFileSync("target/web/desk.wasm"), TABLE_BYTES);
-    const lines = [...turns(new Table(engine), await hands.download("#savebytes", "desk.session"))].map(({ line }) => line + "\n").join("");
+    const [table, opened] = [new Table(engine), await hands.run("desk.history.opened && { line: desk.history.opened.line, bytes: [...desk.history.opened.bytes] }")];
+    if (opened) table.restore(opened.bytes);
+    const lines = [...(opened ? [opened] : []), ...turns(table, await hands.download("#savebytes", "desk.session"))].map(({ line }) => line + "\n").join("");
     checks.same("the session's bytes give its lines again", await hands.printed(), lines);
     await hands.toTop();
     await hands.start(2);

@@ -33,7 +33,7 @@ export async function checkSessions(checks, hands) {
         checks.same(`${name}: no two vertices look the same`, new Set(texts).size, texts.length);
     }
     await hands.runLines("cube 2 1\n" + "cut both 8 1 0 0\n".repeat(300));
-    checks.same("a table that is the same is kept once", await hands.run("[desk.history.steps.length, new Set(desk.history.steps.map(({ saved }) => saved)).size]"), [301, 2]);
+    checks.same("a table that is the same is kept once", await hands.run("[desk.history.steps.length, new Set(desk.history.steps.map(({ bytes }) => bytes)).size]"), [301, 2]);
     await hands.runLines("cube 2 1\ncut some 8 1 0 0");
     checks.same("no record", await hands.text("#runsays"), "no record: cut some 8 1 0 0. The session is as it was.");
     await hands.press("#history button[data-step='0']");
@@ -71,6 +71,7 @@ export async function checkSheet(checks, hands) {
     const sum = execFileSync("python3", ["-c", "import sys, zlib; print('%08x' % zlib.crc32(sys.stdin.buffer.read()))"], { input: bytes }).toString().trim();
     checks.holds("the digest", (await hands.text(".digest")).startsWith(`2 records, checksum ${sum} `));
     checks.same("no sliver", await hands.count(".sliver"), 0);
+    checks.same("every table is laid out as one", await hands.run("[...document.querySelectorAll('.sheet table')].map(table => getComputedStyle(table).display)"), Array(6).fill("table"));
 
     // coordinates to the last bit, every walk closed, counts the engine's
     const third = "0.5773502691896258";

@@ -2,7 +2,8 @@
 
 A Table is the room of one table. A cut does not make pieces: it adds entries to the table, and a piece that the plane misses is
 its old entry. Element, vertex and hyperplane numbers count three lists, so they are three types. Any number and float may be
-given; a refused call raises Refused and leaves the table as it came.
+given; a refused call raises Refused and leaves the table as it came. Table.save gives a table as its one file, and Table.open
+opens it.
 
 >>> from spoonvelvet import ElementId, Hyperplane, Table
 >>> table = Table.with_primordial_cube_radius(2, 1.0)

@@ -4,7 +4,7 @@ The library is libdesk.so in the folder SPOONVELVET_LIB, or else beside this fil
 """
 
 import os
-from ctypes import POINTER, PyDLL, c_double, c_size_t, c_uint16, c_uint32, c_uint64
+from ctypes import POINTER, PyDLL, c_double, c_size_t, c_uint8, c_uint16, c_uint32, c_uint64
 from pathlib import Path
 from typing import Any
 
@@ -15,7 +15,8 @@ VERTEX_ROOM, ELEMENT_ROOM, HYPERPLANE_ROOM = 256, 512, 64
 POINTS = VERTEX_ROOM * AXES
 PLANE_WIDTH = AXES + 1
 PLANES = HYPERPLANE_ROOM * PLANE_WIDTH
-ELEMENT_WIDTH = 36
+BOUNDARY_ROOM = 32
+ELEMENT_WIDTH = 4 + BOUNDARY_ROOM
 ELEMENTS = ELEMENT_ROOM * ELEMENT_WIDTH
 
 NONE = 0xFFFF
@@ -24,8 +25,12 @@ NONE = 0xFFFF
 LONGEST_LIST = ELEMENT_ROOM
 """A list has at most a number for each element."""
 
+LONGEST_FILE = 10 + VERTEX_ROOM * (2 + 8 * AXES) + HYPERPLANE_ROOM * (10 + 8 * AXES) + ELEMENT_ROOM * (8 + 2 * BOUNDARY_ROOM)
+"""A file has at most a header and so many vertices, hyperplanes and elements as there is room for."""
+
 _WORDS = [POINTER(c_uint16), c_size_t]
 _FLOATS = [POINTER(c_double), c_size_t]
+_BYTES = [POINTER(c_uint8), c_size_t]
 _TABLE = _WORDS + _FLOATS + _FLOATS + _WORDS
 
 
@@ -58,3 +63,5 @@ vertex_set = _function("desk_vertex_set", c_uint32, c_uint32, *_WORDS)
 greatest_common_subelements = _function("desk_greatest_common_subelements", c_uint32, *_WORDS, *_WORDS)
 edges_in_order = _function("desk_edges_in_order", c_uint32, c_uint32, *_WORDS)
 has_primordial_facet = _function("desk_has_primordial_facet", c_uint32, c_uint32)
+save = _function("desk_save", c_uint64, *_BYTES)
+open = _function("desk_open", c_uint32, *_BYTES)

@@ -1,8 +1,8 @@
 """The room of one table, the calls that add entries to it, the questions about it, and its rows as they lie there."""
 
 import operator
-from ctypes import c_double, c_uint16
-from typing import Any, Callable, Iterable, List, Optional, SupportsFloat, SupportsIndex, Tuple, TypeVar
+from ctypes import c_double, c_uint8, c_uint16
+from typing import Any, Callable, Iterable, List, Optional, SupportsFloat, SupportsIndex, Tuple, TypeVar, Union
 
 from . import raw
 from .values import (
@@ -58,7 +58,7 @@ class Table:
     _elements: Any
 
     def __init__(self) -> None:
-        raise TypeError("a table comes from Table.with_primordial_cube_radius")
+        raise TypeError("a table comes from Table.with_primordial_cube_radius or Table.open")
 
     @classmethod
     def with_primordial_cube_radius(cls, ndim: int, radius: SupportsFloat) -> "Table":
@@ -70,13 +70,44 @@ class Table:
         Traceback (most recent call last):
         spoonvelvet.values.Refused: refused 1: the dimension is not 1 to 4
         """
+        table = cls._blank()
+        _done(raw.cube(*table._lent(), _fit(ndim), as_float(radius)))
+        return table
+
+    @classmethod
+    def open(cls, file: Union[bytes, bytearray, memoryview]) -> "Table":
+        """The table of a file, as save gives it. Refuses with 13 bytes that are not laid out as a file, and with 3 a table that is not
+        sound or has no room.
+
+        >>> file = Table.with_primordial_cube_radius(2, 1.0).save()
+        >>> Table.open(file).save() == file
+        True
+        >>> Table.open(file[1:])
+        Traceback (most recent call last):
+        spoonvelvet.values.Refused: refused 13: the bytes are not laid out as a file
+        """
+        data = memoryview(file).tobytes()
+        table = cls._blank()
+        _done(raw.open(*table._lent(), (c_uint8 * len(data)).from_buffer_copy(data), len(data)))
+        return table
+
+    @classmethod
+    def _blank(cls) -> "Table":
         table = cls.__new__(cls)
         table._counts = (c_uint16 * raw.COUNTS)()
         table._points = (c_double * raw.POINTS)()
         table._planes = (c_double * raw.PLANES)()
         table._elements = (c_uint16 * raw.ELEMENTS)()
-        _done(raw.cube(*table._lent(), _fit(ndim), as_float(radius)))
         return table
+
+    def save(self) -> bytes:
+        """The one file of the table, whose bytes are in docs/FILE.md: two tables are equal exactly when their files are. Refuses with 3.
+
+        >>> Table.with_primordial_cube_radius(1, 1.0).save()[:10]
+        b'HD\\x01\\x00\\x03\\x00\\x02\\x00\\x00\\x00'
+        """
+        room = (c_uint8 * raw.LONGEST_FILE)()
+        return bytes(room[: _done(raw.save(*self._lent(), room, len(room)))])
 
     def copy(self) -> "Table":
         """Another table with the same entries; a cut of the one leaves the other as it is."""

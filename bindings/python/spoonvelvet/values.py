@@ -21,13 +21,14 @@ REFUSALS: Mapping[int, str] = {
     9: "there is no room for another element",
     10: "there is no room for another hyperplane",
     11: "a boundary would have more than 32 elements",
-    12: "the room for the list is too short",
+    12: "the room for the list or the file is too short",
+    13: "the bytes are not laid out as a file",
 }
 """What each refusal says, by its number."""
 
 
 class Refused(Exception):
-    """A call was refused, and left the table as it came. Its number is 1 to 12, as document 01 has them.
+    """A call was refused, and left the table as it came. Its number is 1 to 13, as documents 01 and 02 have them.
 
     >>> print(Refused(4))
     refused 4: an element number is not in use

@@ -2,7 +2,8 @@
 //!
 //! A [`Table`] is the room of one table. A cut does not make pieces: it adds entries to the table, and a piece that the
 //! plane misses is its old entry. Element, vertex and hyperplane numbers count three lists, so they are three types.
-//! Any number and float may be given; a refused call leaves the table and the list as they came.
+//! Any number and float may be given; a refused call leaves the table and the list as they came. [`Table::save`] gives a table as
+//! its one file, and [`Table::open`] opens it.
 //!
 //! ```
 //! use spoonvelvet::{ElementCutOutput, ElementId, Hyperplane, Refused, Table};
@@ -18,6 +19,7 @@
 
 pub mod raw;
 mod refused;
+pub mod session;
 mod table;
 mod values;
 

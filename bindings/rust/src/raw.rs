@@ -1,6 +1,6 @@
 //! The exported functions, one for one, for hosts that lend slices of their own: the four of a table and, for a question, a
-//! list's. Any length, number and float may be given, and a number is as the engine takes it: a dimension, root, rank or side
-//! of 32 bits. The reply is one number: `bindings/c/desk.h` says what its bits are.
+//! list's, or a file's. Any length, number, float and byte may be given, and a number is as the engine takes it: a dimension,
+//! root, rank or side of 32 bits. The reply is one number: `bindings/c/desk.h` says what its bits are.
 
 use crate::Hyperplane;
 
@@ -46,6 +46,10 @@ pub const NONE: u16 = 0xffff;
 /// A list has at most a number for each element.
 pub const LONGEST_LIST: usize = ELEMENT_ROOM;
 
+/// A file has at most a header and so many vertices, hyperplanes and elements as there is room for.
+pub const LONGEST_FILE: usize =
+    10 + VERTEX_ROOM * (2 + 8 * AXES) + HYPERPLANE_ROOM * (10 + 8 * AXES) + ELEMENT_ROOM * (8 + 2 * BOUNDARY_ROOM);
+
 extern "C" {
     fn desk_is_sound(c: *const u16, cn: usize, p: *const f64, pn: usize, h: *const f64, hn: usize, e: *const u16, en: usize) -> u32;
     fn desk_cube(c: *mut u16, cn: usize, p: *mut f64, pn: usize, h: *mut f64, hn: usize, e: *mut u16, en: usize, ndim: u32, radius: f64) -> u32;
@@ -56,6 +60,8 @@ extern "C" {
     fn desk_greatest_common_subelements(c: *const u16, cn: usize, p: *const f64, pn: usize, h: *const f64, hn: usize, e: *const u16, en: usize, roots: *const u16, rn: usize, list: *mut u16, n: usize) -> u32;
     fn desk_edges_in_order(c: *const u16, cn: usize, p: *const f64, pn: usize, h: *const f64, hn: usize, e: *const u16, en: usize, root: u32, list: *mut u16, n: usize) -> u32;
     fn desk_has_primordial_facet(c: *const u16, cn: usize, p: *const f64, pn: usize, h: *const f64, hn: usize, e: *const u16, en: usize, root: u32) -> u32;
+    fn desk_save(c: *const u16, cn: usize, p: *const f64, pn: usize, h: *const f64, hn: usize, e: *const u16, en: usize, file: *mut u8, n: usize) -> u64;
+    fn desk_open(c: *mut u16, cn: usize, p: *mut f64, pn: usize, h: *mut f64, hn: usize, e: *mut u16, en: usize, file: *const u8, n: usize) -> u32;
 }
 
 /// 0, or 3 where the four slices are no sound table.
@@ -112,4 +118,14 @@ pub fn edges_in_order(c: &[u16], p: &[f64], h: &[f64], e: &[u16], root: u32, lis
 /// Bits 0 to 7 are the reply's number, bit 8 is the answer.
 pub fn has_primordial_facet(c: &[u16], p: &[f64], h: &[f64], e: &[u16], root: u32) -> u32 {
     unsafe { desk_has_primordial_facet(c.as_ptr(), c.len(), p.as_ptr(), p.len(), h.as_ptr(), h.len(), e.as_ptr(), e.len(), root) }
+}
+
+/// The table as its one file, at the front of the room: bits 0 to 7 are 0, 3 or 12, above them is how many bytes it has.
+pub fn save(c: &[u16], p: &[f64], h: &[f64], e: &[u16], file: &mut [u8]) -> u64 {
+    unsafe { desk_save(c.as_ptr(), c.len(), p.as_ptr(), p.len(), h.as_ptr(), h.len(), e.as_ptr(), e.len(), file.as_mut_ptr(), file.len()) }
+}
+
+/// The table of a file in place of all that the memory had: 0, or refused with 13 or 3.
+pub fn open(c: &mut [u16], p: &mut [f64], h: &mut [f64], e: &mut [u16], file: &[u8]) -> u32 {
+    unsafe { desk_open(c.as_mut_ptr(), c.len(), p.as_mut_ptr(), p.len(), h.as_mut_ptr(), h.len(), e.as_mut_ptr(), e.len(), file.as_ptr(), file.len()) }
 }

@@ -1,4 +1,4 @@
-//! Refusals: their numbers, as document 01 has them, with a name and words for each.
+//! Refusals: their numbers, as documents 01 and 02 have them, with a name and words for each.
 
 /// Why a call was refused. It left the table as it came.
 ///
@@ -13,7 +13,7 @@
 /// ```
 #[derive(Clone, Copy, PartialEq, Eq, Hash)]
 pub struct Refused(
-    /// The number of the refusal, 1 to 12.
+    /// The number of the refusal, 1 to 13.
     pub u8,
 );
 
@@ -45,7 +45,8 @@ refusals! {
     9 ELEMENTS_FULL "there is no room for another element"
     10 HYPERPLANES_FULL "there is no room for another hyperplane"
     11 BOUNDARY_FULL "a boundary would have more than 32 elements"
-    12 LIST_SHORT "the room for the list is too short"
+    12 ROOM_SHORT "the room for the list or the file is too short"
+    13 LAYOUT "the bytes are not laid out as a file"
 }
 
 impl std::fmt::Display for Refused {

@@ -52,6 +52,39 @@ impl Table {
         Ok(table)
     }
 
+    /// The table of a file, as [`save`](Table::save) gives it. Refuses with 13 bytes that are not laid out as a file, and with 3
+    /// a table that is not sound or has no room.
+    ///
+    /// ```
+    /// # use spoonvelvet::{Refused, Table};
+    /// let file = Table::with_primordial_cube_radius(2, 1.0)?.save();
+    /// assert_eq!(Table::open(&file)?.save(), file);
+    /// assert_eq!(Table::open(&file[1..]), Err(Refused::LAYOUT));
+    /// # Ok::<(), Refused>(())
+    /// ```
+    pub fn open(file: &[u8]) -> Result<Self, Refused> {
+        let mut table = Self::blank();
+        let number = raw::open(&mut table.counts, &mut *table.points, &mut *table.planes, &mut *table.elements, file);
+        refusal(number).map_or(Ok(table), Err)
+    }
+
+    /// The one file of the table, whose bytes are in `docs/FILE.md`: two tables are equal exactly when their files are. A table
+    /// is sound and no file is longer than its room, so this is never refused.
+    ///
+    /// ```
+    /// # use spoonvelvet::{Refused, Table};
+    /// let line = Table::with_primordial_cube_radius(1, 1.0)?;
+    /// assert_eq!(line.save()[..10], *b"HD\x01\0\x03\0\x02\0\0\0");
+    /// # Ok::<(), Refused>(())
+    /// ```
+    pub fn save(&self) -> Vec<u8> {
+        let mut file = vec![0; raw::LONGEST_FILE];
+        let word = raw::save(&self.counts, &*self.points, &*self.planes, &*self.elements, &mut file);
+        assert_eq!(refusal(word as u32), None);
+        file.truncate((word >> 8) as usize);
+        file
+    }
+
     /// The four slices, to be put aside or lent to [`raw`].
     pub fn slices(&self) -> Slices<'_> {
         Slices { counts: &self.counts, points: &*self.points, planes: &*self.planes, elements: &*self.elements }

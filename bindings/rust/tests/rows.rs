@@ -89,8 +89,8 @@ fn room_left_and_counts_fill_the_room() {
 #[test]
 fn refusals_are_shown_with_their_words() {
     assert_eq!(Refused::BOUNDARY_FULL.to_string(), "refused 11: a boundary would have more than 32 elements");
-    assert_eq!(format!("{:?}", Refused(12)), "Refused(12: the room for the list is too short)");
-    assert_eq!(Refused(13).words(), "no refusal has this number");
+    assert_eq!(format!("{:?}", Refused(12)), "Refused(12: the room for the list or the file is too short)");
+    assert_eq!(Refused(14).words(), "no refusal has this number");
 }
 
 #[test]

@@ -1,3 +1,4 @@
 pub mod CutWords
 pub mod ListWords
 pub mod RankWords
+pub mod FileWords

@@ -1,18 +1,18 @@
--- No list that a question gives has more numbers than there is room for elements, so its size fits above the reply's number.
+-- No list that a question gives has more numbers than there is room for elements, and no file more bytes than two of them count: its size fits above the reply's number.
 use Prim.Native.Nat.{ℕ, zero, suc, _+_, _*_, _≤_, _<_}
 use mathlib.Core.Bool.{Bool, true, false, not, _&&_}
 use mathlib.Core.List.{List, [], _∷_, _++_, map}
 use mathlib.Core.Path.{_≡_, refl, sym, ap, subst, _∙_}
 use native.Mathlib.Nat.{le-trans, le-of-eq}
 use native.Mathlib.Omega.{arith}
-use lib.Dec.{leb, ltb, eqb}
-use lib.ListN.{length, getD, drop, length-map}
+use lib.Dec.{leb, ltb, eqb, lit≤}
+use lib.ListN.{length, drop, length-map}
 use Rattle.rules.specs.Limits.{desk}
 use Rattle.rules.specs.Lists.{if_then_else_, all, keep, upTo, joined}
 use Rattle.rules.specs.Table.{Table, vertexOf, element, rank, boundary, boundaryOf, corner, elementCount}
 use Rattle.rules.specs.Memory.{Memory, decode, soundMemory}
 use Rattle.rules.specs.Questions.{Asked, no-answer, answer, isBelow, subElements, withRank, vertexSet, commonWithRank, someOr, greatestFrom, greatestCommon, pairs, edgesInOrder}
-use Rattle.rules.specs.Walk.{walk, otherEnd, otherEdge, firstEdge, startOf, around, eachOnce}
+use Rattle.rules.specs.Walk.{walk, otherEnd, otherEdge, firstEdge, startOf, eachOnce}
 use Rattle.rules.specs.Replies.{asked, listed, subElementsReply, withRankReply, vertexSetReply, greatestCommonReply, inNumbers, edgesInOrderReply}
 use Rattle.rules.specs.declared.ListReply.{ListReply}
 use Rattle.rules.specs.declared.ListReply.the-variants.{Refused, Listed}
@@ -22,7 +22,7 @@ use Rattle.rules.proofs.Growing.{all-get}
 use Rattle.rules.proofs.Laws.{le-test, and-left}
 use Rattle.rules.proofs.OneCall.{sound-table}
 use Rattle.rules.proofs.RingWalked.{kept-length}
-use Rattle.desk.specs.Words.{SizeFits, sizeWord, listWord}
+use Rattle.desk.specs.Words.{longest, SizeFits, sizeWord, listWord}
 
 -- no longer than that, where it is answered
 abbrev Short : Asked (List ℕ) → Type 0
@@ -34,7 +34,7 @@ list-fits (no-answer n) room h = tt
 list-fits (answer xs) room h = go (leb (length xs) (length room))
   where
     go : (b : Bool) → SizeFits (if_then_else_ {A = ListReply × List ℕ} b (Listed (length xs), xs ++ drop (length xs) room) (Refused 12, room) .0)
-    go true = h
+    go true = le-trans h (lit≤ tt)
     go false = tt
 
 -- what is asked of a memory that is not sound, or of a number not in use, is refused
@@ -145,5 +145,5 @@ list-said {room = room} x e q = (λ j. (q j, room)) ∙ ap listWord e
 pub fits-as : {r : ListReply} {room : List ℕ} {w : ListReply × List ℕ} → (r, room) ≡ w → SizeFits (w .0) → SizeFits r
 fits-as e h = subst SizeFits (sym (ap (λ (x : ListReply × List ℕ). x .0) e)) h
 
-pub listed-low : {r : ListReply} (n : ℕ) → r ≡ Listed n → SizeFits r → n ≤ desk .elements
+pub listed-low : {r : ListReply} (n : ℕ) → r ≡ Listed n → SizeFits r → n ≤ longest
 listed-low n q h = subst SizeFits q h

@@ -4,7 +4,6 @@ use mathlib.Core.Bool.{Bool, not, cond}
 use mathlib.Core.List.{List, [], _∷_}
 use lib.Dec.{eqb, leb}
 use lib.Ieee.{Float}
-use Rattle.rules.specs.Limits.{desk}
 use Rattle.rules.specs.Memory.{Memory}
 use Rattle.rules.specs.declared.Hyperplane.{Hyperplane}
 use Rattle.rules.specs.declared.ElementOrNone.{ElementOrNone}
@@ -59,7 +58,11 @@ keptBy n = not (eqb n 0)
 abbrev pub rankByte : ℕ → ℕ
 rankByte k = cond (leb k 255) k 255
 
--- a list of no more numbers than there is room for elements, or a refusal
+-- no list has more numbers, and no file more bytes
+abbrev pub longest : ℕ
+longest = 65535
+
+-- a list no longer than that, or a refusal
 abbrev pub SizeFits : ListReply → Type 0
 SizeFits (ListRefused n) = Unit {0}
-SizeFits (Listed n) = n ≤ desk .elements
+SizeFits (Listed n) = n ≤ longest

@@ -12,6 +12,7 @@ use walk::facet;
 ghost use mathlib.Core.Path.{_≡_};
 ghost use Rattle.rules.specs.Limits.{desk};
 ghost use Rattle.rules.specs.Held.{memoryOf};
+ghost use Rattle.rules.specs.Files.{saveReply, openReply};
 ghost use Rattle.rules.specs.Replies.{isKept, isSoundReply, cubeReply, cutReply, subElementsReply, withRankReply, vertexSetReply, greatestCommonReply, edgesInOrderReply, primordialFacetReply};
 ghost use Rattle.rules.specs.Promises.{OneBelow, NamesBelow};
 ghost use Rattle.space.specs.Numbers.{NumberBelow};
@@ -264,4 +265,33 @@ pub extern "C" fn desk_has_primordial_facet(
         FacetReply::Refused(no) => no as u32,
         FacetReply::Has(b) => { if b { 0x100 } else { 0 } }
     }
+}
+
+// Bits 0 to 7 are the reply's number, and above them stands how many bytes were written.
+#[no_mangle]
+pub extern "C" fn desk_save(
+    counts: &[u16],
+    points: &[f64],
+    planes: &[f64],
+    elements: &[u16],
+    file: &mut [u8],
+) -> u64
+    ensures { λ r. ⌜ (r, now (file .exit)) ≡ listWord (saveReply desk (memoryOf (now (counts .entry)) (now (points .entry)) (now (planes .entry)) (now (elements .entry))) (now (file .entry))) ⌝ }
+{
+    let reply = files::save::save(counts, points, planes, elements, file);
+    list_word(reply) as u64
+}
+
+#[no_mangle]
+pub extern "C" fn desk_open(
+    counts: &mut [u16],
+    points: &mut [f64],
+    planes: &mut [f64],
+    elements: &mut [u16],
+    file: &[u8],
+) -> u32
+    ensures { λ r. ⌜ (r, memoryOf (now (counts .exit)) (now (points .exit)) (now (planes .exit)) (now (elements .exit))) ≡
+        openReply desk (now (file .entry)) (memoryOf (now (counts .entry)) (now (points .entry)) (now (planes .entry)) (now (elements .entry))) ⌝ }
+{
+    files::open::open(counts, points, planes, elements, file) as u32
 }

@@ -130,6 +130,7 @@ plane-read bs at d h end r =
 pub record ElementRead (bs : List ℕ) (at : ℕ) (x : Element) (end : ℕ) : Type 0 where
   pub within : at + 8 + 2 * countAt at bs ≤ length bs
   pub ends : end ≡ at + 8 + 2 * countAt at bs
+  pub value : x ≡ readElement (rowAt at bs)
   pub row : elementRow x ≡ rowAt at bs
 
 module _ (bs : List ℕ) (at : ℕ) (x : Element) (end : ℕ) (r : Read elementIn bs at x end) where
@@ -166,7 +167,7 @@ module _ (bs : List ℕ) (at : ℕ) (x : Element) (end : ℕ) (r : Read elementI
       ∙ and-then (many count (number 2) (drop (at + 8) bs)) _ b (drop (at + 8 + 2 * count) bs) (numbers-read bs count (at + 8) (at + 8 + 2 * count) refl inside))
       ∙ r .says) in
       let t = told bs x (readElement (rowAt at bs)) end (at + 8 + 2 * count) (r .within) inside (c .1) in
-      record { within = inside; ends = t .ends; row = ap elementRow (t .value) ∙ row-only rank mark plane count b (c .0) (numbers-long bs count (at + 8)) }
+      record { within = inside; ends = t .ends; value = t .value; row = ap elementRow (t .value) ∙ row-only rank mark plane count b (c .0) (numbers-long bs count (at + 8)) }
 
 -- ---- for the code: a point axis by axis, a row number by number
 

@@ -1,8 +1,9 @@
 -- The size of a file. The elements' records are counted row by row: what is counted, and the records that are left, make all of it.
-use Prim.Native.Nat.{ℕ, _+_, _*_, _≤_, _<_}
-use mathlib.Core.List.{List, [], _++_}
-use mathlib.Core.Path.{_≡_, refl, sym, ap, _∙_}
+use Prim.Native.Nat.{ℕ, zero, suc, _+_, _*_, _≤_, _<_}
+use mathlib.Core.List.{List}
+use mathlib.Core.Path.{_≡_, refl, ap, subst, _∙_}
 use native.Mathlib.Nat.{le-trans, mul-le-mul-right}
+use native.Mathlib.Numerals.{add-one}
 use native.Mathlib.Omega.{arith}
 use lib.ListN.{length, getD, length-append}
 use Rattle.files.specs.Saved.{countFits, rowSaved, rowAt, saved, fileSize, RowsUsed}
@@ -38,9 +39,20 @@ module _ (es : List ℕ) (n : ℕ) where
   pub whole-size : {size e : ℕ} → n ≤ e → SizeSoFar es n size e → size ≡ length (saved rowSaved 36 n es)
   whole-size {size} {e} h s = let q = ap length (saved-none rowSaved 36 n es e h) in let z = s .counted in omega (arith, q, z)
 
+  -- the records of elements have few bytes
+  pub elements-few : RowsUsed es n → length (saved rowSaved 36 n es) ≤ 72 * n
+  elements-few u = let c = go n (omega arith) in let q = whole-size (omega arith) (c .1) in let m = c .1 .most in omega (arith, q, m)
+    where
+      go : (e : ℕ) → e ≤ n → (size : ℕ) × SizeSoFar es n size e
+      go zero h = (0, no-size)
+      go (suc e) h =
+          let c = go e (omega (arith, h)) in
+          let k = getD es (e * 36 + 3) 0 in
+          (c .0 + 8 + 2 * k, subst (SizeSoFar es n (c .0 + 8 + 2 * k)) (add-one e) (next-size u e h k refl (c .1)))
+
 -- ---- the whole
 
--- the records of vertices and of hyperplanes have few bytes
+-- and so have those of vertices and of hyperplanes
 pub points-few : (v d : ℕ) → v ≤ 256 → d ≤ 4 → v * (2 + 8 * d) ≤ 8704
 points-few v d h k = le-trans (mul-le-mul-right (2 + 8 * d) h) (let z : 256 * (2 + 8 * d) ≤ 8704 = omega (arith, k) in z)
 

@@ -30,7 +30,8 @@ use Rattle.soundness.proofs.SoundLines.{Own, records-own}
 use Rattle.soundness.proofs.SoundWhole.{CountsLow, fit-counts, words-memory}
 use Rattle.lent_bytes.specs.Lent.{Put}
 use Rattle.lent_bytes.proofs.Puts.{then as behind, put-as, put-length}
-use Rattle.files.specs.Saved.{headerSaved, pointSaved, planeSaved, rowSaved, areNumbers, pointClear, planeClear, countFits, saved, fileSize, RowsReady, HeaderReady, RowsUsed, SizeReady}
+use Rattle.files.specs.Saved.{headerSaved, pointSaved, planeSaved, rowSaved, areNumbers, pointClear, planeClear, countFits, saved, fileSize, RowsReady, HeaderReady, SizeReady}
+use Rattle.files.proofs.SavedSizes.{elements-few, points-few, planes-few}
 use Rattle.files.proofs.SavedRecords.{header-long, point-long, plane-long, rows-front-long}
 
 -- ---- a row that is what is written of its element
@@ -201,6 +202,18 @@ module _ (cs : List ℕ) (ps hs : List Float) (es : List ℕ) (s : soundMemory d
       let c = planes-long in
       let e = parts-long in
       omega (arith, a, b, c, e)
+
+  -- and it fits two bytes
+  pub file-short : length (fileOf (decode desk (memoryOf cs ps hs es))) ≤ 65535
+  unfolding fileSize
+  file-short =
+      let e = size-is in
+      let u = size-ready in
+      let a = points-few v d (u .vertices) (u .dimension) in
+      let b = planes-few h d (u .hyperplanes) (u .dimension) in
+      let c = elements-few es n (u .elements) in
+      let r = u .elements .room in
+      omega (arith, e, a, b, c, r)
 
   -- ---- each part, where all of it fits the room
 

@@ -4,3 +4,6 @@ pub mod Passed
 pub mod Laid
 pub mod Saved
 pub mod Entries
+pub mod Putting
+pub mod Judged
+pub mod Kept

@@ -10,7 +10,7 @@ ghost use Rattle.files.specs.Passed.{begins, reader, Place, Ends, AllEnd
 ghost use Rattle.files.specs.Laid.{LayoutTold};
 
 // How many bytes a header has, and how many of them are numbers, behind the mark; and of an element's record, before its boundary.
-const HEADER: usize = 10;
+pub const HEADER: usize = 10;
 
 const HEADER_NUMBERS: usize = 8;
 

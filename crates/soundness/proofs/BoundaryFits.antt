@@ -72,31 +72,31 @@ module _ (p q : ℕ → Bool) where
       by-three (leb low x) (climbs (suc x) xs) (p x) (all p xs) (q x) (all q xs)
       ∙ ap (λ (b : Bool). (leb low x && p x && q x) && b) (together (suc x) xs)
 
-module _ (es : List ℕ) (to e r : ℕ) where
+module _ (es ws : List ℕ) (to e r : ℕ) where
   abbrev pub left : ℕ → ℕ → Bool
-  left low i = fits (λ x. ltb x e) (λ x. eqb (suc (getD es (x * 36) 0)) r) low (drop i (take to es))
+  left low i = fits (λ x. ltb x e) (λ x. eqb (suc (getD es (x * 36) 0)) r) low (drop i (take to ws))
 
-  pub fits-start : (from : ℕ) → numbersFit desk es e r (drop from (take to es)) ≡ left 0 from
+  pub fits-start : (from : ℕ) → numbersFit desk es e r (drop from (take to ws)) ≡ left 0 from
   fits-start from =
-      let b = drop from (take to es) in
+      let b = drop from (take to ws) in
       ap (λ (c : Bool). c && all (λ x. ltb x e) b && all (λ x. eqb (suc (getD es (x * 36) 0)) r) b) (rises-all b)
       ∙ together (λ x. ltb x e) (λ x. eqb (suc (getD es (x * 36) 0)) r) 0 b
 
-  module _ (fit : to ≤ length es) where
-    on : (low i x : ℕ) (F : Bool) → x ≡ getD es i 0 → i < to → numberFits desk es e r low x ≡ F → left low i ≡ (F && left (x + 1) (i + 1))
+  module _ (fit : to ≤ length ws) where
+    on : (low i x : ℕ) (F : Bool) → x ≡ getD ws i 0 → i < to → numberFits desk es e r low x ≡ F → left low i ≡ (F && left (x + 1) (i + 1))
     on low i x F s h f =
         ap (fits (λ y. ltb y e) (λ y. eqb (suc (getD es (y * 36) 0)) r) low)
-        (drop-cons (take to es) i 0 (let k = length-take-le to es fit in let q : i < length (take to es) = omega (arith, k, h) in q)
-        ∙ ap (λ (y : ℕ). y ∷ drop (suc i) (take to es)) (getD-take to es i 0 h ∙ sym s))
+        (drop-cons (take to ws) i 0 (let k = length-take-le to ws fit in let q : i < length (take to ws) = omega (arith, k, h) in q)
+        ∙ ap (λ (y : ℕ). y ∷ drop (suc i) (take to ws)) (getD-take to ws i 0 h ∙ sym s))
         ∙ (λ j. f j && left (sym (add-one x) j) (sym (add-one i) j))
 
-    pub fits-go : {reply : Bool} (low i x : ℕ) → reply ≡ left low i → x ≡ getD es i 0 → i < to → numberFits desk es e r low x ≡ true → reply ≡ left (x + 1) (i + 1)
+    pub fits-go : {reply : Bool} (low i x : ℕ) → reply ≡ left low i → x ≡ getD ws i 0 → i < to → numberFits desk es e r low x ≡ true → reply ≡ left (x + 1) (i + 1)
     fits-go low i x t s h f = t ∙ on low i x true s h f
 
-    pub fits-no : {reply : Bool} (low i x : ℕ) → reply ≡ left low i → x ≡ getD es i 0 → i < to → numberFits desk es e r low x ≡ false → false ≡ reply
+    pub fits-no : {reply : Bool} (low i x : ℕ) → reply ≡ left low i → x ≡ getD ws i 0 → i < to → numberFits desk es e r low x ≡ false → false ≡ reply
     fits-no low i x t s h f = sym (t ∙ on low i x false s h f)
 
     pub fits-end : {reply : Bool} (low i : ℕ) → reply ≡ left low i → to ≤ i → true ≡ reply
     fits-end low i t h =
         sym (t ∙ ap (fits (λ y. ltb y e) (λ y. eqb (suc (getD es (y * 36) 0)) r) low)
-        (drop-of-length-le (take to es) (let k = length-take-le to es fit in let q : length (take to es) ≤ i = omega (arith, k, h) in q)))
+        (drop-of-length-le (take to ws) (let k = length-take-le to ws fit in let q : length (take to ws) ≤ i = omega (arith, k, h) in q)))

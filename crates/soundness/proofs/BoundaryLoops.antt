@@ -3,7 +3,7 @@ use Prim.Native.Nat.{ℕ, suc, _≤_, _<_, zero, _+_, _*_}
 use mathlib.Core.Bool.{Bool, not, _&&_, true, false}
 use mathlib.Core.List.{List, [], _∷_}
 use mathlib.Core.Path.{_≡_, sym, subst, refl, ap, _∙_}
-use native.Mathlib.Nat.{not-suc-le-zero, le-of-suc-le-suc, le-trans, le-of-eq}
+use native.Mathlib.Nat.{not-suc-le-zero, le-of-suc-le-suc}
 use native.Mathlib.Omega.{arith}
 use lib.Dec.{eqb, ltb, leb, lit≤}
 use lib.ListN.{length, drop, take, getD, length-drop}
@@ -47,9 +47,9 @@ bound-is es at n en l =
     take-it : take n (drop 4 (take (4 + 32) (drop at es))) ≡ take n (drop 4 (drop at es))
     take-it = ap (take n) (drop-take 4 32 (drop at es)) ∙ take-take n 32 (drop 4 (drop at es)) l
 
-module _ (es : List ℕ) (e d h r : ℕ) (er : r ≡ getD es (e * 36) 0) where
+module _ (es ws : List ℕ) (at e d h r : ℕ) (er : r ≡ getD ws at 0) where
   abbrev row : List ℕ
-  row = take 36 (drop (e * 36) es)
+  row = take 36 (drop at ws)
 
   -- by whether it is a vertex
   abbrev byKind : Bool → Bool
@@ -57,28 +57,28 @@ module _ (es : List ℕ) (e d h r : ℕ) (er : r ≡ getD es (e * 36) 0) where
 
   pub element-zero : r ≡ 0 → elementSound desk es d h e row ≡ true
   unfolding elementSound
-  element-zero z = ap byKind (test-eq (getD row 0 0) 0 (row-first (e * 36) es ∙ sym er ∙ z))
+  element-zero z = ap byKind (test-eq (getD row 0 0) 0 (row-first at ws ∙ sym er ∙ z))
 
-  pub element-more : (p m : ℕ) → p ≡ getD es (e * 36 + 2) 0 → m ≡ getD es (e * 36 + 1) 0 → (r ≡ 0 → ⊥)
+  pub element-more : (p m : ℕ) → p ≡ getD ws (at + 2) 0 → m ≡ getD ws (at + 1) 0 → (r ≡ 0 → ⊥)
       → elementSound desk es d h e row ≡ (leb r d && boundarySound desk es d e r (boundaryIn row) && facetWords d h r p m)
   unfolding elementSound
   element-more p m ep em z =
-      let first = row-first (e * 36) es ∙ sym er in
-      let second = row-word (e * 36) 1 es (lit≤ tt) ∙ sym em in
-      let third = row-word (e * 36) 2 es (lit≤ tt) ∙ sym ep in
+      let first = row-first at ws ∙ sym er in
+      let second = row-word at 1 ws (lit≤ tt) ∙ sym em in
+      let third = row-word at 2 ws (lit≤ tt) ∙ sym ep in
       ap byKind (not-eq (getD row 0 0) 0 (λ q. z (sym first ∙ q)))
       ∙ (λ i. leb (first i) d && boundarySound desk es d e (first i) (boundaryIn row) && facetWords d h (first i) (third i) (second i))
 
 -- ---- a boundary, test by test
 
-module _ (es : List ℕ) (at n d e r : ℕ) (s : length es ≡ 18432) (f : at + n ≤ 18432) where
+module _ (es ws : List ℕ) (at n d e r : ℕ) (f : at + n ≤ length ws) where
   abbrev there : List ℕ
-  there = drop at (take (at + n) es)
+  there = drop at (take (at + n) ws)
 
   pub boundary-long : length there ≡ n
   boundary-long =
-      let k = length-take-le (at + n) es (le-trans f (le-of-eq (sym s))) in
-      let j = length-drop at (take (at + n) es) in
+      let k = length-take-le (at + n) ws f in
+      let j = length-drop at (take (at + n) ws) in
       let q : length there ≡ n = omega (arith, k, j) in q
 
   boundary-are : (G R A K C : Bool) → ltb r n ≡ G → rises there ≡ R → all (λ x. ltb x e) there ≡ A → all (λ x. eqb (suc (getD es (x * 36) 0)) r) there ≡ K → closedRaw d es r there ≡ C
@@ -105,9 +105,9 @@ module _ (es : List ℕ) (at n d e r : ℕ) (s : length es ≡ 18432) (f : at + 
       regroup false R A K C = refl
 
   -- an edge's is closed by its count, and a body's always
-  pub boundary-edge : {x : Bool} → r ≡ 1 → n ≡ 2 → x ≡ numbersFit desk es e 1 (drop at (take (at + 2) es)) → x ≡ boundarySound desk es d e r there
+  pub boundary-edge : {x : Bool} → r ≡ 1 → n ≡ 2 → x ≡ numbersFit desk es e 1 (drop at (take (at + 2) ws)) → x ≡ boundarySound desk es d e r there
   boundary-edge one two q =
-      q ∙ (λ i. numbersFit desk es e (sym one i) (drop at (take (at + sym two i) es))) ∙ sym (and-one (numbersFit desk es e r there))
+      q ∙ (λ i. numbersFit desk es e (sym one i) (drop at (take (at + sym two i) ws))) ∙ sym (and-one (numbersFit desk es e r there))
       ∙ boundary-by true _ true (lt-ltb r n (let z : r < n = omega (arith, one, two) in z)) refl (sym (closed-one d es there r n boundary-long one) ∙ test-eq n 2 two)
 
   pub boundary-open : r ≡ 1 → (n ≡ 2 → ⊥) → false ≡ boundarySound desk es d e r there
@@ -175,7 +175,7 @@ module _ (es : List ℕ) (e d h : ℕ) (s : length es ≡ 18432) (u : e < 512) (
         let F = facetWords d h (getD es (e * 36) 0) (getD es (e * 36 + 2) 0) (getD es (e * 36 + 1) 0) in
         let B = boundarySound desk es d e (getD es (e * 36) 0) (boundaryIn (take 36 (drop (e * 36) es))) in
         ap (boundarySound desk es d e (getD es (e * 36) 0)) (sym (bound-is es (e * 36) size refl size-fits))
-        ∙ and-right (leb (getD es (e * 36) 0) d) B (and-left (leb (getD es (e * 36) 0) d && B) F (sym (element-more es e d h _ refl _ _ refl refl some) ∙ S))
+        ∙ and-right (leb (getD es (e * 36) 0) d) B (and-left (leb (getD es (e * 36) 0) d && B) F (sym (element-more es es (e * 36) e d h _ refl _ _ refl refl some) ∙ S))
 
     parts : (ltb (getD es (e * 36) 0) size && rises bound && all (λ x. ltb x e) bound) ≡ true
     parts =
@@ -185,7 +185,7 @@ module _ (es : List ℕ) (e d h : ℕ) (s : length es ≡ 18432) (u : e < 512) (
         let C = closedRaw d es (getD es (e * 36) 0) bound in
         let f = size-fits in
         and-left (G && rises bound && A) K (and-left (G && rises bound && A && K) C
-        (boundary-are es (e * 36 + 4) size d e (getD es (e * 36) 0) s (let q : e * 36 + 4 + size ≤ 18432 = omega (arith, f, u) in q) _ _ _ _ _ refl refl refl refl refl ∙ tested))
+        (boundary-are es es (e * 36 + 4) size d e (getD es (e * 36) 0) (let q : e * 36 + 4 + size ≤ length es = omega (arith, f, u, s) in q) _ _ _ _ _ refl refl refl refl refl ∙ tested))
 
     two-ends : 2 ≤ size
     two-ends =

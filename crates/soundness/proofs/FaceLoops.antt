@@ -22,24 +22,24 @@ use Rattle.soundness.proofs.BoundaryLoops.{numbers-ends}
 
 -- ---- edge after edge
 
-module _ (es : List ℕ) (from to e : ℕ) (fit : to ≤ length es) where
+module _ (es ws : List ℕ) (from to e : ℕ) (fit : to ≤ length ws) where
   abbrev edges : List ℕ
-  edges = drop from (take to es)
+  edges = drop from (take to ws)
 
   pub edges-long : length edges ≡ to - from
   edges-long =
-      let k = length-take-le to es fit in
-      let j = length-drop from (take to es) in
+      let k = length-take-le to ws fit in
+      let j = length-drop from (take to ws) in
       let q : length edges ≡ to - from = omega (arith, k, j) in q
 
-  edge-at : (i x : ℕ) → from ≤ i → i < to → x ≡ getD es i 0 → x ≡ getD edges (i - from) 0
+  edge-at : (i x : ℕ) → from ≤ i → i < to → x ≡ getD ws i 0 → x ≡ getD edges (i - from) 0
   edge-at i x l h p =
-      p ∙ sym (getD-drop from (take to es) (i - from) 0 ∙ ap (λ (j : ℕ). getD (take to es) j 0) (let z : from + (i - from) ≡ i = omega (arith, l) in z) ∙ getD-take to es i 0 h)
+      p ∙ sym (getD-drop from (take to ws) (i - from) 0 ∙ ap (λ (j : ℕ). getD (take to ws) j 0) (let z : from + (i - from) ≡ i = omega (arith, l) in z) ∙ getD-take to ws i 0 h)
 
   edge-left : (i : ℕ) → from ≤ i → i < to → i - from < length edges
   edge-left i l h = let n = edges-long in omega (arith, n, l, h)
 
-  pub face-go : (met met′ : List ℕ) (twice i x r s : ℕ) → Paths es edges s met twice (i - from) → from ≤ i → i < to → x ≡ getD es i 0 → EndsLow es x
+  pub face-go : (met met′ : List ℕ) (twice i x r s : ℕ) → Paths es edges s met twice (i - from) → from ≤ i → i < to → x ≡ getD ws i 0 → EndsLow es x
       → r ≡ joining s es met x → r < 3 → met′ ≡ joined s es met x → Paths es edges s met′ (twice + r) (i + 1 - from)
   face-go met met′ twice i x r s P l h p E c small m =
       subst (λ (k : ℕ). Paths es edges s met′ (twice + r) k) (let z : i - from + 1 ≡ i + 1 - from = omega (arith, l) in z)
@@ -47,7 +47,7 @@ module _ (es : List ℕ) (from to e : ℕ) (fit : to ≤ length es) where
 
   -- few edges
 
-  pub few-go : (met met′ : List ℕ) (twice i x r s stamp : ℕ) → Round es edges s met twice (i - from) → from ≤ i → i < to → x ≡ getD es i 0 → EndsLow es x → stamp ≡ s
+  pub few-go : (met met′ : List ℕ) (twice i x r s stamp : ℕ) → Round es edges s met twice (i - from) → from ≤ i → i < to → x ≡ getD ws i 0 → EndsLow es x → stamp ≡ s
       → r ≡ seconds stamp es met x → met′ ≡ bothMet stamp es met x → Round es edges s met′ (twice + r) (i + 1 - from)
   few-go met met′ twice i x r s stamp R l h p E t c m =
       subst (λ (k : ℕ). Round es edges s met′ (twice + r) k) (let z : i - from + 1 ≡ i + 1 - from = omega (arith, l) in z)
@@ -83,7 +83,7 @@ module _ (es : List ℕ) (from to e : ℕ) (fit : to ≤ length es) where
         go false q = refl
 
     module _ (met : List ℕ) (twice i s : ℕ) (P : Paths es edges s met twice (i - from)) (l : from ≤ i) where
-      module _ (h : i < to) (x r : ℕ) (p : x ≡ getD es i 0) (c : r ≡ joining s es met x) where
+      module _ (h : i < to) (x r : ℕ) (p : x ≡ getD ws i 0) (c : r ≡ joining s es met x) where
         pub face-thrice : r ≡ 4 → false ≡ faceWords desk es e edges
         face-thrice four = neither-way (λ f. answers-thrice es edges (up f) (fine f) s met twice (i - from) P x (edge-left i l h) (edge-at i x l h p) r c four)
 

@@ -6,6 +6,7 @@ pub mod Unseen
 pub mod PastLoops
 pub mod RowLoops
 pub mod PlaneLoops
+pub mod KnownRows
 pub mod BoundaryFits
 pub mod BoundaryLoops
 pub mod OnePass

@@ -2,7 +2,7 @@
 use Prim.Native.Nat.{_-_, ℕ, _≤_, _*_}
 use mathlib.Core.Bool.{Bool, _&&_, true, false}
 use mathlib.Core.List.{List}
-use mathlib.Core.Path.{_≡_, sym, ap, _∙_, ap₂, refl}
+use mathlib.Core.Path.{_≡_, sym, ap, _∙_, refl}
 use lib.Ieee.{Float}
 use lib.ListN.{take, getD, drop}
 use lib.Seq.{take-take}
@@ -15,11 +15,11 @@ use Rattle.soundness.proofs.ReadBack.{and-one, and-zero}
 use Rattle.soundness.proofs.RowLoops.{row-start}
 
 -- what hypermath says of a lent row is what the words must meet
-pub plane-is : (d : ℕ) (row : List Float) → d ≤ 4 → (a b : Bool) → unitNormal d (take 4 row) ≡ a → within farthestPlane (getD row 4 plusZero) ≡ b → (a && b) ≡ planeWords desk d row
+pub plane-is : (d : ℕ) (row : List Float) → d ≤ 4 → (unitNormal d (take 4 row) && within farthestPlane (getD row 4 plusZero)) ≡ planeWords desk d row
 unfolding planeWords
-plane-is d row low a b p q =
-    sym (swapped (unit (take d row)) (within farthestPlane (getD row 4 plusZero)) (blankFloats (drop d (take 4 row)))
-    ∙ ap₂ (λ (x y : Bool). x && y) (ap (λ (l : List Float). unit l && blankFloats (drop d (take 4 row))) (sym (take-take d 4 row low)) ∙ p) q)
+plane-is d row low =
+    ap (λ (l : List Float). (unit l && blankFloats (drop d (take 4 row))) && within farthestPlane (getD row 4 plusZero)) (take-take d 4 row low)
+    ∙ sym (swapped (unit (take d row)) (within farthestPlane (getD row 4 plusZero)) (blankFloats (drop d (take 4 row))))
   where
     swapped : (x y z : Bool) → (x && y && z) ≡ ((x && z) && y)
     swapped true true z = sym (and-one z)

@@ -8,18 +8,15 @@ use lib.Dec.{eqb, leb, lit≤}
 use lib.Ieee.{Float}
 use lib.ListN.{length, getD, take, drop, length-drop, length-map}
 use Rattle.rules.specs.Floats.{sameBits, plusZero}
-use Rattle.rules.specs.Held.{elementWords, countsOf, pointsOf, planesOf, elementsOf}
+use Rattle.rules.specs.Held.{elementWords}
 use Rattle.rules.specs.Limits.{desk}
 use Rattle.rules.specs.Lists.{alike, all, rows, if_then_else_, pad, joined, allFrom, distinct, keep, upTo}
 use Rattle.rules.specs.Memory.{readElement, planeNamed, Memory, readPlane, soundMemory, rightSize, sameMemory, encode, decode, planeRow}
 use Rattle.rules.specs.Sound.{roomFits, sound, cornersInOrder, soundPoint, soundPlane, soundElement}
 use Rattle.rules.specs.Table.{boundaryOf, Element, corner, polytope, Plane, Table, primordials, sameElement, vertexOf, isCorner}
-use Rattle.rules.proofs.RoundTrip.{Shaped, written-as}
 use Rattle.rules.proofs.Laws.{and-left, and-right, and-true, eqb-self, test-eq, test-le, le-test, both-ways}
 use Rattle.soundness.specs.Words.{countsFit, wordsSound, cornersSound, rowsDistinct, recordsSound, pointsSound, planesSound, elementsSound, recordWords, blankWords}
 use Rattle.soundness.proofs.ReadBack.{take-short, take-few, rows-length, and-one, rows-wide}
-use Rattle.space.proofs.Room.{encode-parts}
-use Rattle.space.proofs.RowAdds.{readable-desk}
 use Rattle.space.proofs.Sizes.{size-known}
 use Rattle.soundness.proofs.SoundElements.{elements-same}
 use Rattle.soundness.proofs.SoundLines.{points-same, planes-same, records-same, order-same, distinct-same, records-own}
@@ -202,7 +199,3 @@ module _ (cs : List ℕ) (ps hs : List Float) (es : List ℕ) where
       (λ s k u. elements-same t es n (size-known cs ps hs es s .elements) (low k .elements) refl h nh (low k .hyperplanes) u)
       (λ s k r. distinct-same desk (rows n 36 es) (records-own desk (lit≤ tt) (rows n 36 es) (rows-wide 36 n 512 es (low k .elements) (size-known cs ps hs es s .elements))
       (and-left (all (recordWords desk) (rows n 36 es)) (blankWords (drop (n * 36) es)) r)))
-
--- a table whose rows fit is sound exactly where the words written of it are
-pub table-words : (t : Table) → Shaped desk readable-desk t → sound desk t ≡ wordsSound desk (countsOf t) (pointsOf desk t) (planesOf desk t) (elementsOf desk t)
-table-words t g = sym (written-as desk readable-desk t g) ∙ ap (soundMemory desk) (encode-parts desk t) ∙ words-memory (countsOf t) (pointsOf desk t) (planesOf desk t) (elementsOf desk t)

@@ -13,6 +13,8 @@ use Rattle.rules.specs.Memory.{soundMemory, rightSize}
 use Rattle.space.specs.Numbers.{rowWidth, pointSlice, planeSlice, elementSlice}
 use Rattle.space.specs.Chains.{storedRow, keyOf, newStart, Indexed}
 use Rattle.space.specs.Closed.{Unmet}
+use Rattle.soundness.specs.Known.{knownRows, Spaced}
+use Rattle.soundness.specs.declared.row.Spacing.{Spacing}
 use Rattle.soundness.specs.Words.{Mask, PastSeen, countsFit, headWords, cornerNamed, polytopeWords, stampOf, EdgesLow, rowSound, rowNew, floatsSound}
 
 -- a part of a list of so many words
@@ -65,36 +67,36 @@ pub record MovesOn (row : List ℕ) (reply : ℕ) : Type 0 where
   pub corner : reply ≡ cond (eqb (getD row 0 0) 0) 1 0
   pub most : reply ≤ 1
 
--- ---- boundaries: es are the words of elements, e the element whose boundary it is
+-- ---- boundaries: ws are the words that they stand in, fs those of earlier elements, e the element whose boundary it is
 
 -- a number tested, for an element in the room or the next one
-pub record NumberReady (es : List ℕ) (e : ℕ) : Type 0 where
-  pub long : length es ≡ elementSlice
+pub record NumberReady (fs : List ℕ) (sp : Spacing) (e : ℕ) : Type 0 where
+  pub spaced : Spaced fs sp
   pub room : e ≤ desk .elements
 
--- a part of the elements, for such an element
-pub record NumbersReady (es : List ℕ) (from to e : ℕ) : Type 0 where
-  pub part : PartOf from to (length es)
-  pub long : length es ≡ elementSlice
+-- a part of the words, for such an element
+pub record NumbersReady (ws : List ℕ) (from to : ℕ) (fs : List ℕ) (sp : Spacing) (e : ℕ) : Type 0 where
+  pub part : PartOf from to (length ws)
+  pub spaced : Spaced fs sp
   pub room : e ≤ desk .elements
 
 -- the edges of a face: each edge before it has its ends in order, and no corner counts as met
-pub record EdgesReady (es : List ℕ) (from to e : ℕ) (met : List ℕ) : Type 0 where
-  pub part : PartOf from to (length es)
+pub record EdgesReady (ws : List ℕ) (from to : ℕ) (fs : List ℕ) (sp : Spacing) (e : ℕ) (met : List ℕ) : Type 0 where
+  pub part : PartOf from to (length ws)
   pub size : to ≤ from + desk .boundary
-  pub long : length es ≡ elementSlice
+  pub spaced : Spaced fs sp
   pub inRoom : e < desk .elements
-  pub edges : EdgesLow es e
+  pub edges : EdgesLow (knownRows fs sp) e
   pub unmet : Unmet (stampOf e) met
 
 -- n numbers from word `at` on, of a face or a body
-pub record NumbersThere (es : List ℕ) (at n e rank : ℕ) (met : List ℕ) : Type 0 where
-  pub long : length es ≡ elementSlice
-  pub end : at + n ≤ elementSlice
+pub record NumbersThere (ws : List ℕ) (at n : ℕ) (fs : List ℕ) (sp : Spacing) (e rank : ℕ) (met : List ℕ) : Type 0 where
+  pub end : at + n ≤ length ws
   pub size : n ≤ desk .boundary
+  pub spaced : Spaced fs sp
   pub inRoom : e < desk .elements
   pub no-edge : rank ≡ 1 → ⊥
-  pub edges : EdgesLow es e
+  pub edges : EdgesLow (knownRows fs sp) e
   pub unmet : Unmet (stampOf e) met
 
 -- the answer of a test, and how the next element finds the corners met
@@ -102,7 +104,7 @@ pub record BoundaryTested (test : Bool) (e : ℕ) (reply : Bool) (met′ : List 
   pub told : reply ≡ test
   pub unmet : reply ≡ true → Unmet (stampOf (e + 1)) met′
 
--- ---- one row: es are the words of elements, seen is what stood past the boundaries so far
+-- ---- one row: es are the words that it stands in, fs those of earlier elements, seen is what stood past the boundaries so far
 
 -- a row from word `at` on, with a count that fits
 pub record PastReady (es : List ℕ) (at n : ℕ) (past seen : List ℕ) : Type 0 where
@@ -124,34 +126,44 @@ pub record CornerTested (es : List ℕ) (at k : ℕ) (reply : Bool) (seen seen�
   pub told : reply ≡ (headWords desk (take rowWidth (drop at es)) && cornerNamed k (take rowWidth (drop at es)))
   pub past : reply ≡ true → PastSeen (take rowWidth (drop at es)) seen seen′
 
--- the row of element e is there
-pub record RowThere (es : List ℕ) (e : ℕ) (past seen : List ℕ) : Type 0 where
-  pub long : length es ≡ elementSlice
+-- the row of element e, from word `at` on
+pub record RowThere (es : List ℕ) (at : ℕ) (fs : List ℕ) (sp : Spacing) (e : ℕ) (past seen : List ℕ) : Type 0 where
+  pub row : at + rowWidth ≤ length es
+  pub spaced : Spaced fs sp
   pub inRoom : e < desk .elements
   pub mask : Mask past
   pub places : length seen ≡ desk .boundary
 
 -- it is tested as an edge's, in any dimension
-pub record EdgeTested (es : List ℕ) (e : ℕ) (reply : Bool) (seen seen′ : List ℕ) : Type 0 where
-  pub told : (d : ℕ) → reply ≡ polytopeWords desk es d e 1 (storedRow es e)
-  pub past : reply ≡ true → PastSeen (storedRow es e) seen seen′
+pub record EdgeTested (row : List ℕ) (fs : List ℕ) (sp : Spacing) (e : ℕ) (reply : Bool) (seen seen′ : List ℕ) : Type 0 where
+  pub told : (d : ℕ) → reply ≡ polytopeWords desk (knownRows fs sp) d e 1 row
+  pub past : reply ≡ true → PastSeen row seen seen′
 
 -- it is there, each edge before it has its ends in order, and no corner counts as met
-pub record RowReady (es : List ℕ) (e : ℕ) (met past seen : List ℕ) : Type 0 where
-  pub there : RowThere es e past seen
-  pub edges : EdgesLow es e
+pub record RowReady (es : List ℕ) (at : ℕ) (fs : List ℕ) (sp : Spacing) (e : ℕ) (met past seen : List ℕ) : Type 0 where
+  pub there : RowThere es at fs sp e past seen
+  pub edges : EdgesLow (knownRows fs sp) e
   pub unmet : Unmet (stampOf e) met
 
 -- the same for the row of a face or a body
-pub record HigherReady (es : List ℕ) (e rank : ℕ) (met past seen : List ℕ) : Type 0 where
-  pub ready : RowReady es e met past seen
+pub record HigherReady (es : List ℕ) (at : ℕ) (fs : List ℕ) (sp : Spacing) (e rank : ℕ) (met past seen : List ℕ) : Type 0 where
+  pub ready : RowReady es at fs sp e met past seen
   pub no-edge : rank ≡ 1 → ⊥
 
--- the answer of its test, and how the next row finds the corners met and what was seen
-pub record RowTested (test : Bool) (es : List ℕ) (e : ℕ) (reply : Bool) (met′ seen seen′ : List ℕ) : Type 0 where
-  pub told : reply ≡ test
+-- the same in the memory, whose earlier rows tell of the elements before it
+pub record StoredReady (es : List ℕ) (e : ℕ) (met past seen : List ℕ) : Type 0 where
+  pub long : length es ≡ elementSlice
+  pub inRoom : e < desk .elements
+  pub edges : EdgesLow es e
+  pub unmet : Unmet (stampOf e) met
+  pub mask : Mask past
+  pub places : length seen ≡ desk .boundary
+
+-- the answer of its test, from word `at` on, and how the next row finds the corners met and what was seen
+pub record RowTested (test : List ℕ → Bool) (es : List ℕ) (at e : ℕ) (reply : Bool) (met′ seen seen′ : List ℕ) : Type 0 where
+  pub told : reply ≡ test (take rowWidth (drop at es))
   pub unmet : reply ≡ true → Unmet (stampOf (e + 1)) met′
-  pub past : reply ≡ true → PastSeen (storedRow es e) seen seen′
+  pub past : reply ≡ true → PastSeen (take rowWidth (drop at es)) seen seen′
 
 -- ---- rows in turn, with their index
 

@@ -1,13 +1,14 @@
 // A boundary that is sound: its numbers, and test 7 in the same pass, with a word for each corner that the edges of a face meet.
+use crate::known::join_ends;
+use crate::known::meet_ends;
+use crate::known::rank_known;
+use crate::row::Spacing;
 use rules::ElementId;
 use space::closed::CLOSES;
 use space::closed::INSIDE;
 use space::closed::THRICE;
 use space::closed::few_edges;
-use space::closed::join_ends;
-use space::closed::meet_ends;
 use space::words::ELEMENTS;
-use space::words::WIDTH;
 use space::words::wide;
 ghost use Prim.Native.Nat.{_+_, _<_};
 ghost use mathlib.Core.Path.{_≡_};
@@ -15,6 +16,7 @@ ghost use lib.ListN.{take, drop};
 ghost use Rattle.rules.specs.Limits.{desk};
 ghost use Rattle.space.specs.Numbers.{NumberBelow};
 ghost use Rattle.space.specs.Closed.{stampRoom};
+ghost use Rattle.soundness.specs.Known.{knownRows};
 ghost use Rattle.soundness.specs.Words.{numberFits, numbersFit, fewWords, faceWords, stampOf, boundarySound};
 ghost use Rattle.soundness.specs.Tests.{NumberReady, NumbersReady, EdgesReady, NumbersThere, BoundaryTested};
 
@@ -27,9 +29,16 @@ fn stamp_of(e: ElementId) -> u32
 }
 
 // A boundary number is no lower than the least that it may be, below the element's own, and of rank one less: only a number below is one whose rank can be read.
-fn number_fits(elements: &[u16], x: usize, low: usize, e: ElementId, rank: usize) -> bool
-    requires { ⌜ NumberReady (now elements) (e .0) ⌝ }
-    ensures { λ r. ⌜ r ≡ numberFits desk (now (elements .entry)) (e .0) rank low x ⌝ }
+fn number_fits(
+    earlier: &[u16],
+    spacing: Spacing,
+    x: usize,
+    low: usize,
+    e: ElementId,
+    rank: usize,
+) -> bool
+    requires { ⌜ NumberReady (now earlier) spacing (e .0) ⌝ }
+    ensures { λ r. ⌜ r ≡ numberFits desk (knownRows (now (earlier .entry)) spacing) (e .0) rank low x ⌝ }
 {
     if x < low {
         return false;
@@ -37,18 +46,26 @@ fn number_fits(elements: &[u16], x: usize, low: usize, e: ElementId, rank: usize
     if e.0 <= x {
         return false;
     }
-    wide(elements[x * WIDTH]) + 1 == rank
+    rank_known(earlier, spacing, ElementId(x)) + 1 == rank
 }
 
 // The boundary numbers rise strictly, and each fits.
-pub fn numbers_fit(elements: &[u16], from: usize, to: usize, e: ElementId, rank: usize) -> bool
-    requires { ⌜ NumbersReady (now elements) from to (e .0) ⌝ }
-    ensures { λ r. ⌜ r ≡ numbersFit desk (now (elements .entry)) (e .0) rank (drop from (take to (now (elements .entry)))) ⌝ }
+pub fn numbers_fit(
+    words: &[u16],
+    from: usize,
+    to: usize,
+    earlier: &[u16],
+    spacing: Spacing,
+    e: ElementId,
+    rank: usize,
+) -> bool
+    requires { ⌜ NumbersReady (now words) from to (now earlier) spacing (e .0) ⌝ }
+    ensures { λ r. ⌜ r ≡ numbersFit desk (knownRows (now (earlier .entry)) spacing) (e .0) rank (drop from (take to (now (words .entry)))) ⌝ }
 {
     let mut low = 0usize;
     for i in from..to {
-        let x = wide(elements[i]);
-        if !number_fits(elements, x, low, e, rank) {
+        let x = wide(words[i]);
+        if !number_fits(earlier, spacing, x, low, e, rank) {
             return false;
         }
         low = x + 1;
@@ -58,24 +75,26 @@ pub fn numbers_fit(elements: &[u16], from: usize, to: usize, e: ElementId, rank:
 
 // The numbers of a face of few edges: the ends of each are met in the same pass.
 fn few_fits(
-    elements: &[u16],
+    words: &[u16],
     from: usize,
     to: usize,
+    earlier: &[u16],
+    spacing: Spacing,
     e: ElementId,
     met: &mut [u32; ELEMENTS],
 ) -> bool
-    requires { ⌜ EdgesReady (now elements) from to (e .0) (now met) ⌝ }
-    ensures { λ r. ⌜ BoundaryTested (fewWords desk (now (elements .entry)) (e .0) (drop from (take to (now (elements .entry))))) (e .0) r (now (met .exit)) ⌝ }
+    requires { ⌜ EdgesReady (now words) from to (now earlier) spacing (e .0) (now met) ⌝ }
+    ensures { λ r. ⌜ BoundaryTested (fewWords desk (knownRows (now (earlier .entry)) spacing) (e .0) (drop from (take to (now (words .entry))))) (e .0) r (now (met .exit)) ⌝ }
 {
     let stamp = stamp_of(e);
     let mut low = 0usize;
     let mut twice = 0usize;
     for i in from..to {
-        let x = wide(elements[i]);
-        if !number_fits(elements, x, low, e, 2) {
+        let x = wide(words[i]);
+        if !number_fits(earlier, spacing, x, low, e, 2) {
             return false;
         }
-        twice = twice + meet_ends(elements, ElementId(x), met, stamp);
+        twice = twice + meet_ends(earlier, spacing, ElementId(x), met, stamp);
         low = x + 1;
     }
     twice == to - from
@@ -83,24 +102,26 @@ fn few_fits(
 
 // The numbers of any other face: each edge joins paths in the same pass.
 fn face_fits(
-    elements: &[u16],
+    words: &[u16],
     from: usize,
     to: usize,
+    earlier: &[u16],
+    spacing: Spacing,
     e: ElementId,
     met: &mut [u32; ELEMENTS],
 ) -> bool
-    requires { ⌜ EdgesReady (now elements) from to (e .0) (now met) ⌝ }
-    ensures { λ r. ⌜ BoundaryTested (faceWords desk (now (elements .entry)) (e .0) (drop from (take to (now (elements .entry))))) (e .0) r (now (met .exit)) ⌝ }
+    requires { ⌜ EdgesReady (now words) from to (now earlier) spacing (e .0) (now met) ⌝ }
+    ensures { λ r. ⌜ BoundaryTested (faceWords desk (knownRows (now (earlier .entry)) spacing) (e .0) (drop from (take to (now (words .entry))))) (e .0) r (now (met .exit)) ⌝ }
 {
     let stamp = stamp_of(e);
     let mut low = 0usize;
     let mut twice = 0usize;
     for i in from..to {
-        let x = wide(elements[i]);
-        if !number_fits(elements, x, low, e, 2) {
+        let x = wide(words[i]);
+        if !number_fits(earlier, spacing, x, low, e, 2) {
             return false;
         }
-        let joins = join_ends(elements, ElementId(x), met, stamp);
+        let joins = join_ends(earlier, spacing, ElementId(x), met, stamp);
         if joins == THRICE {
             return false;
         }
@@ -118,25 +139,27 @@ fn face_fits(
 
 // More of them than the rank, rising, earlier, of rank one less, and closed: those of a face or a body.
 pub fn boundary_sound(
-    elements: &[u16],
+    words: &[u16],
     at: usize,
     n: usize,
+    earlier: &[u16],
+    spacing: Spacing,
     e: ElementId,
     d: usize,
     rank: usize,
     met: &mut [u32; ELEMENTS],
 ) -> bool
-    requires { ⌜ NumbersThere (now elements) at n (e .0) rank (now met) ⌝ }
-    ensures { λ r. ⌜ BoundaryTested (boundarySound desk (now (elements .entry)) d (e .0) rank (drop at (take (at + n) (now (elements .entry))))) (e .0) r (now (met .exit)) ⌝ }
+    requires { ⌜ NumbersThere (now words) at n (now earlier) spacing (e .0) rank (now met) ⌝ }
+    ensures { λ r. ⌜ BoundaryTested (boundarySound desk (knownRows (now (earlier .entry)) spacing) d (e .0) rank (drop at (take (at + n) (now (words .entry))))) (e .0) r (now (met .exit)) ⌝ }
 {
     if n <= rank {
         return false;
     }
     if rank != 2 {
-        return numbers_fit(elements, at, at + n, e, rank);
+        return numbers_fit(words, at, at + n, earlier, spacing, e, rank);
     }
     if n <= few_edges(d) {
-        return few_fits(elements, at, at + n, e, met);
+        return few_fits(words, at, at + n, earlier, spacing, e, met);
     }
-    face_fits(elements, at, at + n, e, met)
+    face_fits(words, at, at + n, earlier, spacing, e, met)
 }

@@ -2,19 +2,22 @@
 use hypermath::hyperplane_at;
 use hypermath::is_unit;
 use hypermath::is_within;
+use rules::Hyperplane;
 use rules::HyperplaneId;
 use space::words::AXES;
 use space::words::PLANE_FLOATS;
 use space::words::PLANE_WIDTH;
 use space::words::POINT_FLOATS;
 ghost use Prim.Native.Nat.{_*_};
+ghost use mathlib.Core.Bool.{_&&_};
 ghost use mathlib.Core.Path.{_≡_};
 ghost use lib.Dec.{eqb};
 ghost use lib.ListN.{length, take, drop};
 ghost use Rattle.rules.specs.Limits.{desk};
 ghost use Rattle.rules.specs.Lists.{all};
-ghost use Rattle.rules.specs.Floats.{sameBits, plusZero, within, farthest};
+ghost use Rattle.rules.specs.Floats.{sameBits, plusZero, within, farthest, farthestPlane};
 ghost use Rattle.rules.specs.Memory.{planeWidth};
+ghost use Rattle.hypermath.specs.Answers.{unitNormal};
 ghost use Rattle.soundness.specs.Tests.{PartOf, PointThere, PointsThere, PlaneThere, PlanesThere, FloatsReady};
 ghost use Rattle.soundness.specs.Words.{blankFloats, pointWords, pointsSound, planeWords, planesSound, floatsSound};
 
@@ -46,7 +49,7 @@ fn blank_floats(list: &[f64], from: usize, to: usize) -> bool
 }
 
 // Each coordinate is a number from -65,536 to 65,536.
-fn coordinates_fit(list: &[f64], from: usize, to: usize) -> bool
+pub fn coordinates_fit(list: &[f64], from: usize, to: usize) -> bool
     requires { ⌜ PartOf from to (length (now list)) ⌝ }
     ensures { λ r. ⌜ r ≡ all (within farthest) (drop from (take to (now (list .entry)))) ⌝ }
 {
@@ -83,16 +86,22 @@ fn points_sound(points: &[f64], d: usize, v: usize) -> bool
 }
 
 // A unit normal, zero bits past the dimension, and a distance from -262,144 to 262,144.
-fn plane_sound(planes: &[f64], k: HyperplaneId, d: usize) -> bool
-    requires { ⌜ PlaneThere (now planes) (k .0) d ⌝ }
-    ensures { λ r. ⌜ r ≡ planeWords desk d (take (planeWidth desk) (drop (k .0 * planeWidth desk) (now (planes .entry)))) ⌝ }
+pub fn hyperplane_sound(h: Hyperplane, d: usize) -> bool
+    ensures { λ r. ⌜ r ≡ (unitNormal d (h .normal) && within farthestPlane (h .distance)) ⌝ }
 {
-    let h = hyperplane_at(planes, k);
     let normal = h.normal;
     if !is_unit(d, normal) {
         return false;
     }
     is_within(FARTHEST_PLANE, h.distance)
+}
+
+// The same of a lent row.
+fn plane_sound(planes: &[f64], k: HyperplaneId, d: usize) -> bool
+    requires { ⌜ PlaneThere (now planes) (k .0) d ⌝ }
+    ensures { λ r. ⌜ r ≡ planeWords desk d (take (planeWidth desk) (drop (k .0 * planeWidth desk) (now (planes .entry)))) ⌝ }
+{
+    hyperplane_sound(hyperplane_at(planes, k), d)
 }
 
 // The hyperplanes in use, and zero bits past them.

@@ -1,5 +1,7 @@
 // Whether a lent memory is sound, on any four slices, line by line.
 mod boundaries;
 mod chains;
-mod floats;
+pub mod floats;
+mod known;
+pub mod row;
 pub mod sound;

@@ -13,10 +13,26 @@ use borrow.Author.Tests.{lt-ltb, le-ltb}
 use Rattle.rules.specs.Lists.{occurrences, member}
 use Rattle.rules.proofs.FaceEdges.{two}
 use Rattle.rules.proofs.Laws.{eq-test, test-eq, not-eq, unlike-eq, or-left, or-right, eqb-self}
-use Rattle.space.specs.Closed.{EndsLow, Unmet, Stamped, firstEnd, secondEnd, rawEnds, farEnd, joinCode, joinWords, joining, joined}
+use Rattle.space.specs.Closed.{EndsLow, Unmet, Stamped, PathsReady, PathsJoined, EndsJoined, stampRoom, firstEnd, secondEnd, rawEnds, farEnd, joinCode, joinWords, pathCode, pathWords, joining, joined}
 use Rattle.space.proofs.Sums.{sum-zeros}
 use Rattle.space.proofs.Meetings.{times-cons, ends-on, spare, spares, more-is, spares-more}
 use Rattle.space.proofs.Webs.{Same, yes, no, same?, Web, web-none, more, linking, hanging, met-once, join, x-once, y-once, at-a, at-b, at-other, at-x, at-y, elsewhere, root-along, both-rooted}
+
+-- ---- an edge by its two ends
+
+module _ {s : ℕ} {es paths : List ℕ} {e a b : ℕ} (p : a ≡ firstEnd es e) (q : b ≡ secondEnd es e) where
+  pub edge-paths : EndsLow es e → s < stampRoom → Stamped s paths → PathsReady a b s paths
+  edge-paths E l S = record {
+    apart = let h = E .apart in let z : a < b = omega (arith, h, p, q) in z;
+    second = let h = E .second in let z : b < 512 = omega (arith, h, q) in z;
+    stamp = l;
+    stamped = S;
+  }
+
+  pub edge-joined : {r : ℕ} {paths′ : List ℕ} → PathsJoined s paths a b r paths′ → EndsJoined s es paths e r paths′
+  unfolding joining joined
+  edge-joined J =
+      record { code = J .code ∙ (λ i. pathCode s paths (p i) (q i)); words = λ l. J .words l ∙ (λ i. pathWords s paths (p i) (q i)); kept = J .kept; most = J .most }
 
 -- ---- the word of a corner
 

@@ -126,12 +126,19 @@ joinCode a b x y = cond (eqb x inside) 4 (cond (eqb y inside) 4 (cond (eqb x b) 
 abbrev pub joinWords : ℕ → List ℕ → ℕ → ℕ → ℕ → ℕ → List ℕ
 joinWords s paths a b x y = set (set (set (set paths a (s + inside)) b (s + inside)) x (s + y)) y (s + x)
 
--- both for edge e of the memory
+-- both as the paths have it
+abbrev pub pathCode : ℕ → List ℕ → ℕ → ℕ → ℕ
+pathCode s paths a b = joinCode a b (farEnd s paths a) (farEnd s paths b)
+
+abbrev pub pathWords : ℕ → List ℕ → ℕ → ℕ → List ℕ
+pathWords s paths a b = joinWords s paths a b (farEnd s paths a) (farEnd s paths b)
+
+-- and for edge e of the memory
 unfoldable pub joining : ℕ → List ℕ → List ℕ → ℕ → ℕ
-joining s es paths e = joinCode (firstEnd es e) (secondEnd es e) (farEnd s paths (firstEnd es e)) (farEnd s paths (secondEnd es e))
+joining s es paths e = pathCode s paths (firstEnd es e) (secondEnd es e)
 
 unfoldable pub joined : ℕ → List ℕ → List ℕ → ℕ → List ℕ
-joined s es paths e = joinWords s paths (firstEnd es e) (secondEnd es e) (farEnd s paths (firstEnd es e)) (farEnd s paths (secondEnd es e))
+joined s es paths e = pathWords s paths (firstEnd es e) (secondEnd es e)
 
 -- ---- what the functions ask for and what they answer
 
@@ -167,12 +174,25 @@ pub record EndsMet (s : ℕ) (es met : List ℕ) (e reply : ℕ) (met′ : List 
   pub words : met′ ≡ bothMet s es met e
   pub most : reply ≤ 2
 
--- and they are the ends of paths
+-- an edge from a to b is taken up, and the corners met are the ends of paths
+pub record PathsReady (a b s : ℕ) (paths : List ℕ) : Type 0 where
+  pub apart : a < b
+  pub second : b < desk .elements
+  pub stamp : s < stampRoom
+  pub stamped : Stamped s paths
+
+-- it joins paths; nothing is written where it joins none
+pub record PathsJoined (s : ℕ) (paths : List ℕ) (a b reply : ℕ) (paths′ : List ℕ) : Type 0 where
+  pub code : reply ≡ pathCode s paths a b
+  pub words : reply < 3 → paths′ ≡ pathWords s paths a b
+  pub kept : 3 ≤ reply → paths′ ≡ paths
+  pub most : reply ≤ 4
+
+-- and the same of edge e of the memory
 pub record JoinEndsReady (es : List ℕ) (e s : ℕ) (paths : List ℕ) : Type 0 where
   pub edge : EdgeReady es e s
   pub stamped : Stamped s paths
 
--- they join paths; nothing is written where the edge joins none
 pub record EndsJoined (s : ℕ) (es paths : List ℕ) (e reply : ℕ) (paths′ : List ℕ) : Type 0 where
   pub code : reply ≡ joining s es paths e
   pub words : reply < 3 → paths′ ≡ joined s es paths e

@@ -14,7 +14,7 @@ ghost use Rattle.space.specs.Numbers.{rowWidth, NumberBelow};
 ghost use Rattle.space.specs.Ready.{SearchReady, SameRowReady, JoinReady};
 
 // Room for a chain's start for each key, and for a link for each row behind them.
-const KEYS: usize = 1024;
+pub const KEYS: usize = 1024;
 
 // A first number is spread so far over the keys, so that rows that share it stand on other chains.
 const SPREAD: usize = 37;
@@ -39,7 +39,7 @@ pub fn key_of(words: &[u16], at: usize) -> usize
 }
 
 // The row that stands at a place of some words is the table's row.
-fn same_row(elements: &[u16], at: usize, words: &[u16], from: usize) -> bool
+pub fn same_row(elements: &[u16], at: usize, words: &[u16], from: usize) -> bool
     requires { ⌜ SameRowReady (now elements) at (now words) from ⌝ }
     ensures { λ r. ⌜ r ≡ alike eqb (take rowWidth (drop from (now (words .entry)))) (take rowWidth (drop at (now (elements .entry)))) ⌝ }
 {

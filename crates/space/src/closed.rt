@@ -11,7 +11,7 @@ ghost use lib.ListN.{getD, take};
 ghost use Rattle.rules.specs.Limits.{desk};
 ghost use Rattle.space.specs.Numbers.{NumberBelow};
 ghost use Rattle.space.specs.Closed.{few, metNext, metTwice, farEnd, inside, stampRoom, ringRaw, closedRaw};
-ghost use Rattle.space.specs.Closed.{MeetReady, CornerMet, EdgeReady, EndsMet, PathReady, JoinEndsReady, EndsJoined, FaceReady, BoundaryReady};
+ghost use Rattle.space.specs.Closed.{MeetReady, CornerMet, EdgeReady, EndsMet, PathReady, PathsReady, PathsJoined, JoinEndsReady, EndsJoined, FaceReady, BoundaryReady};
 
 // What a corner's word is above the stamp once it is met twice: no path ends there.
 pub const INSIDE: usize = ELEMENTS;
@@ -37,25 +37,13 @@ fn later(m: u32, stamp: u32) -> u32
 }
 
 // A corner is met: 1 for the second time.
-fn meet(met: &mut [u32; ELEMENTS], v: usize, stamp: u32) -> usize
+pub fn meet(met: &mut [u32; ELEMENTS], v: usize, stamp: u32) -> usize
     requires { ⌜ MeetReady v stamp ⌝ }
     ensures { λ r. ⌜ CornerMet stamp (now (met .entry)) v r (now (met .exit)) ⌝ }
 {
     let m = met[v];
     met[v] = later(m, stamp);
     if m == stamp { 1 } else { 0 }
-}
-
-// Both ends of an edge are met: how many of them for the second time.
-pub fn meet_ends(elements: &[u16], e: ElementId, met: &mut [u32; ELEMENTS], stamp: u32) -> usize
-    requires { ⌜ EdgeReady (now elements) (e .0) stamp ⌝ }
-    ensures { λ r. ⌜ EndsMet stamp (now (elements .entry)) (now (met .entry)) (e .0) r (now (met .exit)) ⌝ }
-{
-    let a = wide(boundary_at(elements, e, 0));
-    let b = wide(boundary_at(elements, e, 1));
-    let first = meet(met, a, stamp);
-    let second = meet(met, b, stamp);
-    first + second
 }
 
 // A corner is met, where one face alone is tested: a byte for each corner is cleared faster than a word. 0 is not yet, 1 once, 2 oftener; the answer as above.
@@ -72,7 +60,7 @@ fn meet_in_face(met: &mut [u8; ELEMENTS], v: usize) -> usize
     if m == 1 { 1 } else { 0 }
 }
 
-// Both ends of an edge are met there.
+// Both ends of an edge are met there: how many of them for the second time.
 fn meet_ends_in_face(elements: &[u16], e: ElementId, met: &mut [u8; ELEMENTS]) -> usize
     requires { ⌜ EdgeReady (now elements) (e .0) 1 ⌝ }
     ensures { λ r. ⌜ EndsMet 1 (now (elements .entry)) (now (met .entry)) (e .0) r (now (met .exit)) ⌝ }
@@ -116,14 +104,12 @@ fn one_unless_same(a: usize, b: usize) -> usize
     if a == b { 0 } else { 1 }
 }
 
-// An edge joins the two paths that end in its ends: how many of these were met before. CLOSES where they are the ends of one path, THRICE where one is
-// met for the third time; then nothing is written.
-pub fn join_ends(elements: &[u16], e: ElementId, paths: &mut [u32; ELEMENTS], stamp: u32) -> usize
-    requires { ⌜ JoinEndsReady (now elements) (e .0) stamp (now paths) ⌝ }
-    ensures { λ r. ⌜ EndsJoined stamp (now (elements .entry)) (now (paths .entry)) (e .0) r (now (paths .exit)) ⌝ }
+// An edge from a to b joins the two paths that end there: how many of its ends were met before. CLOSES where they are the ends of one path, THRICE where one
+// is met for the third time; then nothing is written.
+pub fn join_paths(a: usize, b: usize, paths: &mut [u32; ELEMENTS], stamp: u32) -> usize
+    requires { ⌜ PathsReady a b stamp (now paths) ⌝ }
+    ensures { λ r. ⌜ PathsJoined stamp (now (paths .entry)) a b r (now (paths .exit)) ⌝ }
 {
-    let a = wide(boundary_at(elements, e, 0));
-    let b = wide(boundary_at(elements, e, 1));
     let x = far_end(paths, a, stamp);
     let y = far_end(paths, b, stamp);
     if x == INSIDE {
@@ -141,6 +127,16 @@ pub fn join_ends(elements: &[u16], e: ElementId, paths: &mut [u32; ELEMENTS], st
     paths[x] = stamp + y as u32;
     paths[y] = stamp + x as u32;
     one_unless_same(x, a) + one_unless_same(y, b)
+}
+
+// The edge that a row holds joins its paths.
+fn join_ends(elements: &[u16], e: ElementId, paths: &mut [u32; ELEMENTS], stamp: u32) -> usize
+    requires { ⌜ JoinEndsReady (now elements) (e .0) stamp (now paths) ⌝ }
+    ensures { λ r. ⌜ EndsJoined stamp (now (elements .entry)) (now (paths .entry)) (e .0) r (now (paths .exit)) ⌝ }
+{
+    let a = wide(boundary_at(elements, e, 0));
+    let b = wide(boundary_at(elements, e, 1));
+    join_paths(a, b, paths, stamp)
 }
 
 // Whether the edges make one ring: no corner is met three times, none but the last edge closes a path, and then n ends were met for the second time.

@@ -1,10 +1,12 @@
 //! `calls N SEED [--bytes]`: N calls of every entry point, on random, damaged and strange memory, by the engine and by the model.
-//! The reply and every word of the memory and of the list room afterwards are compared; the first difference is shown. With
-//! --bytes each call is written to standard output with what the engine made of it, for another engine; words go to the other.
+//! The reply and every word of the memory and of the room for a list or a file afterwards are compared; the first difference is
+//! shown. With --bytes each call is written to standard output with what the engine made of it, for another engine; words go to
+//! the other.
 
 use evidence::arguments;
 use evidence::bytes::{self, Calls};
-use evidence::call::Call;
+use evidence::call::{Call, Room};
+use evidence::files;
 use evidence::memories;
 use evidence::model::memory::{Lent, Memory};
 use evidence::model::table::Table;
@@ -15,8 +17,8 @@ use std::collections::BTreeMap;
 use std::io::{self, BufWriter, Stdout};
 use std::process::ExitCode;
 
-/// Each outcome that document 01 names for an entry point, which a run has to meet.
-const OUTCOMES: [(&str, &[&str]); 9] = [
+/// Each outcome that documents 01 and 02 name for an entry point, which a run has to meet.
+const OUTCOMES: [(&str, &[&str]); 11] = [
     ("is_sound", &["sound", "refused 3"]),
     ("with_primordial_cube_radius", &["done", "refused 1", "refused 2", "refused 3"]),
     (
@@ -47,6 +49,8 @@ const OUTCOMES: [(&str, &[&str]); 9] = [
     ("greatest_common_subelements", &["list", "empty list", "refused 3", "refused 4", "refused 6", "refused 12"]),
     ("edges_in_order", &["list", "refused 3", "refused 4", "refused 6", "refused 12"]),
     ("has_primordial_facet", &["yes", "no", "refused 3", "refused 4", "refused 6"]),
+    ("save", &["file", "refused 3", "refused 12"]),
+    ("open", &["done", "refused 3", "refused 13"]),
 ];
 
 /// What the edges of the one face make for which a call is refused, which a run has to meet too. A cut seldom meets the
@@ -55,19 +59,34 @@ const FACES: [(&str, &[&str]); 3] =
     [("is_sound", &SHAPES), ("cut", SHAPES.split_at(10).0), (TAKEN_BEFORE, SHAPES.split_at(3).0)];
 const TAKEN_BEFORE: &str = "cut, taken before order 4";
 
+/// What becomes of a file by what it was made as, which a run has to meet too. A good one is refused for the memory's size.
+const FILES: [(&str, &[&str]); 10] = [
+    (files::SAVED, &["done", "refused 3"]),
+    (files::CHANGED, &["done", "refused 3", "refused 13"]),
+    (files::EARLY, &["refused 13"]),
+    (files::LATE, &["refused 13"]),
+    (files::OTHER_AXES, &["refused 3"]),
+    (files::BEYOND, &["refused 3"]),
+    (files::BROKEN, &["refused 3"]),
+    (files::DAMAGED, &["done", "refused 3", "refused 13"]),
+    (files::RECORDS, &["refused 3", "refused 13"]),
+    (files::BYTES, &["refused 13"]),
+];
+
 type Counts = BTreeMap<(&'static str, String), u64>;
 
-/// How often each outcome was met, and each face that is refused; and where the calls are written, if they are.
+/// How often each outcome was met, each face that is refused, and each kind of file; and where the calls are written, if they are.
 struct Met {
     outcomes: Counts,
     faces: Counts,
+    files: Counts,
     written: Option<Calls<BufWriter<Stdout>>>,
 }
 
 impl Default for Met {
     fn default() -> Self {
         let written = seeded::is_written().then(|| Calls::new(BufWriter::with_capacity(1 << 20, io::stdout())));
-        Self { outcomes: Counts::new(), faces: Counts::new(), written }
+        Self { outcomes: Counts::new(), faces: Counts::new(), files: Counts::new(), written }
     }
 }
 
@@ -119,44 +138,60 @@ fn damaged_copy(r: &mut Random, pair: &Pair) -> Option<Pair> {
     Some(Pair::new(memory))
 }
 
-/// Questions are asked of the table that the cut leaves; the cube takes a copy away.
+/// Questions are asked of the table that the cut leaves; the cube and the file take a copy away, or the file any words.
 fn compare_step(r: &mut Random, pair: &mut Pair, met: &mut Met) -> Result<(), String> {
     let cut = arguments::cut(r, pair.table());
-    compare_call(&cut, pair, &[], met)?;
+    compare_call(&cut, pair, &Room::default(), met)?;
     for call in arguments::questions(r, pair.table()) {
-        let room = list_room(r, &call, &mut pair.model);
+        let room = room(r, &call, &mut pair.model);
         compare_call(&call, pair, &room, met)?;
     }
-    compare_call(&arguments::cube(r), &mut pair.copy(), &[], met)
+    compare_call(&arguments::cube(r), &mut pair.copy(), &Room::default(), met)?;
+    let (made_as, file) = files::any(r, pair.table());
+    let mut other = r.one_in(2).then(|| Pair::new(memories::memory(r, memories::Kind::RandomWords)));
+    let lent = other.get_or_insert_with(|| pair.copy());
+    let outcome = compare_call(&Call::Open { file }, lent, &Room::default(), met)?;
+    *met.files.entry((made_as, outcome)).or_default() += 1;
+    Ok(())
 }
 
-/// Old words, and none, too few, enough or more of them than the list has.
-fn list_room(r: &mut Random, call: &Call, lent: &mut Lent) -> Vec<u16> {
-    let word = call.by_model(lent, &mut [0; 512]);
+/// Old words or bytes, and none, too few, enough or more of them than there is to write.
+fn room(r: &mut Random, call: &Call, lent: &mut Lent) -> Room {
+    let mut room = call.longest();
+    let word = call.by_model(lent, &mut room);
     let size = if word as u8 == 0 { (word >> 8) as usize } else { r.below(8) };
-    let length = r.pick(&[0, size / 2, size.saturating_sub(1), size, size, size, size + 1, size + 9, size.max(512)]);
-    (0..length).map(|_| r.word() as u16).collect()
+    let longest = room.list.len().max(room.file.len());
+    let length = r.pick(&[0, size / 2, size.saturating_sub(1), size, size, size, size + 1, size + 9, longest]);
+    if !room.list.is_empty() {
+        room.list = (0..length).map(|_| r.word() as u16).collect();
+    }
+    if !room.file.is_empty() {
+        room.file = (0..length).map(|_| r.word() as u8).collect();
+    }
+    room
 }
 
-fn compare_call(call: &Call, pair: &mut Pair, room: &[u16], met: &mut Met) -> Result<(), String> {
+/// The outcome, or the difference.
+fn compare_call(call: &Call, pair: &mut Pair, room: &Room, met: &mut Met) -> Result<String, String> {
     let before = pair.engine.clone();
-    let (mut model_room, mut engine_room) = (room.to_vec(), room.to_vec());
+    let (mut model_room, mut engine_room) = (room.clone(), room.clone());
     let by_model = call.by_model(&mut pair.model, &mut model_room);
     let by_engine = call.by_engine(&mut pair.engine, &mut engine_room);
     if by_model == by_engine && model_room == engine_room && pair.engine.is_same(pair.model.memory()) {
-        *met.outcomes.entry((call.name(), call.outcome(by_model))).or_default() += 1;
+        let outcome = call.outcome(by_model);
+        *met.outcomes.entry((call.name(), outcome.clone())).or_default() += 1;
         if let Some(edges) = call.refused_face(&pair.model, by_model) {
             *met.faces.entry((call.name(), shape(&edges))).or_default() += 1;
             if call.was_taken(&pair.model) {
                 *met.faces.entry((TAKEN_BEFORE, shape(&edges))).or_default() += 1;
             }
         }
-        let Some(written) = &mut met.written else { return Ok(()) };
+        let Some(written) = &mut met.written else { return Ok(outcome) };
         let [before, after] =
             [(&before, room), (&pair.engine, &engine_room)].map(|(memory, room)| bytes::Lent { memory, room });
-        return written.call(call, before, by_engine, after).map_err(not_written);
+        return written.call(call, before, by_engine, after).map_err(not_written).map(|()| outcome);
     }
-    let rooms = format!("list room {room:x?}, by the model {model_room:x?}, by the engine {engine_room:x?}");
+    let rooms = format!("room {room:x?}, by the model {model_room:x?}, by the engine {engine_room:x?}");
     let memories = [before.shown(), pair.model.memory().shown(), pair.engine.shown()];
     Err(format!(
         "{call:x?}\nreply by the model {by_model:#x}, by the engine {by_engine:#x}\n{rooms}\n\
@@ -171,7 +206,9 @@ fn not_written(error: io::Error) -> String {
 
 /// How often each outcome was met. One that was never met makes the run fail.
 fn report(n: u64, met: &Met) -> bool {
-    let mut is_whole = are_met(&OUTCOMES, "", &met.outcomes) & are_met(&FACES, ", refused for a face of", &met.faces);
+    let mut is_whole = are_met(&OUTCOMES, "", &met.outcomes)
+        & are_met(&FACES, ", refused for a face of", &met.faces)
+        & are_met(&FILES, ", opened", &met.files);
     let named =
         |(name, outcome): &(&str, String)| OUTCOMES.iter().any(|row| row.0 == *name && row.1.contains(&&**outcome));
     for unnamed in met.outcomes.keys().filter(|key| !named(key)) {

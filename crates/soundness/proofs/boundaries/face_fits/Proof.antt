@@ -11,6 +11,8 @@ use Rattle.rules.specs.Limits.{desk}
 use Rattle.rules.proofs.Laws.{not-true, not-false}
 use Rattle.space.specs.Closed.{Stamped, Unmet, joining, joined}
 use Rattle.space.proofs.PathsJoined.{Paths, paths-start, paths-few, paths-stamped}
+use Rattle.soundness.specs.Known.{knownRows}
+use Rattle.soundness.specs.declared.row.Spacing.{Spacing}
 use Rattle.soundness.specs.Words.{numberFits, faceWords, stampOf}
 use Rattle.soundness.proofs.EdgesRead.{Numbers, NumberRead, numbers-start, numbers-end, read-no, read-ends, read-edge, read-on}
 use Rattle.soundness.proofs.FaceLoops.{face-go, face-thrice, face-early, face-last, face-none, stamped-next}
@@ -18,21 +20,25 @@ use Rattle.soundness.proofs.boundaries.face_fits.Statement.{statement}
 use Rattle.soundness.proofs.boundaries.face_fits.Tie as tie
 
 -- up to place i the numbers fit, and their edges have joined paths, of which none is closed
-record SoFar (es : List ℕ) (from to e : ℕ) (met : List ℕ) (stamp low twice i : ℕ) : Type 0 where
-  numbers : Numbers es from to e stamp low i
-  paths : Paths es (drop from (take to es)) (stampOf e) met twice (i - from)
+record SoFar (es ws : List ℕ) (from to e : ℕ) (met : List ℕ) (stamp low twice i : ℕ) : Type 0 where
+  numbers : Numbers es ws from to e stamp low i
+  paths : Paths es (drop from (take to ws)) (stampOf e) met twice (i - from)
 
 abbrev Inv-loop : tie.InvT-loop
-Inv-loop elements from to e met₀ stamp low₀ twice₀ i₀ met low twice i = SoFar elements from to (e .0) met stamp low twice i
+Inv-loop words from to earlier spacing e met₀ stamp low₀ twice₀ i₀ met low twice i = SoFar (knownRows earlier spacing) words from to (e .0) met stamp low twice i
 
 abbrev μ-loop : tie.MeasureT-loop
-μ-loop elements from to e met₀ stamp low₀ twice₀ i₀ met low twice i = to - i
+μ-loop words from to earlier spacing e met₀ stamp low₀ twice₀ i₀ met low twice i = to - i
 
 -- ---- what the edge that is taken up answers
 
-module _ {es : List ℕ} {from to e : ℕ} {met₀ met : List ℕ} {stamp low twice i x : ℕ} (R : NumberRead es from to e met₀ stamp low i x) (S : SoFar es from to e met stamp low twice i) where
+module _ {ws : List ℕ} {from to : ℕ} {fs : List ℕ} {sp : Spacing} {e : ℕ} {met₀ met : List ℕ} {stamp low twice i x : ℕ} (R : NumberRead ws from to fs sp e met₀ stamp low i x)
+    (S : SoFar (knownRows fs sp) ws from to e met stamp low twice i) where
+  abbrev es : List ℕ
+  es = knownRows fs sp
+
   abbrev edges : List ℕ
-  edges = drop from (take to es)
+  edges = drop from (take to ws)
 
   stamped : Stamped (stampOf e) met
   stamped = paths-stamped es edges (stampOf e) met twice (i - from) (S .paths)
@@ -45,21 +51,21 @@ module _ {es : List ℕ} {from to e : ℕ} {met₀ met : List ℕ} {stamp low tw
     code = c ∙ ap (λ (s : ℕ). joining s es met x) (R .numbers .same)
 
     thrice : r ≡ 4 → false ≡ faceWords desk es e edges
-    thrice = face-thrice es from to e (R .ready .part .end) (R .ready .inRoom) (R .ready .edges) met twice i (stampOf e) (S .paths) (R .numbers .order) (R .more) x r (R .read) code
+    thrice = face-thrice es ws from to e (R .ready .part .end) (R .ready .inRoom) (R .ready .edges) met twice i (stampOf e) (S .paths) (R .numbers .order) (R .more) x r (R .read) code
 
     early : r ≡ 3 → i + 1 < to → false ≡ faceWords desk es e edges
-    early = face-early es from to e (R .ready .part .end) (R .ready .inRoom) (R .ready .edges) met twice i (stampOf e) (S .paths) (R .numbers .order) (R .more) x r (R .read) code
+    early = face-early es ws from to e (R .ready .part .end) (R .ready .inRoom) (R .ready .edges) met twice i (stampOf e) (S .paths) (R .numbers .order) (R .more) x r (R .read) code
 
     module _ (fits : numberFits desk es e 2 low x ≡ true) where
       last : r ≡ 3 → to ≤ i + 1 → eqb (twice + 2) (to - from) ≡ faceWords desk es e edges
       last three h =
-          face-last es from to e (R .ready .part .end) (R .ready .inRoom) (R .ready .edges) met twice i (stampOf e) (S .paths) (R .numbers .order) (R .more) x r (R .read) code
+          face-last es ws from to e (R .ready .part .end) (R .ready .inRoom) (R .ready .edges) met twice i (stampOf e) (S .paths) (R .numbers .order) (R .more) x r (R .read) code
           three h (numbers-end (R .ready) (read-on R fits) h)
 
-      goes-on : r < 3 → (met′ : List ℕ) → met′ ≡ joined stamp es met x → SoFar es from to e met′ stamp (x + 1) (twice + r) (i + 1)
+      goes-on : r < 3 → (met′ : List ℕ) → met′ ≡ joined stamp es met x → SoFar es ws from to e met′ stamp (x + 1) (twice + r) (i + 1)
       goes-on small met′ q = record {
         numbers = read-on R fits;
-        paths = face-go es from to e (R .ready .part .end) met met′ twice i x r (stampOf e) (S .paths) (R .numbers .order) (R .more) (R .read) (read-ends R fits) code small
+        paths = face-go es ws from to e (R .ready .part .end) met met′ twice i x r (stampOf e) (S .paths) (R .numbers .order) (R .more) (R .read) (read-ends R fits) code small
             (q ∙ ap (λ (s : ℕ). joined s es met x) (R .numbers .same));
       }
 
@@ -67,35 +73,37 @@ module _ {es : List ℕ} {from to e : ℕ} {met₀ met : List ℕ} {stamp low tw
 
 -- where the function began, where a number is taken up, and where it was found to fit
 abbrev start : tie.At-loop Inv-loop μ-loop → tie.Start Inv-loop μ-loop
-start c = c .before .before .before
+start c = c .before .before .before .before
 
 abbrev fitted : tie.After-join-ends Inv-loop μ-loop → tie.Else1 Inv-loop μ-loop
 fitted c = c .before .before
 
 -- the facts there
 abbrev number : (c : tie.After-wide Inv-loop μ-loop) → let l = c .before .before .before in let a = start l .args in let at = l .loop in
-    NumberRead (a .elements .now) (a .from) (a .to) (a .e .0) (a .met .now) (l .before .stamp-of .result) (at .low) (at .i) (c .wide .result)
+    NumberRead (a .words .now) (a .from) (a .to) (a .earlier .now) (a .spacing) (a .e .0) (a .met .now) (l .before .stamp-of .result) (at .low) (at .i) (c .wide .result)
 number c =
     let f = c .before .before in
     let l = f .before in
     record { ready = start l .pre; numbers = l .loop .inv .numbers; room = l .before .stamp-of .ensures .bound; more = f .loop-test .taken; read = c .wide .ensures .value }
 
 abbrev fits : (c : tie.Else1 Inv-loop μ-loop) → let w = c .before .before in let l = w .before .before .before in let a = start l .args in
-    numberFits desk (a .elements .now) (a .e .0) 2 (l .loop .low) (w .wide .result) ≡ true
+    numberFits desk (knownRows (a .earlier .now) (a .spacing)) (a .e .0) 2 (l .loop .low) (w .wide .result) ≡ true
 fits c = sym (c .before .number-fits .ensures) ∙ not-false _ (c .if1 .left)
 
 stamp-of-requires : tie.Need-stamp-of-requires Inv-loop μ-loop
-stamp-of-requires c κs = c .before .pre .inRoom
+stamp-of-requires c κs = c .before .before .pre .inRoom
 
 loop-holds : tie.Need-loop-holds Inv-loop μ-loop
 loop-holds c =
-    let a = c .before .before .args in
-    let p = c .before .before .pre in
-    let edges = drop (a .from) (take (a .to) (a .elements .now)) in
+    let begun = c .before .before .before in
+    let a = begun .args in
+    let p = begun .pre in
+    let es = knownRows (a .earlier .now) (a .spacing) in
+    let edges = drop (a .from) (take (a .to) (a .words .now)) in
     record {
       numbers = numbers-start p (c .stamp-of .ensures .value);
-      paths = subst (λ (k : ℕ). Paths (a .elements .now) edges (stampOf (a .e .0)) (a .met .now) 0 k) (let z : 0 ≡ a .from - a .from = omega arith in z)
-          (paths-start (a .elements .now) edges (stampOf (a .e .0)) (a .met .now) (p .unmet));
+      paths = subst (λ (k : ℕ). Paths es edges (stampOf (a .e .0)) (a .met .now) 0 k) (let z : 0 ≡ a .from - a .from = omega arith in z)
+          (paths-start es edges (stampOf (a .e .0)) (a .met .now) (p .unmet));
     }
 
 mul-wide : tie.Need-mul-wide Inv-loop μ-loop
@@ -108,7 +116,7 @@ wide-requires : tie.Need-wide-requires Inv-loop μ-loop
 wide-requires c κs = search needs
 
 number-fits-requires : tie.Need-number-fits-requires Inv-loop μ-loop
-number-fits-requires c κs = record { long = search needs; room = omega (arith, start (c .before .before .before) .pre .inRoom) }
+number-fits-requires c κs = record { spaced = start (c .before .before .before) .pre .spaced; room = omega (arith, start (c .before .before .before) .pre .inRoom) }
 
 returns : tie.Need-returns Inv-loop μ-loop
 returns c =
@@ -203,7 +211,7 @@ returns-5 c =
     let at = c .before .loop in
     let e : at .i ≡ a .to = omega (arith, at .inv .numbers .bound, c .loop-test .left) in
     record {
-      told = face-none (a .elements .now) (a .from) (a .to) (a .e .0) (p .part .end) (p .inRoom) (p .edges) (at .met) (at .twice) (at .i) (stampOf (a .e .0)) (at .inv .paths)
+      told = face-none (knownRows (a .earlier .now) (a .spacing)) (a .words .now) (a .from) (a .to) (a .e .0) (p .part .end) (p .inRoom) (p .edges) (at .met) (at .twice) (at .i) (stampOf (a .e .0)) (at .inv .paths)
           (at .inv .numbers .order) e (numbers-end p (at .inv .numbers) (c .loop-test .left));
       unmet = λ t. stamped-next (a .e .0) (at .met) (paths-stamped _ _ (stampOf (a .e .0)) (at .met) (at .twice) (at .i - a .from) (at .inv .paths));
     }

@@ -9,6 +9,7 @@ use borrow.Author.Needs.{needs}
 use Rattle.rules.specs.Limits.{desk}
 use Rattle.rules.proofs.Laws.{not-true, not-false}
 use Rattle.space.proofs.EndsCounted.{Round, round-start, round-few, round-out}
+use Rattle.soundness.specs.Known.{knownRows}
 use Rattle.soundness.specs.Words.{numberFits, stampOf}
 use Rattle.soundness.proofs.EdgesRead.{Numbers, NumberRead, numbers-start, numbers-end, read-no, read-ends, read-edge, read-on}
 use Rattle.soundness.proofs.FaceLoops.{few-go, few-end, unmet-above}
@@ -16,47 +17,49 @@ use Rattle.soundness.proofs.boundaries.few_fits.Statement.{statement}
 use Rattle.soundness.proofs.boundaries.few_fits.Tie as tie
 
 -- up to place i the numbers fit, and the ends of their edges are met
-record SoFar (es : List ℕ) (from to e : ℕ) (met : List ℕ) (stamp low twice i : ℕ) : Type 0 where
-  numbers : Numbers es from to e stamp low i
-  round : Round es (drop from (take to es)) (stampOf e) met twice (i - from)
+record SoFar (es ws : List ℕ) (from to e : ℕ) (met : List ℕ) (stamp low twice i : ℕ) : Type 0 where
+  numbers : Numbers es ws from to e stamp low i
+  round : Round es (drop from (take to ws)) (stampOf e) met twice (i - from)
 
 abbrev Inv-loop : tie.InvT-loop
-Inv-loop elements from to e met₀ stamp low₀ twice₀ i₀ met low twice i = SoFar elements from to (e .0) met stamp low twice i
+Inv-loop words from to earlier spacing e met₀ stamp low₀ twice₀ i₀ met low twice i = SoFar (knownRows earlier spacing) words from to (e .0) met stamp low twice i
 
 abbrev μ-loop : tie.MeasureT-loop
-μ-loop elements from to e met₀ stamp low₀ twice₀ i₀ met low twice i = to - i
+μ-loop words from to earlier spacing e met₀ stamp low₀ twice₀ i₀ met low twice i = to - i
 
 -- where the function began, where a number is taken up, and where it was found to fit
 abbrev start : tie.At-loop Inv-loop μ-loop → tie.Start Inv-loop μ-loop
-start c = c .before .before .before
+start c = c .before .before .before .before
 
 abbrev fitted : tie.After-meet-ends Inv-loop μ-loop → tie.Else1 Inv-loop μ-loop
 fitted c = c .before .before
 
 -- the facts there
 abbrev number : (c : tie.After-wide Inv-loop μ-loop) → let l = c .before .before .before in let a = start l .args in let at = l .loop in
-    NumberRead (a .elements .now) (a .from) (a .to) (a .e .0) (a .met .now) (l .before .stamp-of .result) (at .low) (at .i) (c .wide .result)
+    NumberRead (a .words .now) (a .from) (a .to) (a .earlier .now) (a .spacing) (a .e .0) (a .met .now) (l .before .stamp-of .result) (at .low) (at .i) (c .wide .result)
 number c =
     let f = c .before .before in
     let l = f .before in
     record { ready = start l .pre; numbers = l .loop .inv .numbers; room = l .before .stamp-of .ensures .bound; more = f .loop-test .taken; read = c .wide .ensures .value }
 
 abbrev fits : (c : tie.Else1 Inv-loop μ-loop) → let w = c .before .before in let l = w .before .before .before in let a = start l .args in
-    numberFits desk (a .elements .now) (a .e .0) 2 (l .loop .low) (w .wide .result) ≡ true
+    numberFits desk (knownRows (a .earlier .now) (a .spacing)) (a .e .0) 2 (l .loop .low) (w .wide .result) ≡ true
 fits c = sym (c .before .number-fits .ensures) ∙ not-false _ (c .if1 .left)
 
 stamp-of-requires : tie.Need-stamp-of-requires Inv-loop μ-loop
-stamp-of-requires c κs = c .before .pre .inRoom
+stamp-of-requires c κs = c .before .before .pre .inRoom
 
 loop-holds : tie.Need-loop-holds Inv-loop μ-loop
 loop-holds c =
-    let a = c .before .before .args in
-    let p = c .before .before .pre in
-    let edges = drop (a .from) (take (a .to) (a .elements .now)) in
+    let begun = c .before .before .before in
+    let a = begun .args in
+    let p = begun .pre in
+    let es = knownRows (a .earlier .now) (a .spacing) in
+    let edges = drop (a .from) (take (a .to) (a .words .now)) in
     record {
       numbers = numbers-start p (c .stamp-of .ensures .value);
-      round = subst (λ (k : ℕ). Round (a .elements .now) edges (stampOf (a .e .0)) (a .met .now) 0 k) (let z : 0 ≡ a .from - a .from = omega arith in z)
-          (round-start (a .elements .now) edges (stampOf (a .e .0)) (a .met .now) (p .unmet));
+      round = subst (λ (k : ℕ). Round es edges (stampOf (a .e .0)) (a .met .now) 0 k) (let z : 0 ≡ a .from - a .from = omega arith in z)
+          (round-start es edges (stampOf (a .e .0)) (a .met .now) (p .unmet));
     }
 
 mul-wide : tie.Need-mul-wide Inv-loop μ-loop
@@ -69,7 +72,7 @@ wide-requires : tie.Need-wide-requires Inv-loop μ-loop
 wide-requires c κs = search needs
 
 number-fits-requires : tie.Need-number-fits-requires Inv-loop μ-loop
-number-fits-requires c κs = record { long = search needs; room = omega (arith, start (c .before .before .before) .pre .inRoom) }
+number-fits-requires c κs = record { spaced = start (c .before .before .before) .pre .spaced; room = omega (arith, start (c .before .before .before) .pre .inRoom) }
 
 returns : tie.Need-returns Inv-loop μ-loop
 returns c =
@@ -104,7 +107,7 @@ loop-again c =
     let at = l .loop in
     record {
       numbers = read-on R (fits e);
-      round = few-go (a .elements .now) (a .from) (a .to) (a .e .0) (R .ready .part .end) (at .met) _ (at .twice) (at .i) _ _ (stampOf (a .e .0)) _
+      round = few-go (knownRows (a .earlier .now) (a .spacing)) (a .words .now) (a .from) (a .to) (a .e .0) (R .ready .part .end) (at .met) _ (at .twice) (at .i) _ _ (stampOf (a .e .0)) _
           (at .inv .round) (R .numbers .order) (R .more) (R .read) (read-ends R (fits e)) (R .numbers .same) (c .meet-ends .ensures .count) (c .meet-ends .ensures .words);
     }
 
@@ -118,7 +121,7 @@ returns-2 c =
     let at = c .before .loop in
     let e : at .i ≡ a .to = omega (arith, at .inv .numbers .bound, c .loop-test .left) in
     record {
-      told = few-end (a .elements .now) (a .from) (a .to) (a .e .0) (p .part .end) (at .met) (at .twice) (at .i) (stampOf (a .e .0)) (at .inv .round) e (p .edges)
+      told = few-end (knownRows (a .earlier .now) (a .spacing)) (a .words .now) (a .from) (a .to) (a .e .0) (p .part .end) (at .met) (at .twice) (at .i) (stampOf (a .e .0)) (at .inv .round) e (p .edges)
           (numbers-end p (at .inv .numbers) (c .loop-test .left));
       unmet = λ t. unmet-above (stampOf (a .e .0) + 2) (stampOf (a .e .0 + 1)) (at .met) (omega arith) (round-out _ _ (stampOf (a .e .0)) (at .met) _ _ (at .inv .round));
     }

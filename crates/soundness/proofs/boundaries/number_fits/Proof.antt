@@ -1,5 +1,6 @@
 -- The answer is read off the tests that were taken.
 use Rattle.soundness.proofs.BoundaryFits.{number-is}
+use Rattle.soundness.specs.Known.{knownRows}
 use borrow.Author.Tests.{le-leb, lt-leb, le-ltb, lt-ltb}
 use lib.Dec.{eqb}
 use native.Mathlib.Omega.{arith}
@@ -18,37 +19,28 @@ late c = c .before .before
 returns : tie.Need-returns
 returns c =
     let a = c .before .before .args in
-    number-is (a .elements .now) (a .e .0) (a .rank) (a .low) (a .x) false _ _ (lt-leb _ _ (c .if1 .taken)) refl refl
+    number-is (knownRows (a .earlier .now) (a .spacing)) (a .e .0) (a .rank) (a .low) (a .x) false _ _ (lt-leb _ _ (c .if1 .taken)) refl refl
 
 returns-2 : tie.Need-returns-2
 returns-2 c =
     let a = late (c .before .before) .args in
-    number-is (a .elements .now) (a .e .0) (a .rank) (a .low) (a .x) true false _ (le-leb _ _ (c .before .before .if1 .left)) (le-ltb _ _ (c .if2 .taken)) refl
+    number-is (knownRows (a .earlier .now) (a .spacing)) (a .e .0) (a .rank) (a .low) (a .x) true false _ (le-leb _ _ (c .before .before .if1 .left)) (le-ltb _ _ (c .if2 .taken)) refl
 
-mul-wide : tie.Need-mul-wide
-mul-wide c = search needs
-
-mul-wide-2 : tie.Need-mul-wide-2
-mul-wide-2 c = search needs
-
-shared-slice-read-wide : tie.Need-shared-slice-read-wide
-shared-slice-read-wide c =
-    let p = late (c .before .before .before) .pre in
-    let q = c .before .if2 .left in
-    omega (arith, q, p .long, p .room)
-
-wide-requires : tie.Need-wide-requires
-wide-requires c κs = search needs
+rank-known-requires : tie.Need-rank-known-requires
+rank-known-requires c κs =
+    let p = late (c .before .before) .pre in
+    let q = c .if2 .left in
+    record { spaced = p .spaced; room = omega (arith, q, p .room) }
 
 add-result : tie.Need-add-result
 add-result c = search needs
 
 returns-3 : tie.Need-returns-3
 returns-3 c =
-    let f = c .before .before .before .before in
+    let f = c .before .before .before in
     let a = late f .args in
-    number-is (a .elements .now) (a .e .0) (a .rank) (a .low) (a .x) true true _ (le-leb _ _ (f .if1 .left)) (lt-ltb _ _ (c .before .before .if2 .left))
-    (ap (λ (y : ℕ). eqb y (a .rank)) (sym (ap (λ (y : ℕ). y + 1) (c .wide .ensures .value) ∙ add-one _)))
+    number-is (knownRows (a .earlier .now) (a .spacing)) (a .e .0) (a .rank) (a .low) (a .x) true true _ (le-leb _ _ (f .if1 .left)) (lt-ltb _ _ (c .before .if2 .left))
+    (ap (λ (y : ℕ). eqb y (a .rank)) (sym (ap (λ (y : ℕ). y + 1) (c .rank-known .ensures .value) ∙ add-one _)))
 
 pub number-fits-spec : {M : Type 1} → statement M
 number-fits-spec =
@@ -56,9 +48,6 @@ number-fits-spec =
     (tie.spec
     returns
     returns-2
-    mul-wide
-    mul-wide-2
-    shared-slice-read-wide
-    wide-requires
+    rank-known-requires
     add-result
     returns-3)

@@ -1,5 +1,6 @@
 -- The numbers that are left fit, from the least that the next may be, exactly when all do, until one does not.
 use Rattle.soundness.proofs.BoundaryFits.{left, fits-start, fits-go, fits-no, fits-end}
+use Rattle.soundness.specs.Known.{knownRows}
 use Rattle.soundness.specs.Words.{numbersFit}
 use Rattle.rules.proofs.Laws.{not-true, not-false}
 use Rattle.rules.specs.Limits.{desk}
@@ -12,27 +13,27 @@ use Rattle.soundness.proofs.boundaries.numbers_fit.Statement.{statement
 use Rattle.soundness.proofs.boundaries.numbers_fit.Tie as tie
 
 -- from place i on they fit exactly when all do
-record SoFar (es : List ℕ) (from to e rank low i : ℕ) : Type 0 where
+record SoFar (es ws : List ℕ) (from to e rank low i : ℕ) : Type 0 where
   bound : i ≤ to
-  rest : numbersFit desk es e rank (drop from (take to es)) ≡ left es to e rank low i
+  rest : numbersFit desk es e rank (drop from (take to ws)) ≡ left es ws to e rank low i
 
 abbrev Inv-loop : tie.InvT-loop
-Inv-loop elements from to e rank low₀ i₀ low i = SoFar elements from to (e .0) rank low i
+Inv-loop words from to earlier spacing e rank low₀ i₀ low i = SoFar (knownRows earlier spacing) words from to (e .0) rank low i
 
 abbrev μ-loop : tie.MeasureT-loop
-μ-loop elements from to e rank low₀ i₀ low i = to - i
+μ-loop words from to earlier spacing e rank low₀ i₀ low i = to - i
 
 -- where the function began, and where a number is taken up
 abbrev start : tie.At-loop Inv-loop μ-loop → tie.Start Inv-loop μ-loop
-start c = c .before .before
+start c = c .before .before .before
 
 abbrev read-up : tie.After-number-fits Inv-loop μ-loop → tie.In-loop Inv-loop μ-loop
 read-up c = c .before .before .before
 
 loop-holds : tie.Need-loop-holds Inv-loop μ-loop
 loop-holds c =
-    let a = c .before .args in
-    record { bound = search needs; rest = fits-start (a .elements .now) (a .to) (a .e .0) (a .rank) (a .from) }
+    let a = c .before .before .args in
+    record { bound = search needs; rest = fits-start (knownRows (a .earlier .now) (a .spacing)) (a .words .now) (a .to) (a .e .0) (a .rank) (a .from) }
 
 mul-wide : tie.Need-mul-wide Inv-loop μ-loop
 mul-wide c = search needs
@@ -52,7 +53,7 @@ returns c =
     let at = f .before .loop in
     let s = start (f .before) in
     let a = s .args in
-    fits-no (a .elements .now) (a .to) (a .e .0) (a .rank) (s .pre .part .end) (at .low) (at .i) _ (at .inv .rest) (c .before .before .wide .ensures .value) (f .loop-test .taken)
+    fits-no (knownRows (a .earlier .now) (a .spacing)) (a .words .now) (a .to) (a .e .0) (a .rank) (s .pre .part .end) (at .low) (at .i) _ (at .inv .rest) (c .before .before .wide .ensures .value) (f .loop-test .taken)
     (sym (c .before .number-fits .ensures) ∙ not-true _ (c .if1 .taken))
 
 add-low : tie.Need-add-low Inv-loop μ-loop
@@ -72,7 +73,7 @@ loop-again c =
     let a = s .args in
     record {
       bound = search needs;
-      rest = fits-go (a .elements .now) (a .to) (a .e .0) (a .rank) (s .pre .part .end) (at .low) (at .i) _ (at .inv .rest) (c .before .before .wide .ensures .value) (f .loop-test .taken)
+      rest = fits-go (knownRows (a .earlier .now) (a .spacing)) (a .words .now) (a .to) (a .e .0) (a .rank) (s .pre .part .end) (at .low) (at .i) _ (at .inv .rest) (c .before .before .wide .ensures .value) (f .loop-test .taken)
           (sym (c .before .number-fits .ensures) ∙ not-false _ (c .if1 .left));
     }
 
@@ -81,7 +82,7 @@ returns-2 c =
     let s = start (c .before) in
     let a = s .args in
     let at = c .before .loop in
-    fits-end (a .elements .now) (a .to) (a .e .0) (a .rank) (s .pre .part .end) (at .low) (at .i) (at .inv .rest) (c .loop-test .left)
+    fits-end (knownRows (a .earlier .now) (a .spacing)) (a .words .now) (a .to) (a .e .0) (a .rank) (s .pre .part .end) (at .low) (at .i) (at .inv .rest) (c .loop-test .left)
 
 pub numbers-fit-spec : {M : Type 1} → statement M
 numbers-fit-spec =

@@ -45,7 +45,7 @@ abbrev μ-loop : tie.MeasureT-loop
 abbrev start : tie.At-loop Inv-loop μ-loop → tie.Start Inv-loop μ-loop
 start c = c .before .before .before .before
 
-abbrev taken-up : tie.After-row-sound Inv-loop μ-loop → tie.In-loop Inv-loop μ-loop
+abbrev taken-up : tie.After-stored-row-sound Inv-loop μ-loop → tie.In-loop Inv-loop μ-loop
 taken-up c = c .before .before .before .before
 
 abbrev tested : tie.After-row-new Inv-loop μ-loop → tie.Else1 Inv-loop μ-loop
@@ -72,16 +72,12 @@ loop-holds c =
       joins = refl;
     }
 
-row-sound-requires : tie.Need-row-sound-requires Inv-loop μ-loop
-row-sound-requires c κs =
+stored-row-sound-requires : tie.Need-stored-row-sound-requires Inv-loop μ-loop
+stored-row-sound-requires c κs =
     let f = c .before .before .before in
     let inv = f .before .loop .inv in
     let p = start (f .before) .pre in
-    record {
-      there = record { long = p .long; inRoom = omega (arith, p .fits, f .loop-test .taken); mask = inv .mask; places = inv .places };
-      edges = inv .edges;
-      unmet = inv .unmet;
-    }
+    record { long = p .long; inRoom = omega (arith, p .fits, f .loop-test .taken); edges = inv .edges; unmet = inv .unmet; mask = inv .mask; places = inv .places }
 
 same-length : tie.Need-same-length Inv-loop μ-loop
 same-length c = let l = taken-up (c .before) .before in l .loop .inv .indexed .long ∙ sym (start l .pre .empty .long)
@@ -92,7 +88,7 @@ returns c =
     let at = f .before .loop in
     let a = start (f .before) .args in
     let l = f .loop-test .taken in
-    let no = sym (c .before .row-sound .ensures .told) ∙ not-true _ (c .if1 .taken) in
+    let no = sym (c .before .stored-row-sound .ensures .told) ∙ not-true _ (c .if1 .taken) in
     record {
       told = no-first _ _ (pass-no (a .elements .now) (a .d) (a .n) (a .v) (a .h) (blankWords (at .seen)) (at .k) (at .i) (at .inv .same) l no);
       indexed = λ t. absurd (false≢true t);
@@ -152,9 +148,9 @@ loop-again c =
     let l = f .loop-test .taken in
     let yes = not-false _ (e .if1 .left) in
     let new = not-false _ (c .before .if2 .left) in
-    let sound = sym (r .row-sound .ensures .told) ∙ yes in
+    let sound = sym (r .stored-row-sound .ensures .told) ∙ yes in
     let fresh = sym (w .row-new .ensures .told) ∙ new in
-    let past = r .row-sound .ensures .past yes in
+    let past = r .stored-row-sound .ensures .past yes in
     let one = c .one-if-corner .ensures .corner in
     record {
       within = search needs;
@@ -163,7 +159,7 @@ loop-again c =
       same = pass-go (a .elements .now) (a .d) (a .n) (a .v) (a .h) (blankWords (at .seen)) _ (at .k) (at .i) _ (inv .same) l sound (past .clear) one;
       edges = edges-on (a .elements .now) (at .i) (a .d) (a .h) (p .long) (omega (arith, p .fits, l)) (row-head (a .elements .now) (a .d) (a .h) (at .k) (at .i) _ sound)
           (row-element (a .elements .now) (a .d) (a .h) (at .k) (at .i) _ sound) (inv .edges);
-      unmet = r .row-sound .ensures .unmet yes;
+      unmet = r .stored-row-sound .ensures .unmet yes;
       places = past .long;
       distinct = apart-go (a .elements .now) (at .i) (inv .distinct) fresh;
       indexed = w .row-new .ensures .indexed new;
@@ -220,7 +216,7 @@ rows-in-use-spec =
     μ-loop
     past-mask-requires
     loop-holds
-    row-sound-requires
+    stored-row-sound-requires
     same-length
     returns
     row-new-requires

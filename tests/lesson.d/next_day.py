@@ -1,0 +1,77 @@
+"""next_day.py [PROGRAM]: the lesson's cuts that go on from a saved table. Each block `opened` of docs/LESSON.md prints the block `prints`
+after it, from the table that the session before it left, saved and opened; and the night adds nothing. PROGRAM is `session` of
+bindings/rust: it prints the same lines, and its files have the same bytes."""
+import importlib.machinery
+import importlib.util
+import pathlib
+import re
+import subprocess
+import sys
+import tempfile
+
+ROOT = pathlib.Path(__file__).resolve().parent.parent.parent
+sys.dont_write_bytecode = True
+
+
+def load(name):
+    loader = importlib.machinery.SourceFileLoader(name, str(ROOT / name))
+    module = importlib.util.module_from_spec(importlib.util.spec_from_loader(name, loader))
+    loader.exec_module(module)
+    return module
+
+
+show = load("show")
+Table, record = show.Table, show.record
+
+
+def records(text, opened=None):
+    rows = ((f"docs/LESSON.md:{line}", line) for line in text.split("\n"))
+    return [given for _, _, given in record.records(rows, opened and Table.open(opened).dimensions())]
+
+
+def run(text, opened=None):
+    """The lines of a session, and the file of the table that it leaves."""
+    session = show.Session()
+    session.table = opened and Table.open(opened)
+    lines = "".join(session.turn(given)[0] + "\n" for given in records(text, opened))
+    return lines, session.table.save()
+
+
+def run_program(program, text, opened=None):
+    with tempfile.TemporaryDirectory() as room:
+        files = [pathlib.Path(room) / name for name in ("opened", "session", "saved")]
+        files[0].write_bytes(opened or b"")
+        files[1].write_bytes(b"".join(given.bytes() for given in records(text, opened)))
+        words = [program, *map(str, files if opened else files[1:])]
+        return subprocess.run(words, capture_output=True, text=True, check=True).stdout, files[2].read_bytes()
+
+
+def wrong(evening, cuts, prints, program):
+    """What is wrong with a night, or nothing."""
+    lines, file = run(evening)
+    next_lines, next_file = run(cuts, file)
+    if next_lines != prints:
+        return f"it has\n{prints}\nand prints\n{next_lines}"
+    if run("", file) != ("", file):
+        return "opened and saved, it is another file"
+    if run(evening + cuts) != (lines + next_lines, next_file):
+        return "without the night it is another table"
+    if program and [run_program(program, evening), run_program(program, cuts, file)] != [(lines, file), (next_lines, next_file)]:
+        return f"{program} prints other lines, or saves another file"
+    return None
+
+
+def main():
+    program, count, last = (sys.argv + [None])[1], 0, {}
+    for kind, text in re.findall(r"^```(session|opened|prints)\n(.*?)^```$", (ROOT / "docs/LESSON.md").read_text(), re.M | re.S):
+        last[kind] = text
+        if kind == "prints":
+            why = wrong(last["session"], last["opened"], text, program)
+            if why:
+                sys.exit(f"docs/LESSON.md: {why}")
+            count += 1
+    if count == 0:
+        sys.exit("docs/LESSON.md: no session goes on from a saved table")
+
+
+main()
