@@ -151,7 +151,8 @@ module _ (L M : Limits) (O : Roomier L M) (R : Readable L) (H : HasCubes L) (W :
         ≡ replyBy M (widenedParams M p) root n true (ltb root (elementCount t)) (dividerFits L (t .dimension) (p .divider)) (answers M)
     there s =
         reply-by M (widenedParams M p) root n
-        ∙ (λ j. let u = table-there m s j in replyBy M (widenedParams M p) root n (sound-there m s j) (ltb root (elementCount u)) (dividerFits M (u .dimension) (widened M (p .divider))) (cut M (paramsOf (u .dimension) (widenedParams M p)) root u))
+        ∙ (λ j. let u = table-there m s j in
+        replyBy M (widenedParams M p) root n (sound-there m s j) (ltb root (elementCount u)) (dividerFits M (u .dimension) (widened M (p .divider))) (cut M (paramsOf (u .dimension) (widenedParams M p)) root u))
         ∙ (λ j. replyBy M (widenedParams M p) root n true (ltb root (elementCount t)) (fits-same L M O (p .divider) long (t .dimension) low j) (cut M (params-same low j) root t))
       where
         low : t .dimension ≤ L .dimensions

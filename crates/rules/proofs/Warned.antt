@@ -41,7 +41,7 @@ use Rattle.rules.proofs.Repeat.{NotInfinite}
 
 -- ---- what holds of the value of a step that is done
 
-abbrev Done : {A : Type 0} → (A → Type 0) → Outcome A → Type 0
+abbrev pub Done : {A : Type 0} → (A → Type 0) → Outcome A → Type 0
 Done Q (refused n) = Unit {0}
 Done Q (done a t) = Q a
 
@@ -56,7 +56,7 @@ done-next Q R t (refused n) f b h k = tt
 done-next Q R t (done a s) f b h k = k a s (built-extends b) h
 
 -- an answer's warning, and that of what is gathered
-abbrev Warns : Bool → ElementAnswer → Type 0
+abbrev pub Warns : Bool → ElementAnswer → Type 0
 Warns w a = a .warning ≡ w
 
 abbrev Gathers : Bool → Gathered → Type 0
