@@ -10,8 +10,8 @@ use Rattle.rules.specs.Limits.{Limits, Readable}
 use Rattle.rules.specs.Table.{Plane, Table, elementCount, rank}
 use Rattle.rules.specs.Memory.{Memory, encode, decode}
 use Rattle.rules.specs.Cut.{done, keeping, cut}
-use Rattle.rules.specs.Replies.{cutNumber, outputValues, elementValue, isKept, paramsOf, asReply, cutReply, dividerFits, dividerOf, written}
-use Rattle.rules.specs.Promises.{Finite, Passes, cutBy}
+use Rattle.rules.specs.Replies.{cutNumber, outputValues, elementValue, isKept, cutBy, paramsOf, asReply, cutReply, dividerFits, dividerOf, written}
+use Rattle.rules.specs.Promises.{Finite, Passes}
 use Rattle.carvings.specs.Promises.{Sliceable, AsTwoCarvings, SliceRepliesAsTwoCarvings, SliceDoneAsCarvings}
 use Rattle.carvings.specs.Renumbered.{Renumbering, Corresponds, AnswersCorrespond, renumberedPlace, renumberedValue}
 use Rattle.rules.specs.declared.CutReply.{CutReply}

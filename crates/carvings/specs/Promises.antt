@@ -11,8 +11,8 @@ use Rattle.rules.specs.Table.{ElementNumber, Plane, Table, rank, elementCount}
 use Rattle.rules.specs.Sound.{sound, soundPlane}
 use Rattle.rules.specs.Memory.{Memory, decode}
 use Rattle.rules.specs.Cut.{done, keeping, cut}
-use Rattle.rules.specs.Replies.{cutNumber, cutValues, cutWarning, cutReply}
-use Rattle.rules.specs.Promises.{Finite, cutBy}
+use Rattle.rules.specs.Replies.{cutNumber, cutValues, cutWarning, cutBy, cutReply}
+use Rattle.rules.specs.Promises.{Finite}
 use Rattle.rules.specs.declared.Hyperplane.{Hyperplane}
 use Rattle.rules.specs.declared.PolytopeFate.the-variants.{Remove, Keep}
 use Rattle.rules.specs.declared.ElementAnswer.{ElementAnswer}

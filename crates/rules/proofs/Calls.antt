@@ -12,9 +12,9 @@ use Rattle.rules.specs.Lists.{if_then_else_}
 use Rattle.rules.specs.Table.{Table, rank}
 use Rattle.rules.specs.Memory.{Memory, soundMemory, decode}
 use Rattle.rules.specs.Cut.{Params, cut, done, cutAtDistance, cornerOutput}
-use Rattle.rules.specs.Replies.{cutReply, isKept, paramsOf, dividerFits, asReply, written, cutNumber, cutValues, cutWarning, outputValues, elementValue}
+use Rattle.rules.specs.Replies.{cutReply, isKept, cutBy, paramsOf, dividerFits, asReply, written, cutNumber, cutValues, cutWarning, outputValues, elementValue}
 use Rattle.rules.specs.Calls.{after, Call, asking, cutting, cubing, opening, afterCalls, LeavesTable, TableStays, Gives}
-use Rattle.rules.specs.Promises.{Finite, cutBy, AgainLater, OneSideLater, FlushLater, InfiniteDistance}
+use Rattle.rules.specs.Promises.{Finite, AgainLater, OneSideLater, FlushLater, InfiniteDistance}
 use Rattle.rules.specs.Held.{Extends}
 use Rattle.rules.specs.declared.Side.the-variants.{Inside, Outside}
 use Rattle.rules.specs.declared.CutReply.{CutReply}

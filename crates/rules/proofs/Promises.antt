@@ -9,8 +9,8 @@ use Rattle.rules.specs.Limits.{Limits, HasCubes, Readable, Fileable, des
 use Rattle.rules.specs.Lists.{if_then_else_}
 use Rattle.rules.specs.Memory.{Memory, decode}
 use Rattle.rules.specs.Cut.{Outcome, refused, done, next, give, addPlane, cornerOutput}
-use Rattle.rules.specs.Replies.{cutNumber, cutValues, outputValues, elementValue, isKept, paramsOf, written, cutReply}
-use Rattle.rules.specs.Promises.{AnswersAreInUse, NamesBelow, OneBelow, Passes, Finite, AllOn, OnlyPlane, dividerIn, someCloseCall, cutBy, Promises}
+use Rattle.rules.specs.Replies.{cutNumber, cutValues, outputValues, elementValue, isKept, cutBy, paramsOf, written, cutReply}
+use Rattle.rules.specs.Promises.{AnswersAreInUse, NamesBelow, OneBelow, Passes, Finite, AllOn, OnlyPlane, dividerIn, someCloseCall, Promises}
 use Rattle.rules.specs.declared.CutReply.{CutReply}
 use Rattle.rules.specs.declared.CutReply.the-variants.{Refused, Answered}
 use Rattle.rules.specs.declared.ElementOrNone.{ElementOrNone}

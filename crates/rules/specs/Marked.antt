@@ -10,7 +10,7 @@ use Rattle.rules.specs.Floats.{plusZero, one, tolerance, sideOf}
 use Rattle.rules.specs.Table.{ElementNumber}
 use Rattle.rules.specs.Memory.{Memory, encode}
 use Rattle.rules.specs.Cube.{cube}
-use Rattle.rules.specs.Replies.{cutNumber, cutValues, cutWarning, cutReply, greatestCommonReply, edgesInOrderReply}
+use Rattle.rules.specs.Replies.{cutNumber, cutValues, cutWarning, cutBy, cutReply, greatestCommonReply, edgesInOrderReply}
 use Rattle.rules.specs.declared.Hyperplane.{Hyperplane}
 use Rattle.rules.specs.declared.Side.{Side}
 use Rattle.rules.specs.declared.Side.the-variants.{On, Outside}
@@ -32,7 +32,7 @@ pub data Shown : Type 0 where
 
 abbrev pub showCut : Limits → Hyperplane → PolytopeFate → PolytopeFate → ElementNumber → Memory → Shown
 showCut L h i o root m =
-    let r = cutReply L (record { divider = h; inside = i; outside = o }) root m in
+    let r = cutReply L (cutBy h i o) root m in
     cutShown (cutNumber (r .0)) (cutValues (r .0)) (cutWarning (r .0)) (drop 1 (r .1 .counts))
 
 abbrev pub showList : ListReply × List ℕ → Shown

@@ -17,7 +17,7 @@ use Rattle.rules.specs.Memory.{Memory, elementWidth, planeWidth, encode,
 use Rattle.rules.specs.Cut.{Outcome, refused, done, addPlane}
 use Rattle.rules.specs.Questions.{answer, isBelow, vertexSet, greatestCommon, edgesInOrder}
 use Rattle.rules.specs.Rings.{RuleIsOneRing, FaceIsOneRing, FaceIsWalked}
-use Rattle.rules.specs.Replies.{cutNumber, cutValues, cutWarning, listNumber, listSize, facetValue, isSoundReply, cubeReply, dividerFits, dividerOf, cutReply, primordialFacetReply}
+use Rattle.rules.specs.Replies.{cutNumber, cutValues, cutWarning, listNumber, listSize, facetValue, isSoundReply, cubeReply, dividerFits, dividerOf, cutBy, cutReply, primordialFacetReply}
 use Rattle.rules.specs.Files.{openReply}
 use Rattle.rules.specs.Saving.{RefusedOpenLeaves, OpenNumbers, OpenIsSound, SavedOpens, OpenedSaves, OneFile, OpensRoomier, LayoutAlone}
 use Rattle.rules.specs.Calls.{Call, cutting, asking, cubing, opening, after, afterCalls, TableStays, ListQuestion, listReply, listRefusals, Gives, CutNumbered, ListNumbered, FacetNumbered, Filled}
@@ -115,10 +115,6 @@ AgainLater L = (p : CutParams) (root : ElementNumber) (m : Memory) → cutNumber
 -- a distance that is no infinity
 abbrev pub Finite : Float → Type 0
 Finite d = (s : Bool) → d ≡ inf s → ⊥
-
--- the parameters of a cut by divider h, with what becomes of each side
-abbrev pub cutBy : Hyperplane → PolytopeFate → PolytopeFate → CutParams
-cutBy h i o = record { divider = h; inside = i; outside = o }
 
 -- both sides kept, a finite divider, and a root that is no corner: one side asked later is the same piece with the same face and the same warning, and nothing is added
 abbrev pub OneSideLater : Limits → Type 0

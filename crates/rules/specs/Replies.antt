@@ -117,6 +117,10 @@ isKept Keep = true
 abbrev pub dividerOf : ℕ → Hyperplane → Plane
 dividerOf d h = record { normal = take d (h .normal); distance = h .distance }
 
+-- the parameters of a cut by divider h, with what becomes of each side
+abbrev pub cutBy : Hyperplane → PolytopeFate → PolytopeFate → CutParams
+cutBy h i o = record { divider = h; inside = i; outside = o }
+
 -- the parameters as the rules have them
 abbrev pub paramsOf : ℕ → CutParams → Params
 paramsOf d p = record { divider = dividerOf d (p .divider); keepInside = isKept (p .inside); keepOutside = isKept (p .outside) }
