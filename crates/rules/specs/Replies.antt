@@ -113,6 +113,10 @@ abbrev pub isKept : PolytopeFate → Bool
 isKept Remove = false
 isKept Keep = true
 
+abbrev pub fateOf : Bool → PolytopeFate
+fateOf false = Remove
+fateOf true = Keep
+
 -- the divider with the dimension's components only
 abbrev pub dividerOf : ℕ → Hyperplane → Plane
 dividerOf d h = record { normal = take d (h .normal); distance = h .distance }
