@@ -3,6 +3,7 @@
 
 use crate::model::floats::{CLOSE, TOLERANCE};
 
+/// By name, first those outside.
 pub const PLACES: [&str; 8] = [
     "T",
     "the float past T",
