@@ -2,7 +2,7 @@
 -- It stands here and not in rules, for each must-fail edit of rules would pay for it.
 use mathlib.Core.Path.{refl}
 use lib.Ieee.{ofBits, neg, add, sub, mul, div, lt, eq, le, isNan}
-use Rattle.rules.specs.Floats.{within, dotFrom, dot, signedDistance, sideOf, unit, edgeTest, clamp, crossingPoint, matches, pointMatches}
+use Rattle.rules.specs.Floats.{within, dotFrom, dot, signedDistance, sideOf, closeCall, unit, crossingOf, clamp, crossingPoint, matches, pointMatches}
 use Rattle.rules.specs.Table.{sameElement}
 use Rattle.rules.specs.Sound.{sound, roomFits, soundPoint, soundPlane, cornersInOrder, soundBoundary, soundFacet}
 use Rattle.rules.specs.Memory.{elementRow, planeRow, encode, readElement, readPlane, decode, rightSize, sameMemory, soundMemory}
@@ -15,7 +15,7 @@ use Rattle.rules.specs.Marked.{Q, segment, marked}
 use Rattle.rules.proofs.Answers.{Agree}
 
 pub marked-hold : Agree marked
-unfolding neg add sub mul div lt eq le isNan ofBits within dotFrom dot signedDistance sideOf unit edgeTest clamp crossingPoint matches pointMatches
+unfolding neg add sub mul div lt eq le isNan ofBits within dotFrom dot signedDistance sideOf closeCall unit crossingOf clamp crossingPoint matches pointMatches
     sameElement sound roomFits soundPoint soundPlane cornersInOrder soundBoundary soundFacet elementRow planeRow encode readElement readPlane decode
     rightSize sameMemory soundMemory cube cubeElement cubePoint facetNormal facetPlane radiusFits addElement addPolytope addVertex planeMatches
     addPlane cutCorner rule7 rule6 cutEnds cutEdge cutHigher cutElement cut reaches subElements withRank vertexSet commonWithRank greatestFrom
