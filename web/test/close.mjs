@@ -3,7 +3,7 @@ import { readFileSync, writeFileSync } from "node:fs";
 import { join } from "node:path";
 import { closeCorners } from "../close.js";
 import { load } from "../engine.js";
-import { ask, bytesOf, recordsOf, turns } from "../session.js";
+import { ask, bytesOf, lineOf, recordsOf, turns } from "../session.js";
 import { TABLE_BYTES, Table } from "../table.js";
 
 const T = 2 ** -20;
@@ -42,6 +42,20 @@ function checkNamed(checks, table, copy) {
     checks.same(`${warned} warnings, each for the corners that it is for`, [warned > 100, unlike], [true, 0]);
 }
 
+// the lesson's blocks `warned`: those records of the session before that come with a warning, and no others
+function checkLesson(checks, table) {
+    let [session, count] = ["", 0];
+    for (const [, kind, text] of readFileSync("docs/LESSON.md", "utf8").matchAll(/^```(session|warned)\n([^]*?)^```$/gm)) {
+        if (kind === "session") session = text;
+        if (kind !== "warned") continue;
+        table.restore(new Uint8Array(TABLE_BYTES));
+        const warned = [...turns(table, bytesOf(recordsOf(session)))].filter(({ reply }) => reply.warning);
+        checks.same("the lesson's warnings", warned.map(({ record }) => lineOf(record) + "\n").join(""), text);
+        count++;
+    }
+    checks.holds("a lesson with a warning", count > 0);
+}
+
 export async function checkCalls(checks) {
     const engine = await load(readFileSync("target/web/desk.wasm"), 2 * TABLE_BYTES);
     const [table, copy] = [new Table(engine), new Table(engine)];
@@ -56,6 +70,7 @@ export async function checkCalls(checks) {
     table.cube(3, 1);
     checks.same("flush, with a warning", table.cut({ normal: [T, T, 1], distance: 1 - T, inside: true, outside: true, root: 17 }), { number: 0, warning: true, flush: true });
     checkNamed(checks, table, copy);
+    checkLesson(checks, table);
 }
 
 const CALL = "Close call at v3: the plane passes 0.0000080 from it.";
