@@ -3,6 +3,7 @@ import { readFileSync, writeFileSync } from "node:fs";
 import { join } from "node:path";
 import { closeCorners } from "../close.js";
 import { load } from "../engine.js";
+import { partsOf } from "../lesson.js";
 import { ask, bytesOf, lineOf, recordsOf, turns } from "../session.js";
 import { TABLE_BYTES, Table } from "../table.js";
 
@@ -44,6 +45,7 @@ function checkNamed(checks, table, copy) {
 
 // the lesson's blocks `warned`: those records of the session before that come with a warning, and no others
 function checkLesson(checks, table) {
+    const paragraphs = partsOf(readFileSync("target/web/LESSON.md", "utf8")).flatMap(part => part.paragraphs);
     let [session, count] = ["", 0];
     for (const [, kind, text] of readFileSync("docs/LESSON.md", "utf8").matchAll(/^```(session|warned)\n([^]*?)^```$/gm)) {
         if (kind === "session") session = text;
@@ -51,6 +53,7 @@ function checkLesson(checks, table) {
         table.restore(new Uint8Array(TABLE_BYTES));
         const warned = [...turns(table, bytesOf(recordsOf(session)))].filter(({ reply }) => reply.warning);
         checks.same("the lesson's warnings", warned.map(({ record }) => lineOf(record) + "\n").join(""), text);
+        checks.holds("they stand in its text", paragraphs.includes(`    ${text.trim().split("\n").join("\n    ")}`));
         count++;
     }
     checks.holds("a lesson with a warning", count > 0);
