@@ -1,6 +1,7 @@
 // All that the rules do with floats: distances and sides, crossings, matches, and the two searches over the lent rows.
 mod between;
 pub mod patterns;
+mod sides;
 
 use between::above_both;
 use between::below_both;
@@ -13,8 +14,9 @@ use rules::HyperplaneId;
 use rules::Side;
 use rules::SideTest;
 use rules::VertexId;
+use sides::either;
+use sides::opposed;
 ghost use Prim.Native.Nat.{_+_, _*_, _≤_};
-ghost use mathlib.Core.Bool.{_||_};
 ghost use mathlib.Core.Path.{_≡_};
 ghost use mathlib.Core.List.{[]};
 ghost use lib.ListN.{length, getD, take, drop};
@@ -180,35 +182,6 @@ pub fn distance_kind(x: f64) -> DistanceKind
         return DistanceKind::MinusInfinity;
     }
     DistanceKind::Unfit
-}
-
-// Whether one of two holds.
-fn either(a: bool, b: bool) -> bool
-    ensures { λ r. ⌜ r ≡ (a || b) ⌝ }
-{
-    if a {
-        return true;
-    }
-    b
-}
-
-// One end is inside and the other outside.
-fn opposed(a: Side, b: Side) -> bool
-    ensures { λ r. ⌜ r ≡ floats.opposite a b ⌝ }
-{
-    match a {
-        Side::Inside => match b {
-            Side::Inside => false,
-            Side::On => false,
-            Side::Outside => true,
-        },
-        Side::On => false,
-        Side::Outside => match b {
-            Side::Inside => true,
-            Side::On => false,
-            Side::Outside => false,
-        },
-    }
 }
 
 // No crossing, or a crossing with its t, by the two ends' sides.
