@@ -16,8 +16,11 @@ start c = c .before .before .before .before .before .before
 abbrev counted : tie.After-read-ends → tie.After-wide
 counted c = c .before .before .before
 
+abbrev measured : tie.After-edge-test → tie.After-signed-distance
+measured c = c .before .before
+
 abbrev ends-read : tie.After-edge-test → tie.After-read-ends
-ends-read c = c .before .before .before .before .before .before .before
+ends-read c = measured c .before .before .before .before .before
 
 abbrev tested : tie.After-x → tie.After-edge-test
 tested c = c .before .before .before .before
