@@ -1,8 +1,9 @@
 // The plane's fields: normal, angles, distance, the sides kept and the root, and what the cut would answer.
-import { $, html } from "./dom.js";
+import { $, html, tag } from "./dom.js";
 import { fits } from "./engine.js";
 import { NoRecord, float, plain } from "./session.js";
-import { anglesOf, normalOf, settleDistance, unit } from "./plane.js";
+import { ADVICE, closely, nearest } from "./close.js";
+import { anglesOf, dot, normalOf, settleDistance, unit } from "./plane.js";
 import { AXES } from "./words.js";
 import { briefly } from "./meaning.js";
 
@@ -51,6 +52,17 @@ function showPreview({ preview, aim }) {
     $("wouldsay").innerHTML = html(briefly(preview) + more);
 }
 
+// what is said already is not said again, for those who listen
+let warned = "";
+
+function showWarning({ preview, aim }) {
+    const isClose = aim.aiming && preview?.reply.warning;
+    const words = isClose ? `${closely(preview.close)} ${ADVICE}` : "";
+    if (words !== warned) $("warns").innerHTML = html(warned = words);
+    $("onto").hidden = !isClose;
+    if (isClose) $("onto").innerHTML = `onto ${tag("v", nearest(preview.close).v)}`;
+}
+
 // what the fields say, as a change of what is aimed at
 function read(target, desk) {
     const { aim, radius } = desk;
@@ -81,6 +93,10 @@ export const aim = {
         // a field that is left shows what is aimed at
         $("aim").addEventListener("focusout", () => setTimeout(() => showFields(desk)));
         $("makeunit").onclick = () => desk.aimAt({ normal: unit(desk.aim.normal) });
+        $("onto").onclick = () => {
+            $("cut").focus();
+            desk.aimAt({ distance: dot(desk.aim.normal, desk.live.vertex(nearest(desk.preview.close).v)) });
+        };
     },
 
     changed(desk) {
@@ -90,5 +106,6 @@ export const aim = {
     aimed(desk) {
         if (desk.stands) showFields(desk);
         showPreview(desk);
+        showWarning(desk);
     },
 };

@@ -1,4 +1,5 @@
 // The answer of the record that we are at: cutlist's line with a name under each number, and what it means.
+import { NEAR, ON, closely } from "./close.js";
 import { $, escaped, html } from "./dom.js";
 import { STATES, meaning } from "./meaning.js";
 import { lineOf } from "./session.js";
@@ -26,6 +27,10 @@ const place = ({ name, state, says }, i) =>
     `<div class="place ${KINDS[i]} ${state}"><h3><span class="name">${name}</span> <span class="state">${STATES[state]}</span></h3>` +
     `<p>${html(says)}</p></div>`;
 
+// a close call stays with its answer, with what it is and what to do about it
+const warning = ({ close }) => `<strong>${html(closely(close))}</strong> A corner within ${NEAR} of the plane and not on it is a close call: an edge may
+    vanish there, for within ${ON} a corner counts as on the plane, and two corners as one. Undo the cut, and move the plane onto the corner, or well away.`;
+
 export const answer = {
     changed(desk) {
         const { step, history, live, aside } = desk;
@@ -39,6 +44,7 @@ export const answer = {
         $("line").dataset.line = step.line;
         $("line").innerHTML = `<span class="word ${word}">${escaped(word)}</span>${slots(step)}`;
         $("places").innerHTML = places.map(place).join("");
+        $("answerwarns").innerHTML = step.reply.warning ? warning(step) : "";
         $("says").innerHTML = says.map(text => `<p>${html(text)}</p>`).join("");
     },
 };

@@ -52,10 +52,18 @@ function cutFace(scene) {
     return `<g class="cutface${isDrawn ? " edgesonly" : ""}${eye.dimension === 4 ? " thin" : ""}">${drawElement(scene, face)}</g>`;
 }
 
-function pointedVertex(scene, v) {
-    const { shifts, shapes, apart, eye, table } = scene;
+// on paper: apart, in each piece that has it
+function vertexPlaces({ shifts, shapes, apart, eye, table }, v) {
     const owners = apart ? [...shifts].filter(([e]) => shapes.vertices(e).includes(v)).map(([, shift]) => shift) : [];
-    return (owners.length ? owners : [null]).map(shift => circle(eye.paper(table.vertex(v), shift), 8, 'class="spot"')).join("");
+    return (owners.length ? owners : [null]).map(shift => eye.paper(table.vertex(v), shift));
+}
+
+const pointedVertex = (scene, v) => vertexPlaces(scene, v).map(p => circle(p, 8, 'class="spot"')).join("");
+
+// a close call has a shape of its own, the triangle of warnings, around its corner
+function closeCalls(scene) {
+    const sign = ({ x, y }) => `<path d="${path([[0, -17], [15, 9], [-15, 9]].map(([a, b]) => ({ x: x + a, y: y + b })))}"/>`;
+    return `<g class="close">${scene.close.flatMap(({ v }) => vertexPlaces(scene, v)).map(sign).join("")}</g>`;
 }
 
 function pointedPlane({ eye, table }, h) {
@@ -79,14 +87,14 @@ export function drawAll(scene) {
     const { arrow, busy } = drawArrow(scene);
     const { removedSides, removedWords, spots } = drawRemoved(scene, busy);
     return HATCH + `<g class="axes">${scene.eye.flat ? flatAxes(scene.eye) : spaceAxes(scene.eye)}</g>` +
-        removedSides + drawPieces(scene, drawPlane(scene)) + outlines(scene) + cutFace(scene) + pointedAt(scene) +
+        removedSides + drawPieces(scene, drawPlane(scene)) + outlines(scene) + cutFace(scene) + closeCalls(scene) + pointedAt(scene) +
         removedWords + drawLabels(scene, [...busy, ...spots]) + arrow;
 }
 
 // one piece by itself, with the numbers of its vertices, for a sheet
 export function picture(table, shapes, e, look, radius) {
     const eye = new Eye({ ...look, apart: 0, dimension: table.dimension, radius, width: PICTURE, height: PICTURE });
-    const scene = { table, shapes, eye, pieces: [{ e, look: "plainpiece" }], shifts: new Map(), extra: [], apart: 0, face: null,
+    const scene = { table, shapes, eye, pieces: [{ e, look: "plainpiece" }], shifts: new Map(), extra: [], apart: 0, face: null, close: [],
         numbers: "vertices", divider: { normal: Array(table.dimension).fill(0), distance: Infinity } };
     const spots = shapes.corners(e).map(p => eye.paper(p));
     const [xs, ys] = [spots.map(p => p.x), spots.map(p => p.y)];

@@ -52,19 +52,20 @@ class Engine {
         return this.calls.desk_cube(...lent, whole(dimension), radius);
     }
 
-    // { number } when refused, { number: 0, flush: true }, or the three places, null for none
+    // { number } when refused, { number: 0, warning, flush: true }, or with the three places, null for none
     cut(lent, { normal, distance, inside, outside, root }) {
         const [a = 0, b = 0, c = 0, d = 0] = normal;
         const sides = [inside ? 1 : 0, outside ? 1 : 0];
         const word = BigInt.asUintN(64, this.calls.desk_cut(...lent, a, b, c, d, distance, ...sides, whole(root)));
         const number = Number(word & 0xffn);
         if (number !== 0) return { number };
-        if (word & 0x100n) return { number, flush: true };
+        const warning = (word & 0x200n) !== 0n;
+        if (word & 0x100n) return { number, warning, flush: true };
         const place = shift => {
             const e = Number(word >> shift & 0xffffn);
             return e === NONE ? null : e;
         };
-        return { number, flush: false, inside: place(16n), outside: place(32n), face: place(48n) };
+        return { number, warning, flush: false, inside: place(16n), outside: place(32n), face: place(48n) };
     }
 
     // { number } when refused, else { number: 0, size }: so many bytes at the front of the room

@@ -40,6 +40,11 @@ export class History {
         return this.steps.findLastIndex(({ record, reply }, i) => i <= this.at && record.kind !== "cut" && reply.number === 0);
     }
 
+    // the steps of the table here, from its beginning
+    get made() {
+        return this.steps.slice(this.beginsAt, this.at + 1);
+    }
+
     // the records up to where we are; opening is none
     records(from = 0) {
         return this.steps.slice(from, this.at + 1).map(({ record }) => record).filter(({ kind }) => kind !== "open");

@@ -1,4 +1,5 @@
 // The keyboard: in the drawing all that a hand does; undo and redo, saving and opening everywhere.
+import { spoken } from "./close.js";
 import { $ } from "./dom.js";
 import { anglesOf, axis, normalOf, rounded } from "./plane.js";
 import { KEPT } from "./session.js";
@@ -76,7 +77,8 @@ function say({ aim, preview }) {
     clearTimeout(resting);
     if (document.activeElement !== $("drawing") || !preview) return;
     const where = `normal ${aim.normal.map(rounded).join(", ")}, distance ${aim.distance}`;
-    resting = setTimeout(() => ($("said").textContent = `element ${aim.root}, ${where}, keep ${aim.kept}: would print ${preview.line}`), REST);
+    const close = preview.reply.warning ? `; ${spoken(preview.close)}` : "";
+    resting = setTimeout(() => ($("said").textContent = `element ${aim.root}, ${where}, keep ${aim.kept}: would print ${preview.line}${close}`), REST);
 }
 
 export const keys = {

@@ -43,15 +43,16 @@ function pieceTags({ eye, shapes }, shown, places) {
     }).join("");
 }
 
-function vertexTags({ eye, table, shapes, apart }, shown, places) {
+function vertexTags({ eye, table, shapes, apart }, shown, places, { isNamed, isClose }) {
     const home = eye.paper(Array(eye.dimension).fill(0));
     return shown.map(({ e, shift }) => {
         const inner = apart ? eye.paper(shapes.middle(e), shift) : home;
-        return shapes.vertices(e).map(v => {
+        return shapes.vertices(e).filter(isNamed).map(v => {
             const p = eye.paper(table.vertex(v), shift);
-            if (eye.dimension === 1) return places.take({ x: p.x, y: p.y + 22 }, 26) ? tag("v", v, { x: p.x, y: p.y + 22 }) : "";
+            const look = isClose(v) ? "closetag" : "";
+            if (eye.dimension === 1) return places.take({ x: p.x, y: p.y + 22 }, 26) ? tag("v", v, { x: p.x, y: p.y + 22 }, { look }) : "";
             const at = AROUND.map(([k, turn]) => away(p, inner, k, turn)).find(q => places.isClear(q, 20) && places.take(q, 26));
-            return at ? tag("v", v, at) : "";
+            return at ? tag("v", v, at, { look }) : "";
         }).join("");
     }).join("");
 }
@@ -66,13 +67,14 @@ function elementTags({ eye, table, shapes }, shown, places) {
 }
 
 export function drawLabels(scene, busy) {
-    const { pieces, numbers, extra, shifts, isMany } = scene;
+    const { pieces, numbers, extra, shifts, isMany, close } = scene;
     const shown = [...pieces.map(({ e }) => ({ e, shift: shifts.get(e) })), ...extra.map(e => ({ e, shift: null }))];
     const places = new Places(busy);
+    const isClose = v => close.some(call => call.v === v);
     const withPieces = ["both", "pieces", "all"].includes(numbers);
     const withVertices = ["both", "vertices"].includes(numbers) && !isMany;
     return `<g class="dots">${dots(scene, shown)}</g>` +
         (withPieces ? pieceTags(scene, shown, places) : "") +
-        (withVertices ? vertexTags(scene, shown, places) : "") +
+        vertexTags(scene, shown, places, { isClose, isNamed: v => withVertices || isClose(v) }) +
         (numbers === "all" ? elementTags(scene, shown, places) : "");
 }

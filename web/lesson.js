@@ -14,7 +14,9 @@ export function partsOf(markdown) {
             if (kind === "opened") all.push({ session: text, from: last });
             if (kind === "lines" || kind === "prints") all.at(-1).lines = text;
         }
-        const text = part.slice(part.indexOf("\n")).replace(/^```[^]*?^```$/gm, "").trim();
+        // which cuts come with a warning stands in the text; what is run stands as steps
+        const told = part.slice(part.indexOf("\n")).replace(/^```warned\n([^]*?)\n```$/gm, (_, cuts) => cuts.replace(/^/gm, "    "));
+        const text = told.replace(/^```[^]*?^```$/gm, "").trim();
         const paragraphs = text.split(/\n\s*\n/).map(words => (isCode(words) ? words : words.replace(/\s+/g, " ")));
         return all.map((one, i) => ({ ...one, title: all.length === 1 ? title : `${title} (${i + 1} of ${all.length})`, paragraphs }));
     });

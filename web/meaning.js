@@ -1,6 +1,6 @@
 // What an answer means, place by place. A cut adds entries to a table; a piece that the plane misses is its old entry; a side
 // that is removed is not a side that was not worked out, and the face of the cut is there either way.
-import { MANY, RANKS, SHAPES, count, refusal, runs, short } from "./words.js";
+import { MANY, RANKS, SHAPES, cornerNames, count, refusal, runs, short } from "./words.js";
 import { ask } from "./session.js";
 
 export const STATES = { new: "new entry", old: "old entry", removed: "removed", nothing: "nothing there", none: "none" };
@@ -17,7 +17,7 @@ function touched(copy, record) {
 function missing(copy, record, what) {
     const on = touched(copy, record);
     if (on.length === 0) return `The plane misses ${what}`;
-    return `The plane touches ${what} only at ${on.slice(0, 4).map(v => `[v${v}]`).join(", ")}${on.length > 4 ? " and more" : ""}`;
+    return `The plane touches ${what} only at ${cornerNames(on)}`;
 }
 
 // the root itself is the answer: its old entry

@@ -1,5 +1,6 @@
 // Where the table of a sheet came from: its session or the file that it was opened from; and so, what is promised of its corners.
-import { escaped, tag } from "./dom.js";
+import { NEAR, closely } from "./close.js";
+import { escaped, html, tag } from "./dom.js";
 import { matching } from "./opened.js";
 import { bytesOf, checksum, lineOf, plain } from "./session.js";
 import { SHAPES } from "./words.js";
@@ -28,6 +29,17 @@ export function promiseOf({ live, history }) {
     const some = pairs.slice(0, 8).map(([a, b]) => `${tag("v", a)} and ${tag("v", b)}`).join("; ");
     return `<p class="promise sliver"><strong>A corner is entered twice.</strong> This table was opened from a file that brings vertices that match:
         ${some}${pairs.length > 8 ? `; and ${pairs.length - 8} pairs more` : ""}. What is promised of a table from a cube does not hold for it. ${MATCH}</p>`;
+}
+
+// the warning of each cut that had one; of what was cut before a file was saved, nobody knows
+export function warningsOf({ history }) {
+    const warned = history.made.filter(({ reply }) => reply.warning);
+    const before = openedIn(history) ? " What was cut before the file was saved is not told here, for a file holds no cuts." : "";
+    if (warned.length === 0) return `<p class="noclose">No cut of this table was a close call: no plane passes within ${NEAR} of a corner of what it cuts without
+        going through it.${before}</p>`;
+    const rows = warned.map(({ record, close }) => `<li><code>${lineOf(record)}</code> ${html(closely(close))}</li>`);
+    return `<div class="closecall"><p><strong>Look closely:</strong> ${warned.length === 1 ? "a cut" : `${warned.length} cuts`} of this table came with a warning:
+        the plane passes within ${NEAR} of a corner, and not through it. An edge may have vanished there, or be too short to be made.${before}</p><ul>${rows.join("")}</ul></div>`;
 }
 
 // the records, which the bytes of the session hold, and the lines of those that made this table

@@ -1,4 +1,5 @@
 // The cut before it is made: asked of a copy of the table, so that the table that stands is as it was.
+import { closeCorners } from "./close.js";
 import { ask, printed } from "./session.js";
 import { middle } from "./shapes.js";
 
@@ -23,5 +24,6 @@ export function previewOf(live, copy, record) {
     const reply = ask(copy, record);
     const after = copy.sizes;
     const line = printed(record, reply, after);
-    return { record, reply, line, before: live.sizes, after, table: copy, copy, removed: removedSides(copy, record, reply) };
+    const close = closeCorners(copy, record, reply);
+    return { record, reply, close, line, before: live.sizes, after, table: copy, copy, removed: removedSides(copy, record, reply) };
 }

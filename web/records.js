@@ -36,9 +36,9 @@ export function openSession(desk, bytes) {
 // cutlist has no record that opens a table, so its records are read only where that table stands
 const goesOn = ({ name }) => `These records go on from the table of ${name}. Open that first, and then them; cutlist has no table for them.`;
 
-const row = ({ record, line }, i, at) =>
+const row = ({ record, reply, line }, i, at) =>
     `<li class="${i === at ? "now" : i > at ? "later" : ""}${record.kind === "open" ? " opened" : ""}"><button type="button" data-step="${i}"${i === at ? ' aria-current="step"' : ""}>` +
-    `<code>${escaped(lineOf(record))}</code><code class="gives">${escaped(line)}</code></button></li>`;
+    `<code>${escaped(lineOf(record))}</code>${reply.warning ? '<i class="mark close">close call</i>' : ""}<code class="gives">${escaped(line)}</code></button></li>`;
 
 export const records = {
     wire(desk) {

@@ -1,4 +1,5 @@
 // What is drawn of what stands and of what is aimed at: which pieces, how they look, the face of the cut, what is removed.
+import { spoken } from "./close.js";
 import { Shapes } from "./shapes.js";
 import { Eye } from "./eye.js";
 
@@ -47,6 +48,7 @@ export function sceneOf(desk, width, height) {
         shifts: new Map(scene.pieces.map(({ e }) => [e, scene.shapes.middle(e).map(x => x * look.apart)])),
         extra: scene.pieces.length === 0 && live.has(aim.root) ? [aim.root] : [],
         divider: { normal: aim.normal, distance: aim.distance },
+        close: (aim.aiming ? desk.preview : desk.step)?.close ?? [],
     };
 }
 
@@ -56,5 +58,6 @@ export function sceneWords(desk, scene) {
     const pieces = scene.pieces.map(({ e, look }) => `E${e}${look === "inside" || look === "outside" ? ` ${look}` : ""}`);
     const gone = scene.removed.map(({ name }) => `${name} removed`);
     const face = scene.face === null ? "no face of the cut" : `face of the cut E${scene.face}`;
-    return `${dimension} ${dimension === 1 ? "dimension" : "dimensions"}. Pieces: ${pieces.join(", ") || "none"}. ${[face, ...gone].join(", ")}.`;
+    const close = scene.close.length > 0 ? [spoken(scene.close)] : [];
+    return `${dimension} ${dimension === 1 ? "dimension" : "dimensions"}. Pieces: ${pieces.join(", ") || "none"}. ${[face, ...gone, ...close].join(", ")}.`;
 }

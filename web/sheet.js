@@ -2,7 +2,7 @@
 // the engine's; what is printed is this sheet and nothing else.
 import { $, tag } from "./dom.js";
 import { picture } from "./drawing.js";
-import { originOf, promiseOf, tableOf } from "./origin.js";
+import { originOf, promiseOf, tableOf, warningsOf } from "./origin.js";
 import { plain } from "./session.js";
 import { AXES, MANY } from "./words.js";
 
@@ -84,7 +84,7 @@ function sheetOf(desk, pieces) {
         <p>${pieces.length} ${pieces.length === 1 ? "piece" : "pieces"} of ${tableOf(desk)}.
         Three numberings, never one for another: ${tag("v")} a vertex, ${tag("E")} an element, ${tag("h")} a hyperplane.</p></div>
         <dl class="sign"><div><dt>Date</dt><dd></dd></div><div><dt>Signed</dt><dd></dd></div></dl></header>
-        ${promiseOf(desk)}${pieces.map(e => piece(live, step.shapes, e, live.cornerElements(), look, radius)).join("") || "<p>No piece is chosen.</p>"}
+        ${promiseOf(desk)}${warningsOf(desk)}${pieces.map(e => piece(live, step.shapes, e, live.cornerElements(), look, radius)).join("") || "<p>No piece is chosen.</p>"}
         <footer>${originOf(desk)}
         <p>Coordinates are the shortest decimals that read back as the same numbers, to the last bit.</p></footer>`;
 }

@@ -1,5 +1,6 @@
-// A step of a session: a record with its reply and its line, and the table, the shapes and the bench after it.
+// A step of a session: a record with its reply, its close calls and its line, and the table, the shapes and the bench after it.
 import { benchOf } from "./opened.js";
+import { closeCorners } from "./close.js";
 import { removedSides } from "./preview.js";
 import { Shapes } from "./shapes.js";
 
@@ -16,6 +17,7 @@ export function stepOf({ live, aside, step, bench }, { record, reply, line, befo
         bytes: isSame ? step.bytes : live.bytes.slice(),
         shapes: isSame ? step.shapes : new Shapes(live, older),
         bench: record.kind === "open" ? benchOf(live, aside) : bench.after(record, reply, live),
+        close: closeCorners(aside, record, reply),
         removed: removedSides(aside, record, reply),
     };
 }

@@ -11,6 +11,9 @@ const FOUR = "Above: the edges of all pieces, small where they lie far on w. Bel
 let scene = null;
 let room = { width: 0, height: 0 }; // as it was told, for asking the page would lay it out once more in each frame
 
+// what is said of close calls lies above what is drawn flat; in space below it, where they are all in the upper half
+const isHigh = ({ close, eye, table }) => !eye.flat && close.length > 0 && close.every(({ v }) => eye.paper(table.vertex(v)).y < 0);
+
 function draw(desk) {
     const svg = $("drawing");
     const { width, height } = room;
@@ -23,6 +26,7 @@ function draw(desk) {
     scene = sceneOf(desk, width, height);
     svg.setAttribute("viewBox", `${-width / 2} ${-height / 2} ${width} ${height}`);
     svg.innerHTML = drawAll(scene);
+    $("over").classList.toggle("low", isHigh(scene));
 }
 
 function sayPointed(desk) {

@@ -40,6 +40,9 @@ export function short(x, digits = 5) {
     return Math.abs(x) >= 1e-4 || x === 0 ? plain(Number(x.toPrecision(digits))) : x.toExponential(digits - 2);
 }
 
+// vertices by their tags, the first few
+export const cornerNames = some => `${some.slice(0, 4).map(v => `[v${v}]`).join(", ")}${some.length > 4 ? " and more" : ""}`;
+
 export const point = p => `(${p.map(plain).join(", ")})`;
 
 // why a record or a question was refused, with what is wrong in it

@@ -18,7 +18,11 @@
    A divider is a normal and a distance, and the signed distance of a point is normal . point - distance. Inside is below -2^-20,
    outside above 2^-20, between them is on the plane. The normal has components from -1 to 1 whose squares add up to 1, give or
    take 2^-20: 0.7071 twice is not unit, 0.707107 twice is. Past the dimension its components are +0.0, and -0.0 is refused.
-   The distance is from -262,144 to 262,144, or infinite: then the answer is the root itself. Coordinates are from -65,536 to 65,536. */
+   The distance is from -262,144 to 262,144, or infinite: then the answer is the root itself. Coordinates are from -65,536 to 65,536.
+
+   A corner within 2^-16 of the plane, and not on it, is a close call: an edge may vanish there, or be left too short to be seen. Where
+   some corner of the root is one, the cut comes with a warning, and is made all the same. Move the plane, through the corner or farther
+   from it, and make the cut in a copy of the table from before it, for no entry is ever taken out. */
 #ifndef SPOONVELVET_DESK_H
 #define SPOONVELVET_DESK_H
 
@@ -70,6 +74,9 @@ extern "C" {
 /* What stands for "none" in the reply of a cut, and for "no hyperplane" in a row. */
 #define DESK_NONE 0xffff
 
+/* What is set in the reply of a cut that comes with a warning: bit 9. */
+#define DESK_WARNING 0x200
+
 /* The numbers of refusals: DESK_REFUSED_DIMENSION is 1, and so on. */
 #define DESK_REFUSALS(each)                                                                                   \
     each(1, DIMENSION, "the dimension is not 1 to 4")                                                         \
@@ -107,10 +114,11 @@ uint32_t desk_is_sound(DESK_READS);
    2, 8, 26 or 80. */
 uint32_t desk_cube(DESK_WRITES, uint32_t ndim, double radius);
 
-/* Bits 0 to 7 the reply's number; bit 8 set for flush; 16 to 31 inside, 32 to 47 outside, 48 to 63 intersection, DESK_NONE
-   for none; refused or flush, the three are 0. inside and outside: 0 removes that side, any other number keeps it. A removed side
-   is none, and the intersection is there either way. Two exceptions give a side also when it is removed: a root that is a vertex
-   element, and an infinite distance. */
+/* Bits 0 to 7 the reply's number; bit 8 set for flush; bit 9 set for a warning; 16 to 31 inside, 32 to 47 outside, 48 to 63
+   intersection, DESK_NONE for none; refused or flush, the three are 0. A flush answer may come with a warning; at an infinite
+   distance no corner is tested, so there is none, and a refused cut has none. inside and outside: 0 removes that side, any other
+   number keeps it. A removed side is none, and the intersection is there either way. Two exceptions give a side also when it is
+   removed: a root that is a vertex element, and an infinite distance. */
 uint64_t desk_cut(DESK_WRITES, double n0, double n1, double n2, double n3, double distance, uint32_t inside,
                   uint32_t outside, uint32_t root);
 
@@ -151,8 +159,10 @@ static inline const char *desk_words(enum desk_number number) {
     return "no refusal has this number";
 }
 
-/* Of a cut: whether the root lies in the plane, and else the three places, each an element or DESK_NONE. */
+/* Of a cut: whether the root lies in the plane; whether some corner of it was a close call; and, where it is not flush, the three
+   places, each an element or DESK_NONE. */
 static inline int desk_is_flush(uint64_t cut) { return (int)(cut >> 8 & 1); }
+static inline int desk_has_warning(uint64_t cut) { return (cut & DESK_WARNING) != 0; }
 static inline uint16_t desk_inside(uint64_t cut) { return (uint16_t)(cut >> 16); }
 static inline uint16_t desk_outside(uint64_t cut) { return (uint16_t)(cut >> 32); }
 static inline uint16_t desk_intersection(uint64_t cut) { return (uint16_t)(cut >> 48); }

@@ -1,6 +1,6 @@
 //! One call of one entry point, made by the model and by the engine, with the reply as the engine's one number.
 
-use crate::model::cut::{Answer, Kept};
+use crate::model::cut::{Answer, Kept, Output};
 use crate::model::floats::Hyperplane;
 use crate::model::memory::{Lent, Memory};
 use crate::model::{cube, cut, files, questions, Refusal};
@@ -119,7 +119,7 @@ impl Call {
             (0, Call::IsSound) => "sound".into(),
             (0, Call::Cube { .. } | Call::Open { .. }) => "done".into(),
             (0, Call::Save) => "file".into(),
-            (0, Call::Cut { .. }) => answer_outcome(answer(word)),
+            (0, Call::Cut { .. }) => output_outcome(output(word)),
             (0, Call::PrimordialFacet { .. }) => if is_set(word) { "yes" } else { "no" }.into(),
             (0, _) => if word == 0 { "empty list" } else { "list" }.into(),
             (number, _) => format!("refused {number}"),
@@ -132,6 +132,17 @@ impl Call {
             (3, Call::IsSound) => lent.face_of_no_ring(),
             (7, Call::Cut { divider, inside, outside, root }) => {
                 cut::refused_face(lent.table().ok()?, *divider, kept(*inside, *outside), *root)
+            }
+            _ => None,
+        }
+    }
+
+    /// The signed distances that a cut tested, where it was taken at a finite distance.
+    pub fn tested(&self, lent: &Lent, word: u64) -> Option<Vec<f64>> {
+        match (word as u8, self) {
+            (0, Call::Cut { divider, root, .. }) if divider.distance.is_finite() => {
+                let table = lent.table().ok()?;
+                Some(cut::tested(table, divider, table.in_use(*root)?))
             }
             _ => None,
         }
@@ -152,10 +163,10 @@ fn kept(inside: u32, outside: u32) -> Kept {
     Kept { inside: inside != 0, outside: outside != 0 }
 }
 
-fn answer_outcome(answer: Answer) -> String {
-    match answer {
-        Answer::Flush => "flush".into(),
-        Answer::NonFlush { inside, outside, intersection } => {
+fn output_outcome(output: Output) -> String {
+    match output {
+        Output::Flush => "flush".into(),
+        Output::NonFlush { inside, outside, intersection } => {
             let places = [(inside, "inside"), (outside, "outside"), (intersection, "intersection")];
             places.map(|(place, name)| place.map_or("-", |_| name)).join(" ")
         }
@@ -181,13 +192,16 @@ fn facet_word(reply: Result<bool, Refusal>) -> u64 {
     reply.map_or_else(u64::from, |has| u64::from(has) << 8)
 }
 
-/// Bits 0 to 7 the number; bit 8 for flush; from 16, 32 and 48 inside, outside and intersection.
+/// Bits 0 to 7 the number; bit 8 for flush; bit 9 for a warning; from 16, 32 and 48 inside, outside and intersection.
 fn cut_word(reply: Result<Answer, Refusal>) -> u64 {
+    reply.map_or_else(u64::from, |answer| output_word(answer.output) | u64::from(answer.warning) << 9)
+}
+
+fn output_word(output: Output) -> u64 {
     let place = |element: Option<u16>| u64::from(element.unwrap_or(raw::NONE));
-    match reply {
-        Err(refusal) => refusal.into(),
-        Ok(Answer::Flush) => 1 << 8,
-        Ok(Answer::NonFlush { inside, outside, intersection }) => {
+    match output {
+        Output::Flush => 1 << 8,
+        Output::NonFlush { inside, outside, intersection } => {
             place(inside) << 16 | place(outside) << 32 | place(intersection) << 48
         }
     }
@@ -196,15 +210,20 @@ fn cut_word(reply: Result<Answer, Refusal>) -> u64 {
 /// What the number of a cut's reply says.
 pub fn cut_reply(word: u64) -> Result<Answer, Refusal> {
     match word as u8 {
-        0 => Ok(answer(word)),
+        0 => Ok(Answer { output: output(word), warning: is_warning(word) }),
         number => Err(number),
     }
 }
 
-fn answer(word: u64) -> Answer {
+fn output(word: u64) -> Output {
     let place = |shift: u32| Some((word >> shift) as u16).filter(|&element| element != raw::NONE);
     if is_set(word) {
-        return Answer::Flush;
+        return Output::Flush;
     }
-    Answer::NonFlush { inside: place(16), outside: place(32), intersection: place(48) }
+    Output::NonFlush { inside: place(16), outside: place(32), intersection: place(48) }
+}
+
+/// Bit 9 of a cut's reply.
+pub fn is_warning(word: u64) -> bool {
+    word >> 9 & 1 == 1
 }

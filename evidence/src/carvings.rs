@@ -1,7 +1,7 @@
 //! Order 14 on the engine: a slice, and two carvings of the same table, for the inside and then for the outside.
 
 use crate::call::{cut_reply, Call, Room};
-use crate::model::cut::Answer;
+use crate::model::cut::{Answer, Output};
 use crate::model::floats::Hyperplane;
 use crate::model::memory::{Lent, Memory};
 use crate::model::Refusal;
@@ -23,7 +23,7 @@ pub struct Trial<'a> {
 
 /// What they come to, where every line of the statement holds.
 pub enum Outcome {
-    Taken { is_flush: bool, same_numbers: bool, same_orders: bool },
+    Taken { is_flush: bool, has_warning: bool, same_numbers: bool, same_orders: bool },
     Refused(Refusals),
 }
 
@@ -60,8 +60,8 @@ impl<'a> Trial<'a> {
         let f = renumbering::find(old, slice, carved).ok_or("there is a renumbering")?;
         renumbering::check(&f, old, slice, carved)?;
         holds(renumbering::corresponds(&f, answer, answers), "the answers correspond")?;
-        let same_orders = renumbering::keeps_orders(&f, slice);
-        Ok(Outcome::Taken { is_flush: answer == Answer::Flush, same_numbers: f.is_sorted(), same_orders })
+        let (is_flush, same_orders) = (answer.output == Output::Flush, renumbering::keeps_orders(&f, slice));
+        Ok(Outcome::Taken { is_flush, has_warning: answer.warning, same_numbers: f.is_sorted(), same_orders })
     }
 
     /// All four memories, and the replies.

@@ -1,17 +1,21 @@
 //! Random dividers: axis-parallel, oblique, through corners, flush, near the tolerance, and those that are refused.
 
-use crate::model::floats::{Hyperplane, Point, TOLERANCE};
+use crate::model::floats::{Hyperplane, Point, CLOSE, TOLERANCE};
 use crate::model::table::Table;
 use crate::random::Random;
 
-/// Beside a corner or an earlier hyperplane: on, at the tolerance's ends, just past them, well off.
-const NUDGES: [f64; 13] = [
+/// Beside a corner or an earlier hyperplane: on, at the ends of on and of close, just past them, well off.
+const NUDGES: [f64; 17] = [
     0.0,
     0.0,
     TOLERANCE,
     -TOLERANCE,
     TOLERANCE * (1.0 + f64::EPSILON),
     -TOLERANCE * (1.0 + f64::EPSILON),
+    CLOSE,
+    -CLOSE,
+    CLOSE * (1.0 + f64::EPSILON),
+    -CLOSE * (1.0 + f64::EPSILON),
     TOLERANCE / 2.0,
     TOLERANCE * 1.5,
     -TOLERANCE * 2.0,

@@ -4,6 +4,7 @@ pub mod arguments;
 pub mod bytes;
 pub mod call;
 pub mod carvings;
+pub mod close_calls;
 pub mod dividers;
 pub mod files;
 pub mod memories;

@@ -1,7 +1,7 @@
 //! Order 14: a slice and the two carvings leave one table, up to one renumbering of the elements that were appended. It is
 //! found by what the elements are, and checked against each line of its statement, however it was found.
 
-use crate::model::cut::Answer;
+use crate::model::cut::{Answer, Output};
 use crate::model::table::{Element, Polytope, Table};
 use std::collections::HashMap;
 
@@ -64,17 +64,18 @@ fn is_renumbered(f: &[u16], slice: &Element, carved: Option<&Element>) -> bool {
 }
 
 /// Whether the answers of the carvings, for the inside and for the outside, are the slice's, renumbered, without the sides
-/// that were removed.
+/// that were removed, and with its warning.
 pub fn corresponds(f: &[u16], slice: Answer, carved: [Answer; 2]) -> bool {
     let place = |element: Option<u16>| element.map(|e| f[usize::from(e)]);
-    match slice {
-        Answer::Flush => carved == [Answer::Flush; 2],
-        Answer::NonFlush { inside, outside, intersection } => {
+    let outputs = match slice.output {
+        Output::Flush => [Output::Flush; 2],
+        Output::NonFlush { inside, outside, intersection } => {
             let [inside, outside, intersection] = [inside, outside, intersection].map(place);
-            let first = Answer::NonFlush { inside, outside: None, intersection };
-            carved == [first, Answer::NonFlush { inside: None, outside, intersection }]
+            let first = Output::NonFlush { inside, outside: None, intersection };
+            [first, Output::NonFlush { inside: None, outside, intersection }]
         }
-    }
+    };
+    carved == outputs.map(|output| Answer { output, warning: slice.warning })
 }
 
 /// Whether every boundary, renumbered as it stands, rises.

@@ -1,10 +1,11 @@
-//! The marked examples of document 01, on the model alone.
+//! The marked examples of document 01, and the close calls of document 02, order 2, on the model alone.
 
 mod common;
 
-use common::{at_x, cube, parts, BOTH, INSIDE, OUTSIDE};
-use evidence::model::cut::{cut, Answer, Kept};
-use evidence::model::floats::{side, Hyperplane, Side, TOLERANCE};
+use common::{at_x, cube, parts, BOTH, FLUSH, INSIDE, OUTSIDE};
+use evidence::close_calls::{past, place};
+use evidence::model::cut::{cut, Answer, Kept, Output};
+use evidence::model::floats::{is_close_call, side, Hyperplane, Side, CLOSE, TOLERANCE};
 use evidence::model::memory::Lent;
 use evidence::model::questions::{edges_in_order, greatest_common_subelements};
 
@@ -30,7 +31,7 @@ fn m1_to_m4_m7_and_m8() {
 #[test]
 fn m5_and_m6() {
     assert_eq!(counted(cube(2), at_x(0.0), OUTSIDE, 0).0, parts(Some(0), None, None));
-    assert_eq!(counted(cube(2), at_x(1.0), BOTH, 7).0, Answer::Flush);
+    assert_eq!(counted(cube(2), at_x(1.0), BOTH, 7).0, FLUSH);
 }
 
 #[test]
@@ -45,5 +46,27 @@ fn m9_and_m10() {
 #[test]
 fn m11() {
     assert_eq!(side(TOLERANCE), Side::On);
-    assert_eq!(side(f64::from_bits(TOLERANCE.to_bits() + 1)), Side::Outside);
+    assert_eq!(side(past(TOLERANCE)), Side::Outside);
+}
+
+#[test]
+fn close_calls_end_at_t_and_at_16_t() {
+    let ends = [TOLERANCE, past(TOLERANCE), CLOSE, past(CLOSE)];
+    assert_eq!(ends.map(is_close_call), [false, true, true, false]);
+    assert_eq!(ends.map(|s| is_close_call(-s)), [false, true, true, false]);
+    assert_eq!([0.0, f64::NAN, f64::INFINITY, 1.0].map(is_close_call), [false; 4]);
+    assert_eq!(ends.map(place), ["T", "the float past T", "16 T", "the float past 16 T"].map(Some));
+    assert_eq!([-TOLERANCE, -past(CLOSE), 1.0].map(place), [Some("-T"), Some("the float past -16 T"), None]);
+}
+
+#[test]
+fn a_cut_warns_where_a_corner_of_its_root_is_a_close_call() {
+    for nudge in [CLOSE / 2.0, -CLOSE / 2.0] {
+        let past_a_corner = Hyperplane { normal: [0.6, 0.8, 0.0, 0.0], distance: 1.4 + nudge };
+        let warns = |root: &u32| cut(&mut cube(2), past_a_corner, NEITHER, *root).unwrap().warning;
+        assert_eq!((0..9).filter(warns).collect::<Vec<_>>(), [4, 5, 7, 8]);
+    }
+    let tilted = Hyperplane { normal: [1.0, TOLERANCE, TOLERANCE, 0.0], distance: 1.0 - TOLERANCE };
+    assert_eq!(cut(&mut cube(3), tilted, BOTH, 25), Ok(Answer { output: Output::Flush, warning: true }));
+    assert_eq!(cut(&mut cube(3), at_x(1.0), BOTH, 25), Ok(FLUSH));
 }

@@ -3,7 +3,7 @@
 
 mod common;
 
-use common::{at_x, cube, parts, BOTH, INSIDE, OUTSIDE};
+use common::{at_x, cube, parts, BOTH, FLUSH, INSIDE, OUTSIDE};
 use evidence::model::cut::{cut, Answer};
 use evidence::model::memory::Lent;
 use evidence::model::table::Table;
@@ -63,7 +63,7 @@ fn the_answers_correspond() {
     assert_eq!(answer, parts(Some(16), Some(17), Some(15)));
     assert_eq!([first, second], [parts(Some(14), None, Some(13)), parts(None, Some(17), Some(13))]);
     assert!(corresponds(&NUMBERS, answer, [first, second]));
-    assert!(corresponds(&NUMBERS, Answer::Flush, [Answer::Flush; 2]));
+    assert!(corresponds(&NUMBERS, FLUSH, [FLUSH; 2]));
 }
 
 #[test]
@@ -72,8 +72,18 @@ fn answers_swapped_or_not_renumbered_do_not() {
     let same: Vec<u16> = (0..18).collect();
     assert!(!corresponds(&NUMBERS, answer, [second, first]));
     assert!(!corresponds(&same, answer, [first, second]));
-    assert!(!corresponds(&NUMBERS, Answer::Flush, [first, second]));
-    assert!(!corresponds(&NUMBERS, answer, [Answer::Flush; 2]));
+    assert!(!corresponds(&NUMBERS, FLUSH, [first, second]));
+    assert!(!corresponds(&NUMBERS, answer, [FLUSH; 2]));
+}
+
+#[test]
+fn answers_with_other_warnings_do_not() {
+    let Square { answer, answers: [first, second], .. } = square();
+    let warned = |answer: Answer| Answer { warning: true, ..answer };
+    assert!(corresponds(&NUMBERS, warned(answer), [first, second].map(warned)));
+    assert!(!corresponds(&NUMBERS, warned(answer), [first, second]));
+    assert!(!corresponds(&NUMBERS, answer, [warned(first), second]));
+    assert!(!corresponds(&NUMBERS, FLUSH, [FLUSH, warned(FLUSH)]));
 }
 
 #[test]

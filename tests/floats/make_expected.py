@@ -139,6 +139,7 @@ def at_most(x, y):
 
 ONE = rounded(False, Fraction(1))
 TOLERANCE = rounded(False, Fraction(1, 2**20))
+CLOSE_BOUND = rounded(False, Fraction(16, 2**20))
 UNIT_LOW = rounded(False, 1 - Fraction(1, 2**20))
 UNIT_HIGH = rounded(False, 1 + Fraction(1, 2**20))
 FARTHEST_PLANE = rounded(False, Fraction(262144))
@@ -164,6 +165,10 @@ def side_of(s):
     if is_within(TOLERANCE, s):
         return "on"
     return "inside" if less(s, neg(TOLERANCE)) else "outside"
+
+
+def close_call(s):
+    return is_within(CLOSE_BOUND, s) and not is_within(TOLERANCE, s)
 
 
 def is_unit(d, normal):
@@ -234,6 +239,7 @@ NAMED = {
     "ROOT": 0x1E60000000000000,  # 2^-537: its square is TINY
     "ROOT_HALF": 0x1E50000000000000,  # 2^-538: times ROOT it lies halfway from zero to TINY
     "T": 0x3EB0000000000000,  # the tolerance
+    "CLOSE": 0x3EF0000000000000,  # 16 T
     "EDGE": 0x3F50000000000000,  # 2^-10: its square is T
     "EDGE_TIE": 0x3F50000000040000,  # 1 and its square add up to a tie, which goes down to 1 + T
     "EDGE_OVER": 0x3F50000000080000,  # 1 and its square add up to the next float above 1 + T
@@ -297,6 +303,12 @@ T_UP
 NEG_T_DOWN
 NEG_T
 NEG_T_UP
+CLOSE_DOWN
+CLOSE
+CLOSE_UP
+NEG_CLOSE_DOWN
+NEG_CLOSE
+NEG_CLOSE_UP
 UNDER
 ONE_DOWN
 ONE
@@ -401,6 +413,9 @@ NEG_T T_UP
 NEG_T_UP T
 T_UP NEG_T_UP
 NEG_T_UP NAN
+CLOSE NEG_ONE
+ONE NEG_CLOSE
+NEG_CLOSE_UP CLOSE_UP
 NAN NEG_ONE
 NEG_ONE INF
 INF NEG_ONE
@@ -1020,8 +1035,9 @@ def shown_test(answer):
     return "1" if answer else "0"
 
 
-def shown_crossing(t):
-    return "none" if t is None else f"at {shown(t)}"
+def shown_edge(sa, sb):
+    t = crossing(sa, sb)
+    return f"{'none' if t is None else f'at {shown(t)}'} {shown_test(close_call(sa) or close_call(sb))}"
 
 
 def shown_number(k):
@@ -1030,13 +1046,13 @@ def shown_number(k):
 
 def one_line(line):
     (x,) = patterns(line)
-    return f"one {side_of(x)} {distance_kind(x)} {shown_test(same_bits(0, x))}"
+    return f"one {side_of(x)} {shown_test(close_call(x))} {distance_kind(x)} {shown_test(same_bits(0, x))}"
 
 
 def pair_line(line):
     a, b = patterns(line)
     tests = [shown_test(test(a, b)) for test in (is_within, same_bits, coordinates_match)]
-    return f"pair {' '.join(tests)} {shown_crossing(crossing(a, b))}"
+    return f"pair {' '.join(tests)} {shown_edge(a, b)}"
 
 
 def clamp_line(line):
@@ -1053,7 +1069,7 @@ def ends_line(heading, a, b):
 def edge_line(heading, normal, a, b):
     d, distance = patterns(heading)
     sa, sb = (signed_distance(d, patterns(normal), distance, patterns(end)) for end in (a, b))
-    return f"edge {shown(sa)} {shown(sb)} {shown_crossing(crossing(sa, sb))}"
+    return f"edge {shown(sa)} {shown(sb)} {shown_edge(sa, sb)}"
 
 
 def normal_line(heading, normal):

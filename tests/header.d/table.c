@@ -1,4 +1,4 @@
-/* What desk.h says of rows, replies and refusals, by a table of the engine's. Ends with the line that does not hold. */
+/* What desk.h says of rows, replies, warnings and refusals, by a table of the engine's. Ends with the line that does not hold. */
 #include "desk.h"
 #include <math.h>
 #include <stdio.h>
@@ -61,6 +61,32 @@ static int replies(void) {
     HOLDS(desk_inside(at_x(0.0, DESK_KEEP_OUTSIDE, 0)) == 0);
     HOLDS(desk_outside(at_x(-INFINITY, DESK_KEEP_NEITHER, 8)) == 8);
     HOLDS(at_x(1.0 - 0x1p-20, DESK_KEEP_BOTH, 7) == 1 << 8 && !desk_is_flush(at_x(1.0 - 0x1.01p-20, DESK_KEEP_BOTH, 7)));
+    return 0;
+}
+
+/* The corners at x = 0 lie as far from such a plane as it does from 0: 2^-20 and 2^-16, on either side, and the floats past them. */
+static int warnings(void) {
+    HOLDS(desk_number_of(desk_table_cube(&table, 2, 1.0)) == DESK_DONE);
+    uint16_t edge = desk_intersection(at_x(0.0, DESK_KEEP_BOTH, 8));
+    for (int side = -1; side <= 1; side += 2) {
+        HOLDS(at_x(side * 0x1p-20, DESK_KEEP_BOTH, edge) == 1 << 8);
+        uint64_t cut = at_x(side * 0x1.0000000000001p-20, DESK_KEEP_BOTH, edge);
+        HOLDS(desk_has_warning(cut) && !desk_is_flush(cut) && (side < 0 ? desk_outside(cut) : desk_inside(cut)) == edge);
+        HOLDS(at_x(side * 0x1p-16, DESK_KEEP_BOTH, edge) == cut && (cut & DESK_WARNING) == DESK_WARNING);
+        HOLDS(at_x(side * 0x1.0000000000001p-16, DESK_KEEP_BOTH, edge) == (cut & ~(uint64_t)DESK_WARNING));
+    }
+    HOLDS(desk_has_warning(at_x(0x1p-17, DESK_KEEP_NEITHER, 8)) == 0 && desk_has_warning(at_x(1.0 + 0x1p-17, DESK_KEEP_NEITHER, 8)));
+    HOLDS(!desk_has_warning(at_x(INFINITY, DESK_KEEP_BOTH, edge)) && at_x(0x1p-17, DESK_KEEP_BOTH, 9999) == DESK_REFUSED_NOT_IN_USE);
+    return 0;
+}
+
+/* Three corners of a face lie on the plane, and with them two edges; the fourth is 3 * 2^-20 away from it. */
+static int flush_with_a_warning(void) {
+    struct desk_hyperplane tilted = {{1.0, 0x1p-20, 0x1p-20, 0.0}, 1.0 - 0x1p-20};
+    HOLDS(desk_number_of(desk_table_cube(&table, 3, 1.0)) == DESK_DONE);
+    uint64_t cut = desk_table_cut(&table, tilted, DESK_KEEP_BOTH, 25);
+    HOLDS(cut == (1 << 8 | DESK_WARNING) && desk_is_flush(cut) && desk_has_warning(cut));
+    HOLDS(desk_number_of(desk_table_cube(&table, 2, 1.0)) == DESK_DONE);
     return 0;
 }
 
@@ -140,4 +166,6 @@ static int refused_files(void) {
     return 0;
 }
 
-int main(void) { return rows() || replies() || refusals() || numbers() || files() || refused_files(); }
+int main(void) {
+    return rows() || replies() || warnings() || flush_with_a_warning() || refusals() || numbers() || files() || refused_files();
+}

@@ -1,27 +1,14 @@
 """next_day.py [PROGRAM]: the lesson's cuts that go on from a saved table. Each block `opened` of docs/LESSON.md prints the block `prints`
 after it, from the table that the session before it left, saved and opened; and the night adds nothing. PROGRAM is `session` of
 bindings/rust: it prints the same lines, and its files have the same bytes."""
-import importlib.machinery
-import importlib.util
 import pathlib
-import re
 import subprocess
 import sys
 import tempfile
 
-ROOT = pathlib.Path(__file__).resolve().parent.parent.parent
-sys.dont_write_bytecode = True
+from lesson import blocks, record, show
 
-
-def load(name):
-    loader = importlib.machinery.SourceFileLoader(name, str(ROOT / name))
-    module = importlib.util.module_from_spec(importlib.util.spec_from_loader(name, loader))
-    loader.exec_module(module)
-    return module
-
-
-show = load("show")
-Table, record = show.Table, show.record
+Table = show.Table
 
 
 def records(text, opened=None):
@@ -63,7 +50,7 @@ def wrong(evening, cuts, prints, program):
 
 def main():
     program, count, last = (sys.argv + [None])[1], 0, {}
-    for kind, text in re.findall(r"^```(session|opened|prints)\n(.*?)^```$", (ROOT / "docs/LESSON.md").read_text(), re.M | re.S):
+    for kind, text in blocks("session", "opened", "prints"):
         last[kind] = text
         if kind == "prints":
             why = wrong(last["session"], last["opened"], text, program)

@@ -1,9 +1,10 @@
-"""The marked examples of document 01, refusals, the three kinds of numbers, the rows of a table and files, through the Python module."""
+"""Through the Python module: the marked examples of document 01, warnings, refusals, the three kinds of numbers, rows, files."""
 
 import copy
 import doctest
 import itertools
 import math
+import sys
 import unittest
 from fractions import Fraction
 
@@ -92,6 +93,47 @@ class Marked(Case):
     def test_m10(self):
         walk = [(VertexId(a), VertexId(b)) for a, b in [(0, 1), (1, 3), (3, 2), (2, 0)]]
         self.assertEqual(square().edges_in_order(SQUARE), walk)
+
+
+class Warnings(Case):
+    """Document 02, order 2: a corner within 16 T of the plane and not on it, T being 2^-20."""
+
+    T = 2.0**-20
+    CLOSE = 2.0**-16
+
+    def past_a_corner(self, distance):
+        return Hyperplane((0.6, 0.8), 1.4 - distance)
+
+    def test_t_and_16_t_and_the_floats_next_to_them_on_both_sides(self):
+        t = square()
+        edge = t.slice(at_x(0.0), SQUARE).intersection
+        next_float = 1.0 + sys.float_info.epsilon
+        for side, places in ((1.0, (edge, None, None)), (-1.0, (None, edge, None))):
+            self.assertEqual(t.slice(at_x(side * self.T), edge), Flush(warning=False))
+            self.assertEqual(t.slice(at_x(side * self.T * next_float), edge), NonFlush(*places, warning=True))
+            self.assertEqual(t.slice(at_x(side * self.CLOSE), edge), NonFlush(*places, warning=True))
+            self.assertEqual(t.slice(at_x(side * self.CLOSE * next_float), edge), NonFlush(*places, warning=False))
+
+    def test_one_corner_is_enough_and_it_has_to_be_the_root_s(self):
+        for distance in (8 * self.T, -8 * self.T):
+            warned = [n for n in range(9) if square().slice(self.past_a_corner(distance), ElementId(n)).warning]
+            self.assertEqual(warned, [4, 5, 7, 8])
+        self.assertIs(square().slice(self.past_a_corner(0.0), SQUARE).warning, False)
+        self.assertIs(square().slice(self.past_a_corner(32 * self.T), SQUARE).warning, False)
+
+    def test_whichever_sides_are_kept(self):
+        for inside, outside in itertools.product((KEEP, REMOVE), repeat=2):
+            self.assertIs(square().cut(self.past_a_corner(8 * self.T), inside, outside, SQUARE).warning, True)
+
+    def test_a_flush_answer_may_come_with_one(self):
+        cube = Table.with_primordial_cube_radius(3, 1.0)
+        tilted = Hyperplane((1.0, self.T, self.T), 1.0 - self.T)
+        self.assertEqual(cube.slice(tilted, ElementId(25)), Flush(warning=True))
+        self.assertNotEqual(Flush(warning=True), Flush())
+
+    def test_none_at_an_infinite_distance(self):
+        for distance in (math.inf, -math.inf):
+            self.assertIs(square().slice(at_x(distance), SQUARE).warning, False)
 
 
 class Calls(Case):

@@ -4,7 +4,7 @@ import { readFileSync } from "node:fs";
 const TEXTS = {
     paper: ["ink", "soft", "E", "v", "h", "inside", "outside", "face", "bad"], ground: ["ink", "soft"], top: ["top-ink", "top-soft"],
     "top-control": ["top-ink"], parting: ["parting-ink"], new: ["new-ink", "ink", "soft"], "E-pale": ["E", "ink", "soft"], "v-pale": ["v"], "h-pale": ["h"],
-    accent: ["accent-ink"], "bad-pale": ["bad", "ink"], point: ["point-ink"], ink: ["paper"], quiet: ["soft", "ink"],
+    accent: ["accent-ink"], "bad-pale": ["bad", "ink"], "warn-pale": ["warn"], point: ["point-ink"], ink: ["paper"], quiet: ["soft", "ink"],
     inside: ["mark-ink"], outside: ["mark-ink"], face: ["mark-ink"],
 };
 

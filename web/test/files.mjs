@@ -7,6 +7,7 @@ import { bytesOf, lineOf, plain, recordsOf } from "../session.js";
 import { REFUSALS } from "../words.js";
 import { partsOf } from "../lesson.js";
 import { Checks } from "./check.mjs";
+import { checkCalls } from "./close.mjs";
 import { checkColours } from "./colours.mjs";
 import { checkSaved } from "./saved.mjs";
 
@@ -70,11 +71,14 @@ checks.same("greatest common of 65544", table.ask("greatestCommon", [8, 65544]),
 checks.same("greatest common of none", table.ask("greatestCommon", []), { number: 6 });
 checks.same("greatest common of many", table.ask("greatestCommon", Array(2000).fill(8)), { number: 0, list: [8] });
 checks.same("the walk of M10", table.ask("edgesInOrder", 8), { number: 0, list: [0, 1, 1, 3, 3, 2, 2, 0] });
-checks.same("M1", cut({}), { number: 0, flush: false, inside: 16, outside: 17, face: 15 });
+checks.same("M1", cut({}), { number: 0, warning: false, flush: false, inside: 16, outside: 17, face: 15 });
 checks.holds("sound", table.isSound());
 
 // a table's file
 await checkSaved(checks, parts);
+
+// close calls
+await checkCalls(checks);
 
 // a word for each refusal of document 01, and the colours
 checks.same("refusals", Object.keys(REFUSALS).map(Number), [1, 2, 3, 4, 5, 6, 7, 8, 9, 10, 11, 12, 13]);

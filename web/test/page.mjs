@@ -5,6 +5,7 @@ import { join } from "node:path";
 import { browser, serve } from "./browser.mjs";
 import { checkBroken } from "./broken.mjs";
 import { Checks } from "./check.mjs";
+import { checkClose } from "./close.mjs";
 import { checkCuts, checkDimensions, checkHand, checkRefusals } from "./desk.mjs";
 import { Hands } from "./hands.mjs";
 import { checkKeys, checkNames } from "./keys.mjs";
@@ -15,7 +16,7 @@ import { checkSaving } from "./saving.mjs";
 import { checkCutlist, checkSessions, checkSheet } from "./session.mjs";
 
 const PARTS = [checkLesson, checkWords, checkCuts, checkHand, checkDimensions, checkRefusals, checkKeys, checkNames, checkSessions, checkCutlist,
-    checkSheet, checkSaving, checkLooks, checkDrag, checkRandom];
+    checkSheet, checkClose, checkSaving, checkLooks, checkDrag, checkRandom];
 
 const [program, ...parts] = process.argv.slice(2);
 const isAsked = part => parts.length === 0 || parts.includes(part.name);

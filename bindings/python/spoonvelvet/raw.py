@@ -22,6 +22,9 @@ ELEMENTS = ELEMENT_ROOM * ELEMENT_WIDTH
 NONE = 0xFFFF
 """What stands for "none" in the reply of a cut, and for "no hyperplane" in a row."""
 
+WARNING = 0x200
+"""What is set in the reply of a cut that comes with a warning: bit 9."""
+
 LONGEST_LIST = ELEMENT_ROOM
 """A list has at most a number for each element."""
 

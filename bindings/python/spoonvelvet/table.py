@@ -138,20 +138,32 @@ class Table:
 
         >>> square = Table.with_primordial_cube_radius(2, 1.0)
         >>> square.cut(Hyperplane((1, 0), 0), PolytopeFate.REMOVE, PolytopeFate.REMOVE, ElementId(8))
-        NonFlush(inside=None, outside=None, intersection=ElementId(11))
+        NonFlush(inside=None, outside=None, intersection=ElementId(11), warning=False)
+
+        The answer warns of a corner that is close to the plane. Here the outside has four edges, but for a plane a hair from the corner
+        (1, -0.125), which takes one:
+
+        >>> piece = square.carve(Hyperplane((0.6, 0.8), 0.5), ElementId(8)).inside
+        >>> for distance in (0.874999, 0.8749):
+        ...     table = square.copy()
+        ...     answer = table.slice(Hyperplane((0.8, -0.6), distance), piece)
+        ...     print(answer.warning, len(table.boundary_of(answer.outside)))
+        True 3
+        False 4
         """
         _expect(Hyperplane, divider)
         _expect(PolytopeFate, inside)
         _expect(PolytopeFate, outside)
         reply = raw.cut(*self._lent(), *divider.normal, divider.distance, inside.value, outside.value, _root(root))
-        if _done(reply) & 1:
-            return Flush()
+        is_flush, warning = _done(reply) & 1 == 1, reply & raw.WARNING != 0
+        if is_flush:
+            return Flush(warning)
 
         def place(shift: int) -> Optional[ElementId]:
             number = reply >> shift & 0xFFFF
             return None if number == raw.NONE else ElementId(number)
 
-        return NonFlush(inside=place(16), outside=place(32), intersection=place(48))
+        return NonFlush(inside=place(16), outside=place(32), intersection=place(48), warning=warning)
 
     def carve(self, divider: Hyperplane, root: ElementId) -> ElementCutOutput:
         """A cut that keeps what lies inside."""
@@ -162,7 +174,7 @@ class Table:
 
         >>> square = Table.with_primordial_cube_radius(2, 1.0)
         >>> square.slice(Hyperplane((0.6, 0.8), 1.4), ElementId(8))
-        NonFlush(inside=ElementId(8), outside=None, intersection=None)
+        NonFlush(inside=ElementId(8), outside=None, intersection=None, warning=False)
         """
         return self.cut(divider, PolytopeFate.KEEP, PolytopeFate.KEEP, root)
 

@@ -117,12 +117,22 @@ class PolytopeFate(enum.Enum):
 
 
 class ElementCutOutput:
-    """What a cut of an element gives: Flush or NonFlush."""
+    """What a cut of an element gives: Flush or NonFlush, each with a warning.
+
+    A corner within 2^-16 of the plane, and not on it, is a close call: an edge may vanish there, or be left too short to be seen. The
+    warning says that some corner of the root was one, and the cut is made all the same. Then move the plane, through the corner or
+    farther from it, and cut a copy of the table from before, for no entry is ever taken out. At an infinite distance no corner is
+    tested, so there is no warning.
+    """
+
+    warning: bool
 
 
 @dataclass(frozen=True)
 class Flush(ElementCutOutput):
-    """The element lies in the plane. This answer carries nothing."""
+    """The element lies in the plane. This answer carries its warning alone."""
+
+    warning: bool = False
 
 
 @dataclass(frozen=True)
@@ -132,6 +142,7 @@ class NonFlush(ElementCutOutput):
     inside: Optional[ElementId]
     outside: Optional[ElementId]
     intersection: Optional[ElementId]
+    warning: bool = False
 
 
 class Counts(NamedTuple):

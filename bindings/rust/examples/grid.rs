@@ -27,7 +27,7 @@ fn main() -> Result<(), Refused> {
 fn sliced(table: &mut Table, divider: Hyperplane, pieces: &[ElementId]) -> Result<Vec<ElementId>, Refused> {
     let mut sides = vec![];
     for &piece in pieces {
-        match table.slice(divider, piece)? {
+        match table.slice(divider, piece)?.output {
             ElementCutOutput::Flush => {}
             ElementCutOutput::NonFlush { inside, outside, .. } => sides.extend(inside.into_iter().chain(outside)),
         }

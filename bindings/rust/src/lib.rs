@@ -2,8 +2,8 @@
 //!
 //! A [`Table`] is the room of one table. A cut does not make pieces: it adds entries to the table, and a piece that the
 //! plane misses is its old entry. Element, vertex and hyperplane numbers count three lists, so they are three types.
-//! Any number and float may be given; a refused call leaves the table and the list as they came. [`Table::save`] gives a table as
-//! its one file, and [`Table::open`] opens it.
+//! Any number and float may be given; a refused call leaves the table and the list as they came. The answer of a cut warns of a plane
+//! that passes close by a corner ([`CutAnswer`]). [`Table::save`] gives a table as its one file, and [`Table::open`] opens it.
 //!
 //! ```
 //! use spoonvelvet::{ElementCutOutput, ElementId, Hyperplane, Refused, Table};
@@ -11,7 +11,7 @@
 //! let mut table = Table::with_primordial_cube_radius(2, 1.0)?;
 //! let answer = table.slice(Hyperplane::new(&[1.0, 0.0], 0.0)?, table.last_element())?;
 //! let [inside, outside, intersection] = [16, 17, 15].map(|n| Some(ElementId(n)));
-//! assert_eq!(answer, ElementCutOutput::NonFlush { inside, outside, intersection });
+//! assert_eq!(answer.output, ElementCutOutput::NonFlush { inside, outside, intersection });
 //! # Ok::<(), Refused>(())
 //! ```
 
@@ -25,4 +25,4 @@ mod values;
 
 pub use refused::Refused;
 pub use table::Table;
-pub use values::{Counts, ElementCutOutput, ElementId, Hyperplane, HyperplaneId, PolytopeFate, Slices, VertexId};
+pub use values::{Counts, CutAnswer, ElementCutOutput, ElementId, Hyperplane, HyperplaneId, PolytopeFate, Slices, VertexId};

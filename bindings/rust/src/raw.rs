@@ -43,6 +43,9 @@ pub const ELEMENTS: usize = ELEMENT_ROOM * ELEMENT_WIDTH;
 /// What stands for "none" in the reply of a cut, and for "no hyperplane" in a row.
 pub const NONE: u16 = 0xffff;
 
+/// What is set in the reply of a cut that comes with a warning: bit 9.
+pub const WARNING: u64 = 0x200;
+
 /// A list has at most a number for each element.
 pub const LONGEST_LIST: usize = ELEMENT_ROOM;
 

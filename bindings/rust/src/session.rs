@@ -4,7 +4,7 @@ use crate::PolytopeFate::{Keep, Remove};
 use crate::{Counts, ElementCutOutput, ElementId, Hyperplane, Refused, Table};
 
 /// The line of the first record of these bytes, and how many bytes it has; its call is made of the table that stands. None for a
-/// bad record: another mark, too few bytes, a kept side above 3, or a cut where no table stands.
+/// bad record: another mark, too few bytes, a kept side above 3, or a cut where no table stands. A line does not say a warning.
 ///
 /// ```
 /// use spoonvelvet::{session, Refused, Table};
@@ -44,7 +44,7 @@ fn cut(table: &mut Table, bytes: &[u8]) -> Option<(String, usize)> {
     let [inside, outside] = [1, 2].map(|side| if bytes[2] & side == 0 { Remove } else { Keep });
     let root = ElementId(u16::from_le_bytes([bytes[3], bytes[4]]));
     let line = match table.cut(divider, inside, outside, root) {
-        Ok(answer) => format!("{} {}", shown(answer), counts(table)),
+        Ok(answer) => format!("{} {}", shown(answer.output), counts(table)),
         Err(refused) => refused_line(refused),
     };
     Some((line, length))
@@ -61,9 +61,9 @@ fn counts(table: &Table) -> String {
     format!("{elements} {vertices} {hyperplanes}")
 }
 
-fn shown(answer: ElementCutOutput) -> String {
+fn shown(output: ElementCutOutput) -> String {
     let place = |element: Option<ElementId>| element.map_or("-".into(), |e| e.0.to_string());
-    match answer {
+    match output {
         ElementCutOutput::Flush => "flush".into(),
         ElementCutOutput::NonFlush { inside, outside, intersection } => {
             format!("cut {} {} {}", place(inside), place(outside), place(intersection))

@@ -1,7 +1,7 @@
 //! The room of one table, the calls that add entries to it, the questions about it, and its rows as they lie there.
 
 use crate::raw;
-use crate::{Counts, ElementCutOutput, ElementId, Hyperplane, HyperplaneId, PolytopeFate, Refused, Slices, VertexId};
+use crate::{Counts, CutAnswer, ElementCutOutput, ElementId, Hyperplane, HyperplaneId, PolytopeFate, Refused, Slices, VertexId};
 use std::fmt;
 
 /// Dimension and counts, points, hyperplanes, elements. Only the engine writes them, so a table stays sound.
@@ -102,15 +102,15 @@ impl Table {
 
 /// The calls that add entries.
 impl Table {
-    /// The cut of `root` by `divider`; the entries that it needs and that are not there are added. Refuses with 4, 5, 7, 8, 9,
-    /// 10 or 11. With both sides removed the intersection is there all the same:
+    /// The cut of `root` by `divider`; the entries that it needs and that are not there are added. The answer warns of a corner that is
+    /// close to the plane. Refuses with 4, 5, 7, 8, 9, 10 or 11. With both sides removed the intersection is there all the same:
     ///
     /// ```
     /// # use spoonvelvet::{ElementCutOutput, ElementId, Hyperplane, PolytopeFate::Remove, Refused, Table};
     /// let mut square = Table::with_primordial_cube_radius(2, 1.0)?;
     /// let answer = square.cut(Hyperplane::new(&[1.0], 0.0)?, Remove, Remove, ElementId(8))?;
     /// let intersection = Some(ElementId(11));
-    /// assert_eq!(answer, ElementCutOutput::NonFlush { inside: None, outside: None, intersection });
+    /// assert_eq!(answer.output, ElementCutOutput::NonFlush { inside: None, outside: None, intersection });
     /// # Ok::<(), Refused>(())
     /// ```
     pub fn cut(
@@ -119,22 +119,18 @@ impl Table {
         inside: PolytopeFate,
         outside: PolytopeFate,
         root: ElementId,
-    ) -> Result<ElementCutOutput, Refused> {
+    ) -> Result<CutAnswer, Refused> {
         let [inside, outside] = [inside, outside].map(|fate| u32::from(fate == PolytopeFate::Keep));
         let Self { counts, points, planes, elements } = self;
         let word = raw::cut(counts, &mut **points, &mut **planes, &mut **elements, divider, inside, outside, root.0.into());
         if let Some(refused) = refusal(word as u32) {
             return Err(refused);
         }
-        if word >> 8 & 1 == 1 {
-            return Ok(ElementCutOutput::Flush);
-        }
-        let place = |shift: u32| Some((word >> shift) as u16).filter(|&e| e != raw::NONE).map(ElementId);
-        Ok(ElementCutOutput::NonFlush { inside: place(16), outside: place(32), intersection: place(48) })
+        Ok(CutAnswer { output: output(word), warning: word & raw::WARNING != 0 })
     }
 
     /// A cut that keeps what lies inside.
-    pub fn carve(&mut self, divider: Hyperplane, root: ElementId) -> Result<ElementCutOutput, Refused> {
+    pub fn carve(&mut self, divider: Hyperplane, root: ElementId) -> Result<CutAnswer, Refused> {
         self.cut(divider, PolytopeFate::Keep, PolytopeFate::Remove, root)
     }
 
@@ -145,10 +141,10 @@ impl Table {
     /// let mut square = Table::with_primordial_cube_radius(2, 1.0)?;
     /// let answer = square.slice(Hyperplane::new(&[0.6, 0.8], 1.4)?, ElementId(8))?;
     /// let inside = Some(ElementId(8));
-    /// assert_eq!(answer, ElementCutOutput::NonFlush { inside, outside: None, intersection: None });
+    /// assert_eq!(answer.output, ElementCutOutput::NonFlush { inside, outside: None, intersection: None });
     /// # Ok::<(), Refused>(())
     /// ```
-    pub fn slice(&mut self, divider: Hyperplane, root: ElementId) -> Result<ElementCutOutput, Refused> {
+    pub fn slice(&mut self, divider: Hyperplane, root: ElementId) -> Result<CutAnswer, Refused> {
         self.cut(divider, PolytopeFate::Keep, PolytopeFate::Keep, root)
     }
 }
@@ -346,6 +342,15 @@ impl fmt::Debug for Table {
         let mut shown = f.debug_struct("Table");
         shown.field("dimensions", &self.dimensions()).field("counts", &self.counts()).finish_non_exhaustive()
     }
+}
+
+/// What the reply of a cut gives, where it is done.
+fn output(word: u64) -> ElementCutOutput {
+    if word >> 8 & 1 == 1 {
+        return ElementCutOutput::Flush;
+    }
+    let place = |shift: u32| Some((word >> shift) as u16).filter(|&e| e != raw::NONE).map(ElementId);
+    ElementCutOutput::NonFlush { inside: place(16), outside: place(32), intersection: place(48) }
 }
 
 /// Bits 0 to 7 of a reply: 0 is done.

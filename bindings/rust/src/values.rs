@@ -74,7 +74,7 @@ pub enum PolytopeFate {
     Keep,
 }
 
-/// What a cut of an element gives. A side that is removed is none; the intersection is there either way.
+/// What a cut of an element gives, which [`CutAnswer`] has with its warning. A side that is removed is none; the intersection is there either way.
 ///
 /// There are two exceptions, in which a side is given whether it is kept or removed: a root that is a vertex element is given
 /// on its side, and at an infinite distance the root is given as inside (+) or as outside (-).
@@ -91,6 +91,35 @@ pub enum ElementCutOutput {
         /// The face of the cut, where the two sides meet. None where the plane misses the element.
         intersection: Option<ElementId>,
     },
+}
+
+/// What a cut answers: what it gives, and a warning beside it.
+///
+/// A corner within 2^-16 of the plane, and not on it, is a close call: an edge may vanish there, or be left too short to be seen. The cut
+/// is made all the same. With a warning, move the plane, through the corner or farther from it, and cut a clone of the table from before,
+/// for no entry is ever taken out. Here the outside has four edges, but for a plane a hair from the corner, which takes one:
+///
+/// ```
+/// use spoonvelvet::{ElementId, Hyperplane, Refused, Table};
+///
+/// let mut table = Table::with_primordial_cube_radius(2, 1.0)?;
+/// table.carve(Hyperplane::new(&[0.6, 0.8], 0.5)?, ElementId(8))?; // the inside, 14, has a corner at (1, -0.125)
+/// let before = table.clone();
+/// assert!(table.slice(Hyperplane::new(&[0.8, -0.6], 0.874999)?, ElementId(14))?.warning);
+/// assert_eq!(table.boundary_of(ElementId(20))?.len(), 3);
+///
+/// table = before;
+/// assert!(!table.slice(Hyperplane::new(&[0.8, -0.6], 0.8749)?, ElementId(14))?.warning);
+/// assert_eq!(table.boundary_of(ElementId(23))?.len(), 4);
+/// # Ok::<(), Refused>(())
+/// ```
+#[derive(Clone, Copy, Debug, PartialEq, Eq)]
+pub struct CutAnswer {
+    /// What the cut of the root gives.
+    pub output: ElementCutOutput,
+    /// Whether some corner of the root was a close call, also where the root is flush. At an infinite distance no corner is tested, so
+    /// there is none.
+    pub warning: bool,
 }
 
 /// One number for each of the three lists.

@@ -2,7 +2,7 @@
 
 use spoonvelvet::ElementCutOutput::{Flush, NonFlush};
 use spoonvelvet::PolytopeFate::{Keep, Remove};
-use spoonvelvet::{Counts, ElementCutOutput, ElementId, Hyperplane, PolytopeFate, Refused, Table, VertexId};
+use spoonvelvet::{Counts, CutAnswer, ElementId, Hyperplane, PolytopeFate, Refused, Table, VertexId};
 
 fn square() -> Table {
     Table::with_primordial_cube_radius(2, 1.0).unwrap()
@@ -12,12 +12,14 @@ fn at_x(distance: f64) -> Hyperplane {
     Hyperplane { normal: [1.0, 0.0, 0.0, 0.0], distance }
 }
 
-fn parts(inside: Option<u16>, outside: Option<u16>, intersection: Option<u16>) -> ElementCutOutput {
+const FLUSH: CutAnswer = CutAnswer { output: Flush, warning: false };
+
+fn parts(inside: Option<u16>, outside: Option<u16>, intersection: Option<u16>) -> CutAnswer {
     let id = |n: Option<u16>| n.map(ElementId);
-    NonFlush { inside: id(inside), outside: id(outside), intersection: id(intersection) }
+    CutAnswer { output: NonFlush { inside: id(inside), outside: id(outside), intersection: id(intersection) }, warning: false }
 }
 
-fn cut(table: &mut Table, divider: Hyperplane, inside: PolytopeFate, outside: PolytopeFate, root: u16) -> (ElementCutOutput, [u16; 3]) {
+fn cut(table: &mut Table, divider: Hyperplane, inside: PolytopeFate, outside: PolytopeFate, root: u16) -> (CutAnswer, [u16; 3]) {
     let answer = table.cut(divider, inside, outside, ElementId(root)).unwrap();
     let Counts { elements, vertices, hyperplanes } = table.counts();
     (answer, [elements, vertices, hyperplanes])
@@ -42,7 +44,7 @@ fn a_missed_piece_is_its_old_entry() {
 #[test]
 fn vertices_and_edges() {
     assert_eq!(cut(&mut square(), at_x(0.0), Remove, Keep, 0), (parts(Some(0), None, None), [9, 4, 5]));
-    assert_eq!(cut(&mut square(), at_x(1.0), Keep, Keep, 7), (Flush, [9, 4, 5]));
+    assert_eq!(cut(&mut square(), at_x(1.0), Keep, Keep, 7), (FLUSH, [9, 4, 5]));
 }
 
 #[test]

@@ -123,7 +123,7 @@ fn past_the_dimension_only_plus_zero_is_taken() {
     let inside = |divider: Hyperplane| {
         let mut table = square();
         let answer = table.carve(divider, SQUARE).unwrap();
-        let ElementCutOutput::NonFlush { inside: Some(inside), .. } = answer else { panic!("{answer:?}") };
+        let ElementCutOutput::NonFlush { inside: Some(inside), .. } = answer.output else { panic!("{answer:?}") };
         table.vertex_set(inside).unwrap()
     };
     assert_eq!(inside(at_x(0.5)), [0, 2, 4, 5].map(VertexId));
@@ -142,7 +142,7 @@ fn how_exact_a_unit_normal_is() {
 #[test]
 fn the_two_answers_that_give_a_removed_side() {
     let vertex = square().cut(at_x(0.0), Remove, Keep, ElementId(0)).unwrap();
-    assert_eq!(vertex, ElementCutOutput::NonFlush { inside: Some(ElementId(0)), outside: None, intersection: None });
+    assert_eq!(vertex.output, ElementCutOutput::NonFlush { inside: Some(ElementId(0)), outside: None, intersection: None });
     let infinite = square().cut(at_x(f64::NEG_INFINITY), Remove, Remove, SQUARE).unwrap();
-    assert_eq!(infinite, ElementCutOutput::NonFlush { inside: None, outside: Some(SQUARE), intersection: None });
+    assert_eq!(infinite.output, ElementCutOutput::NonFlush { inside: None, outside: Some(SQUARE), intersection: None });
 }

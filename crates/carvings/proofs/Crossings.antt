@@ -11,7 +11,7 @@ use lib.Ieee.{Float}
 use lib.ListN.{length, getD}
 use Rattle.rules.specs.Limits.{Limits}
 use Rattle.rules.specs.Lists.{find}
-use Rattle.rules.specs.Floats.{pointMatches, crossingPoint, edgeTest, signedDistance}
+use Rattle.rules.specs.Floats.{pointMatches, crossingPoint, crossingOf, signedDistance}
 use Rattle.rules.specs.Table.{Element, corner, polytope, Plane, Table, element, elementCount, boundaryOf, pointAt, rankOf, planeOf, isPrimordial, sameElement}
 use Rattle.rules.specs.Sound.{closed}
 use Rattle.rules.specs.Cut.{Outcome, done, refused, Step, next, withPoint, shareElement, addElement, addPolytope, shareVertex, addVertex, Cutting, Gathered, gathering, nothingYet, including}
@@ -19,7 +19,7 @@ use Rattle.rules.specs.Cut.{sideOfCut, rule7, rule6, newIntersection, planeOfIn
 use Rattle.rules.specs.Held.{Begins, Extends}
 use Rattle.rules.specs.declared.Crossing.{Crossing}
 use Rattle.rules.specs.declared.Crossing.the-variants.{None as NoCrossing, At}
-use Rattle.rules.specs.declared.ElementCutOutput.{ElementCutOutput}
+use Rattle.rules.specs.declared.ElementAnswer.{ElementAnswer}
 use Rattle.rules.specs.declared.ElementOrNone.{ElementOrNone}
 use Rattle.rules.proofs.Extends.{Below, begins-refl, begins-trans, below-get, extends-refl, extends-trans, grown-element, grown-point, element-same}
 use Rattle.rules.proofs.Fine.{Fine, point-at-same, boundary-below}
@@ -43,7 +43,7 @@ pointsCrossed p q NoCrossing ps = ps
 pointsCrossed p q (At s) ps = pointsWith (crossingPoint s p q) ps
 
 abbrev pub pointsOfEnds : Plane → List Float → List Float → Points → Points
-pointsOfEnds h p q ps = pointsCrossed p q (edgeTest (signedDistance (h .normal) (h .distance) p) (signedDistance (h .normal) (h .distance) q)) ps
+pointsOfEnds h p q ps = pointsCrossed p q (crossingOf (signedDistance (h .normal) (h .distance) p) (signedDistance (h .normal) (h .distance) q)) ps
 
 abbrev pub pointsOfBoundary : (ℕ → Points → Points) → List ℕ → Points → Points
 pointsOfBoundary F [] ps = ps
@@ -65,7 +65,7 @@ crossed-more p q NoCrossing ps = begins-refl ps
 crossed-more p q (At s) ps = shared-more (crossingPoint s p q) ps (find (λ r. pointMatches r (crossingPoint s p q)) ps)
 
 ends-more : (h : Plane) (p q : List Float) (ps : Points) → Begins ps (pointsOfEnds h p q ps)
-ends-more h p q ps = crossed-more p q (edgeTest (signedDistance (h .normal) (h .distance) p) (signedDistance (h .normal) (h .distance) q)) ps
+ends-more h p q ps = crossed-more p q (crossingOf (signedDistance (h .normal) (h .distance) p) (signedDistance (h .normal) (h .distance) q)) ps
 
 pub boundary-more : (F : ℕ → Points → Points) → ((b : ℕ) (ps : Points) → Begins ps (F b ps)) → (bs : List ℕ) (ps : Points) → Begins ps (pointsOfBoundary F bs ps)
 boundary-more F h [] ps = begins-refl ps
@@ -148,8 +148,8 @@ module _ (L : Limits) where
     rule7-moved : (e : Element) (g : Gathered) (x : ElementOrNone) (t : Table) → Moved stay t (rule7 L c e g x t)
     unfolding rule7
     rule7-moved e g x t =
-        moved-next stay stay t (sideOfCut L (c .keepInside) e x (g .inside) t) _ (side-moved (c .keepInside) e x (g .inside) t) (λ i t₁ x₁.
-        moved-next stay stay t₁ (sideOfCut L (c .keepOutside) e x (g .outside) t₁) _ (side-moved (c .keepOutside) e x (g .outside) t₁) (λ o t₂ x₂. moves-none t₂))
+        moved-next stay stay t (sideOfCut L (c .params .keepInside) e x (g .inside) t) _ (side-moved (c .params .keepInside) e x (g .inside) t) (λ i t₁ x₁.
+        moved-next stay stay t₁ (sideOfCut L (c .params .keepOutside) e x (g .outside) t₁) _ (side-moved (c .params .keepOutside) e x (g .outside) t₁) (λ o t₂ x₂. moves-none t₂))
 
     rule6-moved : (e : Element) (g : Gathered) (fs : List ℕ) (t : Table) → Moved stay t (rule6 L c e g fs t)
     unfolding rule6
@@ -168,32 +168,32 @@ module _ (L : Limits) where
 
     module _ (T : Table) (fine : Fine T) where
       edge-moved : (y : Element) → zero < elementCount T → Below (elementCount T) (boundaryOf y) → (t : Table) → Extends T t
-          → Moved (pointsOfEnds (c .divider) (pointAt T (getD (boundaryOf y) 0 0)) (pointAt T (getD (boundaryOf y) 1 0))) t (cutEdge L c y t)
+          → Moved (pointsOfEnds (c .params .divider) (pointAt T (getD (boundaryOf y) 0 0)) (pointAt T (getD (boundaryOf y) 1 0))) t (cutEdge L c y t)
       unfolding cutEdge cutEnds
       edge-moved y z h t x =
           let a = getD (boundaryOf y) 0 0 in
           let b = getD (boundaryOf y) 1 0 in
           let pa : pointAt t a ≡ pointAt T a = point-at-same T t a fine x (below-get (elementCount T) (boundaryOf y) 0 z h) in
           let pb : pointAt t b ≡ pointAt T b = point-at-same T t b fine x (below-get (elementCount T) (boundaryOf y) 1 z h) in
-          moved-as (pointsOfEnds (c .divider) (pointAt t a) (pointAt t b)) (pointsOfEnds (c .divider) (pointAt T a) (pointAt T b)) t (cutEdge L c y t)
-          (ap₂ (λ (p q : List Float). pointsOfEnds (c .divider) p q (t .points)) pa pb)
-          (moved-next (pointsOfEnds (c .divider) (pointAt t a) (pointAt t b)) stay t (cutEnds L c a b (pointAt t a) (pointAt t b) t) _
-          (cross-moved (pointAt t a) (pointAt t b) (edgeTest (distanceOf c (pointAt t a)) (distanceOf c (pointAt t b))) _ t) (λ g s w. rule6-moved y g (g .flush) s))
+          moved-as (pointsOfEnds (c .params .divider) (pointAt t a) (pointAt t b)) (pointsOfEnds (c .params .divider) (pointAt T a) (pointAt T b)) t (cutEdge L c y t)
+          (ap₂ (λ (p q : List Float). pointsOfEnds (c .params .divider) p q (t .points)) pa pb)
+          (moved-next (pointsOfEnds (c .params .divider) (pointAt t a) (pointAt t b)) stay t (cutEnds L c a b (pointAt t a) (pointAt t b) t) _
+          (cross-moved (pointAt t a) (pointAt t b) (crossingOf (distanceOf c (pointAt t a)) (distanceOf c (pointAt t b))) _ t) (λ g s w. rule6-moved y g (g .flush) s))
 
-      boundary-moved : (ask : ℕ → Step ElementCutOutput) (F : ℕ → Points → Points) → ((b : ℕ) → b < elementCount T → (t : Table) → Extends T t → Moved (F b) t (ask b t))
+      boundary-moved : (ask : ℕ → Step ElementAnswer) (F : ℕ → Points → Points) → ((b : ℕ) → b < elementCount T → (t : Table) → Extends T t → Moved (F b) t (ask b t))
           → (bs : List ℕ) → Below (elementCount T) bs → (g : Gathered) (t : Table) → Extends T t → Moved (pointsOfBoundary F bs) t (cutBoundary ask bs g t)
       boundary-moved ask F h [] l g t x = moves-none t
       boundary-moved ask F h (b ∷ bs) l g t x =
           moved-next (F b) (pointsOfBoundary F bs) t (ask b t) _ (h b (l .0) t x) (λ a s y. boundary-moved ask F h bs (l .1) (gathering b a g) s (extends-trans x y))
 
-      pub element-moved : (r e : ℕ) → e < elementCount T → (t : Table) → Extends T t → Moved (pointsOfElement T (c .divider) r e) t (cutElement L c r e t)
+      pub element-moved : (r e : ℕ) → e < elementCount T → (t : Table) → Extends T t → Moved (pointsOfElement T (c .params .divider) r e) t (cutElement L c r e t)
       unfolding cutElement cutCorner cutHigher pointsOfElement
       element-moved zero e l t x = moves-none t
       element-moved (suc zero) e l t x =
-          subst (λ (y : Element). Moved (pointsOfElement T (c .divider) 1 e) t (cutEdge L c y t)) (sym (element-same T t e x l))
+          subst (λ (y : Element). Moved (pointsOfElement T (c .params .divider) 1 e) t (cutEdge L c y t)) (sym (element-same T t e x l))
           (edge-moved (element T e) (le-trans (suc-le-suc zero-le) l) (boundary-below T e fine l) t x)
       element-moved (suc (suc r)) e l t x =
-          subst (λ (y : Element). Moved (pointsOfElement T (c .divider) (suc (suc r)) e) t (cutHigher L c (cutElement L c (suc r)) y t)) (sym (element-same T t e x l))
-          (moved-next (pointsOfElement T (c .divider) (suc (suc r)) e) stay t (cutBoundary (cutElement L c (suc r)) (boundaryOf (element T e)) nothingYet t) _
-          (boundary-moved (cutElement L c (suc r)) (pointsOfElement T (c .divider) (suc r)) (element-moved (suc r)) (boundaryOf (element T e)) (boundary-below T e fine l) nothingYet t x)
+          subst (λ (y : Element). Moved (pointsOfElement T (c .params .divider) (suc (suc r)) e) t (cutHigher L c (cutElement L c (suc r)) y t)) (sym (element-same T t e x l))
+          (moved-next (pointsOfElement T (c .params .divider) (suc (suc r)) e) stay t (cutBoundary (cutElement L c (suc r)) (boundaryOf (element T e)) nothingYet t) _
+          (boundary-moved (cutElement L c (suc r)) (pointsOfElement T (c .params .divider) (suc r)) (element-moved (suc r)) (boundaryOf (element T e)) (boundary-below T e fine l) nothingYet t x)
           (λ g s w. rule6-moved (element T e) g (g .flush) s))

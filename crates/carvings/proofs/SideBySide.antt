@@ -1,15 +1,16 @@
 -- Values of three runs side by side: of a cut on a table t that stands in B by f, and of the carvings for the inside and for the outside on B.
 -- The values on B are those of t, renumbered; a side that t's cut does not keep may differ.
 use Prim.Native.Nat.{ℕ, _<_, _≤_}
-use mathlib.Core.Bool.{Bool, true, false}
+use mathlib.Core.Bool.{Bool, true, false, _||_}
 use mathlib.Core.List.{List, [], _∷_, map}
 use mathlib.Core.Path.{_≡_, refl, ap, ap₂, sym, _∙_, subst}
 use native.Mathlib.Nat.{le-trans}
 use Rattle.rules.specs.Lists.{rises, withMember}
-use Rattle.rules.specs.Cut.{Gathered, gathering, nothingYet, including, given, cornerAnswer}
+use Rattle.rules.specs.Cut.{Gathered, gathering, gatheringOutput, nothingYet, including, given, cornerOutput}
 use Rattle.carvings.specs.Renumbered.{image, renumberedPlace}
 use Rattle.rules.specs.declared.ElementCutOutput.{ElementCutOutput}
 use Rattle.rules.specs.declared.ElementCutOutput.the-variants.{Flush, NonFlush}
+use Rattle.rules.specs.declared.ElementAnswer.{ElementAnswer}
 use Rattle.rules.specs.declared.ElementOrNone.{ElementOrNone}
 use Rattle.rules.specs.declared.ElementOrNone.the-variants.{None, Some}
 use Rattle.rules.specs.declared.Side.{Side}
@@ -85,8 +86,8 @@ NoOutside Flush = Unit {0}
 NoOutside (NonFlush i o x) = o ≡ None
 
 -- and a removed side is none
-abbrev pub AnswerIs : Bool → Bool → (ℕ → ℕ) → ℕ → ElementCutOutput → ElementCutOutput → ElementCutOutput → Type 0
-AnswerIs kI kO f n a b₁ b₂ = OutputIs kI kO f n a b₁ b₂ × NoOutside b₁ × NoInside b₂
+abbrev pub AnswerIs : Bool → Bool → (ℕ → ℕ) → ℕ → ElementAnswer → ElementAnswer → ElementAnswer → Type 0
+AnswerIs kI kO f n a b₁ b₂ = OutputIs kI kO f n (a .output) (b₁ .output) (b₂ .output) × NoOutside (b₁ .output) × NoInside (b₂ .output)
 
 module _ (kI kO : Bool) (f : ℕ → ℕ) (n : ℕ) where
   pub gathered-start : GatheredIs kI kO f n nothingYet nothingYet nothingYet
@@ -99,9 +100,9 @@ module _ (kI kO : Bool) (f : ℕ → ℕ) (n : ℕ) where
   both-kept true h a c = h a c
   both-kept false h a c = tt
 
-  pub gathered-more : (b : ℕ) → b < n → f b ≡ b → (a b₁ b₂ : ElementCutOutput) → OutputIs kI kO f n a b₁ b₂ → (g g₁ g₂ : Gathered) → GatheredIs kI kO f n g g₁ g₂
-      → GatheredIs kI kO f n (gathering b a g) (gathering b b₁ g₁) (gathering b b₂ g₂)
-  gathered-more b l q Flush Flush Flush h g g₁ g₂ k = record {
+  output-more : (b : ℕ) → b < n → f b ≡ b → (a b₁ b₂ : ElementCutOutput) → OutputIs kI kO f n a b₁ b₂ → (v v₁ v₂ : Bool) (g g₁ g₂ : Gathered) → GatheredIs kI kO f n g g₁ g₂
+      → GatheredIs kI kO f n (gatheringOutput b a v g) (gatheringOutput b b₁ v₁ g₁) (gatheringOutput b b₂ v₂ g₂)
+  output-more b l q Flush Flush Flush h v v₁ v₂ g g₁ g₂ k = record {
     under = (l, k .under);
     flush₁ = ap₂ (λ (x : ℕ) (xs : List ℕ). x ∷ xs) (sym q) (k .flush₁);
     flush₂ = ap₂ (λ (x : ℕ) (xs : List ℕ). x ∷ xs) (sym q) (k .flush₂);
@@ -110,11 +111,11 @@ module _ (kI kO : Bool) (f : ℕ → ℕ) (n : ℕ) where
     across₁ = k .across₁;
     across₂ = k .across₂;
   }
-  gathered-more b l q Flush Flush (NonFlush i₂ o₂ x₂) h g g₁ g₂ k = absurd h
-  gathered-more b l q Flush (NonFlush i₁ o₁ x₁) b₂ h g g₁ g₂ k = absurd h
-  gathered-more b l q (NonFlush i o x) Flush b₂ h g g₁ g₂ k = absurd h
-  gathered-more b l q (NonFlush i o x) (NonFlush i₁ o₁ x₁) Flush h g g₁ g₂ k = absurd h
-  gathered-more b l q (NonFlush i o x) (NonFlush i₁ o₁ x₁) (NonFlush i₂ o₂ x₂) h g g₁ g₂ k = record {
+  output-more b l q Flush Flush (NonFlush i₂ o₂ x₂) h v v₁ v₂ g g₁ g₂ k = absurd h
+  output-more b l q Flush (NonFlush i₁ o₁ x₁) b₂ h v v₁ v₂ g g₁ g₂ k = absurd h
+  output-more b l q (NonFlush i o x) Flush b₂ h v v₁ v₂ g g₁ g₂ k = absurd h
+  output-more b l q (NonFlush i o x) (NonFlush i₁ o₁ x₁) Flush h v v₁ v₂ g g₁ g₂ k = absurd h
+  output-more b l q (NonFlush i o x) (NonFlush i₁ o₁ x₁) (NonFlush i₂ o₂ x₂) h v v₁ v₂ g g₁ g₂ k = record {
     under = k .under;
     flush₁ = k .flush₁;
     flush₂ = k .flush₂;
@@ -124,8 +125,14 @@ module _ (kI kO : Bool) (f : ℕ → ℕ) (n : ℕ) where
     across₂ = set-including f n x x₂ (g .intersections) (g₂ .intersections) (h .3) (k .across₂);
   }
 
+  -- whatever the warnings
+  pub gathered-more : (b : ℕ) → b < n → f b ≡ b → (a b₁ b₂ : ElementAnswer) → OutputIs kI kO f n (a .output) (b₁ .output) (b₂ .output) → (g g₁ g₂ : Gathered)
+      → GatheredIs kI kO f n g g₁ g₂ → GatheredIs kI kO f n (gathering b a g) (gathering b b₁ g₁) (gathering b b₂ g₂)
+  gathered-more b l q a b₁ b₂ h g g₁ g₂ k =
+      output-more b l q (a .output) (b₁ .output) (b₂ .output) h (g .warning || a .warning) (g₁ .warning || b₁ .warning) (g₂ .warning || b₂ .warning) g g₁ g₂ k
+
   -- an old corner
-  pub corner-is : (b : ℕ) → b < n → f b ≡ b → (s : Side) → OutputIs kI kO f n (cornerAnswer b s) (cornerAnswer b s) (cornerAnswer b s)
+  pub corner-is : (b : ℕ) → b < n → f b ≡ b → (s : Side) → OutputIs kI kO f n (cornerOutput b s) (cornerOutput b s) (cornerOutput b s)
   corner-is b l q Inside = (kept kI (l, ap given (sym q)), kept kO (tt, refl), (tt, refl), (tt, refl))
   corner-is b l q On = tt
   corner-is b l q Outside = (kept kI (tt, refl), kept kO (l, ap given (sym q)), (tt, refl), (tt, refl))

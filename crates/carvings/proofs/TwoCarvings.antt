@@ -10,12 +10,13 @@ use lib.Ieee.{Float, fin, inf, nan}
 use lib.ListN.{length}
 use Rattle.rules.specs.Limits.{Limits}
 use Rattle.rules.specs.Table.{Plane, Table, elementCount, rank}
-use Rattle.rules.specs.Cut.{Outcome, done, next, Cutting, addPlane, cutElement, cutFinite, cutAtDistance, cut}
+use Rattle.rules.specs.Cut.{Outcome, done, next, keeping, Cutting, addPlane, cutElement, cutFinite, cutAtDistance, cut}
 use Rattle.carvings.specs.Promises.{Sliceable, SliceIsTwoCarvings, SliceTakenAsCarvings}
-use Rattle.rules.specs.Held.{Begins, Extends, OutputOf}
-use Rattle.carvings.specs.Renumbered.{Renumbering, Corresponds}
+use Rattle.rules.specs.Held.{Begins, Extends, AnswerOf}
+use Rattle.carvings.specs.Renumbered.{Renumbering, Corresponds, AnswersCorrespond}
 use Rattle.rules.specs.declared.ElementCutOutput.{ElementCutOutput}
 use Rattle.rules.specs.declared.ElementCutOutput.the-variants.{Flush, NonFlush}
+use Rattle.rules.specs.declared.ElementAnswer.{ElementAnswer}
 use Rattle.rules.proofs.Apart.{distinct-apart}
 use Rattle.rules.proofs.Calls.{not-infinite, one-more}
 use Rattle.carvings.proofs.Contains.{Went}
@@ -25,20 +26,22 @@ use Rattle.carvings.proofs.Crossings.{Points, pointsOfElement, Moved, M
 use Rattle.carvings.proofs.EachInOther.{renumbering}
 use Rattle.carvings.proofs.Embeds.{done-value, done-table, Embeds, Grown, embeds-start}
 use Rattle.rules.proofs.Extends.{begins-length, count-more, extends-refl, extends-trans, rank-same}
-use Rattle.rules.proofs.Fewer.{Dropped, lessOutput, lessCutting}
-use Rattle.rules.proofs.Fine.{Fine, OutputIn}
+use Rattle.rules.proofs.Fewer.{Dropped, lessAnswer, lessCutting}
+use Rattle.rules.proofs.Fine.{Fine, AnswerIn}
 use Rattle.rules.proofs.Good.{Good, sound-good}
 use Rattle.rules.proofs.Later.{Later, Replays, Anything, same}
 use Rattle.rules.proofs.LaterAppends.{add-plane}
 use Rattle.carvings.proofs.LeftAsIs.{next-done}
 use Rattle.rules.proofs.Missed.{Unmoved, plane-unmoved}
 use Rattle.rules.proofs.Repeat.{NotInfinite, cut-any, cut-element}
-use Rattle.carvings.proofs.SideBySide.{AnswerIs}
+use Rattle.carvings.proofs.SideBySide.{OutputIs, NoInside, NoOutside, AnswerIs}
 use Rattle.rules.proofs.Stays.{Stays, Kept, plane-stays}
+use Rattle.rules.proofs.CloseBelow.{closeBelow}
 use Rattle.rules.proofs.StaysCut.{element-stays}
+use Rattle.rules.proofs.Warned.{Done, Warns, warned}
 
 -- what stands beside the slice's answer, as the promise says it
-corresponds : (f : ℕ → ℕ) (n : ℕ) (a b₁ b₂ : ElementCutOutput) → AnswerIs true true f n a b₁ b₂ → Corresponds f a b₁ b₂
+corresponds : (f : ℕ → ℕ) (n : ℕ) (a b₁ b₂ : ElementCutOutput) → OutputIs true true f n a b₁ b₂ × NoOutside b₁ × NoInside b₂ → Corresponds f a b₁ b₂
 corresponds f n Flush Flush Flush h = (refl, refl)
 corresponds f n Flush Flush (NonFlush i₂ o₂ x₂) h = absurd (h .0)
 corresponds f n Flush (NonFlush i₁ o₁ x₁) b₂ h = absurd (h .0)
@@ -61,9 +64,9 @@ begins-equal xs ys e = ([], e ∙ sym (append-nil xs))
 
 module _ (L : Limits) (h : Plane) (num : ℕ) (root r : ℕ) where
   abbrev keep : Bool → Bool → Cutting
-  keep i o = record { divider = h; number = num; keepInside = i; keepOutside = o }
+  keep i o = record { params = keeping h i o; number = num }
 
-  abbrev rootCut : Bool → Bool → Table → Outcome ElementCutOutput
+  abbrev rootCut : Bool → Bool → Table → Outcome ElementAnswer
   rootCut i o t = cutElement L (keep i o) (suc r) root t
 
   -- a table on which the root can be cut
@@ -73,11 +76,11 @@ module _ (L : Limits) (h : Plane) (num : ℕ) (root r : ℕ) where
     used : root < elementCount t
     ranked : rank t root ≡ suc r
 
-  cut-extends : (i o : Bool) (t : Table) → Ready t → (a : ElementCutOutput) (u : Table) → rootCut i o t ≡ done a u → Kept L (OutputOf (suc r)) t a u
-  cut-extends i o t y a u e = subst (Stays L (OutputOf (suc r)) t) e (element-stays L (keep i o) r root t (y .good) (y .planes) (y .used) (y .ranked))
+  cut-extends : (i o : Bool) (t : Table) → Ready t → (a : ElementAnswer) (u : Table) → rootCut i o t ≡ done a u → Kept L (AnswerOf (suc r)) t a u
+  cut-extends i o t y a u e = subst (Stays L (AnswerOf (suc r)) t) e (element-stays L (keep i o) r root t (y .good) (y .planes) (y .used) (y .ranked))
 
   -- it still can be, after an unrefused cut of it
-  ready : (i o : Bool) (t : Table) → Ready t → (a : ElementCutOutput) (u : Table) → rootCut i o t ≡ done a u → Ready u
+  ready : (i o : Bool) (t : Table) → Ready t → (a : ElementAnswer) (u : Table) → rootCut i o t ≡ done a u → Ready u
   ready i o t y a u e =
       let s = cut-extends i o t y a u e in
       record {
@@ -95,45 +98,49 @@ module _ (L : Limits) (h : Plane) (num : ℕ) (root r : ℕ) where
     abbrev path : Points → Points
     path = pointsOfElement T h (suc r) root
 
-    moves : (i o : Bool) (t : Table) → Extends T t → (b : ElementCutOutput) (u : Table) → rootCut i o t ≡ done b u → Moves path t u
+    moves : (i o : Bool) (t : Table) → Extends T t → (b : ElementAnswer) (u : Table) → rootCut i o t ≡ done b u → Moves path t u
     moves i o t x b u e = subst (Moved path t) e (element-moved L (keep i o) T fine (suc r) root (y .used) t x)
+
+    -- and the warning
+    warning : (i o : Bool) (t : Table) → Extends T t → (b : ElementAnswer) (u : Table) → rootCut i o t ≡ done b u → b .warning ≡ closeBelow h T (suc r) root
+    warning i o t x b u e = subst (Done (Warns (closeBelow h T (suc r) root))) e (warned L (keep i o) T (y .good) (suc r) root (y .used) (y .ranked) t x)
 
     -- ---- from the slice to the carvings: they leave its table as it is, for they are the slice for fewer sides
 
-    module _ (a : ElementCutOutput) (S : Table) (slice : rootCut true true T ≡ done a S) where
+    module _ (a : ElementAnswer) (S : Table) (slice : rootCut true true T ≡ done a S) where
       to-S : Extends T S
       to-S = cut-extends true true T y a S slice .extends
 
       good-S : Good L S
       good-S = cut-extends true true T y a S slice .good
 
-      carved : (d : Dropped) → cutElement L (lessCutting d (keep true true)) (suc r) root S ≡ done (lessOutput d a) S
+      carved : (d : Dropped) → cutElement L (lessCutting d (keep true true)) (suc r) root S ≡ done (lessAnswer d a) S
       carved d =
-          let p : Replays (lessOutput d) OutputIn T (cutElement L (lessCutting d (keep true true)) (suc r) root) a S =
-          subst (Later (lessOutput d) OutputIn T (cutElement L (lessCutting d (keep true true)) (suc r) root)) slice (cut-element L (keep true true) d r root T fine (y .used)) in
+          let p : Replays (lessAnswer d) AnswerIn T (cutElement L (lessCutting d (keep true true)) (suc r) root) a S =
+          subst (Later (lessAnswer d) AnswerIn T (cutElement L (lessCutting d (keep true true)) (suc r) root)) slice (cut-element L (keep true true) d r root T fine (y .used)) in
           p .replay S (extends-refl S)
 
       S-points : S .points ≡ path (T .points)
       S-points = moves true true T (extends-refl T) a S slice .points
 
       S-again : S .points ≡ path (S .points)
-      S-again = moves false true S to-S (lessOutput outside-only a) S (carved outside-only) .points
+      S-again = moves false true S to-S (lessAnswer outside-only a) S (carved outside-only) .points
 
       -- a carving of a table that stands in S
       carving : (i o : Bool) (t : Table) (f : ℕ → ℕ) → Embeds T S t f → Begins (path (t .points)) (S .points)
-          → Went L T S fine good-S to-S (path (t .points)) t f (rootCut i o t) (λ b u g. AnswerIs i o g (elementCount u) b (lessOutput inside-only a) (lessOutput outside-only a))
+          → Went L T S fine good-S to-S (path (t .points)) t f (rootCut i o t) (λ b u g. AnswerIs i o g (elementCount u) b (lessAnswer inside-only a) (lessAnswer outside-only a))
       carving i o t f em p =
-          element-sim L T S fine good-S to-S h num i o r root (y .used) t f em (lessOutput inside-only a) (lessOutput outside-only a) (carved inside-only) (carved outside-only) p
+          element-sim L T S fine good-S to-S h num i o r root (y .used) t f em (lessAnswer inside-only a) (lessAnswer outside-only a) (carved inside-only) (carved outside-only) p
 
       first-carving : Went L T S fine good-S to-S (path (T .points)) T (λ x. x) (rootCut true false T)
-          (λ b u g. AnswerIs true false g (elementCount u) b (lessOutput inside-only a) (lessOutput outside-only a))
+          (λ b u g. AnswerIs true false g (elementCount u) b (lessAnswer inside-only a) (lessAnswer outside-only a))
       first-carving = carving true false T (λ x. x) (embeds-start L T S (y .good) to-S) (begins-equal (path (T .points)) (S .points) S-points)
 
       first-points : first-carving .after .points ≡ S .points
       first-points = first-carving .points ∙ sym S-points
 
       second-carving : Went L T S fine good-S to-S (path (first-carving .after .points)) (first-carving .after) (first-carving .grown .map) (rootCut false true (first-carving .after))
-          (λ b u g. AnswerIs false true g (elementCount u) b (lessOutput inside-only a) (lessOutput outside-only a))
+          (λ b u g. AnswerIs false true g (elementCount u) b (lessAnswer inside-only a) (lessAnswer outside-only a))
       second-carving =
           carving false true (first-carving .after) (first-carving .grown .map) (first-carving .grown .embeds)
           (begins-equal (path (first-carving .after .points)) (S .points) (S-again ∙ ap path (sym first-points)))
@@ -143,7 +150,7 @@ module _ (L : Limits) (h : Plane) (num : ℕ) (root r : ℕ) where
 
     -- ---- from the carvings to the slice: they leave the second one's table as it is, for they are made again
 
-    module _ (a₁ a₂ : ElementCutOutput) (U W : Table) (first : rootCut true false T ≡ done a₁ U) (second : rootCut false true U ≡ done a₂ W) where
+    module _ (a₁ a₂ : ElementAnswer) (U W : Table) (first : rootCut true false T ≡ done a₁ U) (second : rootCut false true U ≡ done a₂ W) where
       ready-U : Ready U
       ready-U = ready true false T y a₁ U first
 
@@ -161,14 +168,14 @@ module _ (L : Limits) (h : Plane) (num : ℕ) (root r : ℕ) where
 
       W-inside : rootCut true false W ≡ done a₁ W
       W-inside =
-          let p : Replays same OutputIn T (cutElement L (keep true false) (suc r) root) a₁ U =
-          subst (Later same OutputIn T (cutElement L (keep true false) (suc r) root)) first (cut-any L (keep true false) (suc r) root T fine (y .used)) in
+          let p : Replays same AnswerIn T (cutElement L (keep true false) (suc r) root) a₁ U =
+          subst (Later same AnswerIn T (cutElement L (keep true false) (suc r) root)) first (cut-any L (keep true false) (suc r) root T fine (y .used)) in
           p .replay W U-to-W
 
       W-outside : rootCut false true W ≡ done a₂ W
       W-outside =
-          let p : Replays same OutputIn U (cutElement L (keep false true) (suc r) root) a₂ W =
-          subst (Later same OutputIn U (cutElement L (keep false true) (suc r) root)) second (cut-any L (keep false true) (suc r) root U (good-fine L U (ready-U .good)) (ready-U .used)) in
+          let p : Replays same AnswerIn U (cutElement L (keep false true) (suc r) root) a₂ W =
+          subst (Later same AnswerIn U (cutElement L (keep false true) (suc r) root)) second (cut-any L (keep false true) (suc r) root U (good-fine L U (ready-U .good)) (ready-U .used)) in
           p .replay W (extends-refl W)
 
       the-slice : Went L T W fine good-W to-W (path (T .points)) T (λ x. x) (rootCut true true T) (λ b u g. AnswerIs true true g (elementCount u) b a₁ a₂)
@@ -178,12 +185,12 @@ module _ (L : Limits) (h : Plane) (num : ℕ) (root r : ℕ) where
 
       -- ---- each table stands in the other
 
-      module _ (a : ElementCutOutput) (S : Table) (slice : rootCut true true T ≡ done a S) where
+      module _ (a : ElementAnswer) (S : Table) (slice : rootCut true true T ≡ done a S) where
         S-in-W : Grown T W T (λ x. x) S (λ g. AnswerIs true true g (elementCount S) a a₁ a₂)
         S-in-W =
             let q = sym (the-slice .runs) ∙ slice in
             subst (λ (u : Table). Grown T W T (λ x. x) u (λ g. AnswerIs true true g (elementCount u) a a₁ a₂)) (done-table q)
-            (subst (λ (b : ElementCutOutput). Grown T W T (λ x. x) (the-slice .after) (λ g. AnswerIs true true g (elementCount (the-slice .after)) b a₁ a₂)) (done-value q) (the-slice .grown))
+            (subst (λ (b : ElementAnswer). Grown T W T (λ x. x) (the-slice .after) (λ g. AnswerIs true true g (elementCount (the-slice .after)) b a₁ a₂)) (done-value q) (the-slice .grown))
 
         one : first-carving a S slice .after ≡ U
         one = done-table (sym (first-carving a S slice .runs) ∙ first)
@@ -200,20 +207,24 @@ module _ (L : Limits) (h : Plane) (num : ℕ) (root r : ℕ) where
         W-planes : W .planes ≡ S .planes
         W-planes = moves false true U to-U a₂ W second .planes ∙ moves true false T (extends-refl T) a₁ U first .planes ∙ sym (moves true true T (extends-refl T) a S slice .planes)
 
-        after-plane : (f : ℕ → ℕ) × Renumbering (elementCount T) S W f × Corresponds f a a₁ a₂
+        after-plane : (f : ℕ → ℕ) × Renumbering (elementCount T) S W f × AnswersCorrespond f a a₁ a₂
         after-plane = (
           S-in-W .map,
           renumbering T S W (S-in-W .map) (second-carving a S slice .grown .map) (distinct-apart S (good-S a S slice .apart)) (distinct-apart W (good-W .apart)) (S-in-W .embeds) W-in-S W-points W-planes,
-          corresponds (S-in-W .map) (elementCount S) a a₁ a₂ (S-in-W .value),
+          record {
+            outputs = corresponds (S-in-W .map) (elementCount S) (a .output) (a₁ .output) (a₂ .output) (S-in-W .value);
+            inside-warning = warning true false T (extends-refl T) a₁ U first ∙ sym (warning true true T (extends-refl T) a S slice);
+            outside-warning = warning false true U to-U a₂ W second ∙ sym (warning true true T (extends-refl T) a S slice);
+          },
         )
 
 -- ---- the promise, at tables
 
-cut-finite : (L : Limits) (h : Plane) (i o : Bool) (root : ℕ) (t : Table) → NotInfinite (h .distance) → cut L h i o root t ≡ cutFinite L h i o root t
+cut-finite : (L : Limits) (h : Plane) (i o : Bool) (root : ℕ) (t : Table) → NotInfinite (h .distance) → cut L (keeping h i o) root t ≡ cutFinite L (keeping h i o) root t
 unfolding cut
 cut-finite L h i o root t z = at (h .distance) z
   where
-    at : (d : Float) → NotInfinite d → cutAtDistance L h d i o root t ≡ cutFinite L h i o root t
+    at : (d : Float) → NotInfinite d → cutAtDistance L (keeping h i o) d root t ≡ cutFinite L (keeping h i o) root t
     at (inf b) z = absurd z
     at nan z = refl
     at (fin s m e) z = refl
@@ -226,8 +237,8 @@ module _ (L : Limits) (h : Plane) (root : ℕ) (t : Table) (can : Sliceable L h 
   z = not-infinite (h .distance) (can .finite)
 
   -- the cut of the root on the table that rule 2 leaves
-  abbrev cutOn : Bool → Bool → ℕ → Table → Outcome ElementCutOutput
-  cutOn i o num = λ s. cutElement L (record { divider = h; number = num; keepInside = i; keepOutside = o }) (rank s root) root s
+  abbrev cutOn : Bool → Bool → ℕ → Table → Outcome ElementAnswer
+  cutOn i o num = λ s. cutElement L (record { params = keeping h i o; number = num }) (rank s root) root s
 
   abbrev r : ℕ
   r = one-more (rank t root) (can .no-corner) .0
@@ -251,15 +262,15 @@ module _ (L : Limits) (h : Plane) (root : ℕ) (t : Table) (can : Sliceable L h 
         let p : Replays same Anything t (addPlane L h) num T = subst (Later same Anything t (addPlane L h)) ruled (add-plane L h t (good-fine L t good-t)) in p .replay
 
     -- so a cut is that of the root
-    as-root : (i o : Bool) (s l : Table) → addPlane L h s ≡ done num l → rank l root ≡ suc r → cut L h i o root s ≡ rootCut L h num root r i o l
+    as-root : (i o : Bool) (s l : Table) → addPlane L h s ≡ done num l → rank l root ≡ suc r → cut L (keeping h i o) root s ≡ rootCut L h num root r i o l
     as-root i o s l q k =
         cut-finite L h i o root s z ∙ ap (λ (p : Outcome ℕ). next p (cutOn i o)) q
-        ∙ ap (λ (n : ℕ). cutElement L (record { divider = h; number = num; keepInside = i; keepOutside = o }) n root l) k
+        ∙ ap (λ (n : ℕ). cutElement L (record { params = keeping h i o; number = num }) n root l) k
 
-    on-t : (i o : Bool) → cut L h i o root t ≡ rootCut L h num root r i o T
+    on-t : (i o : Bool) → cut L (keeping h i o) root t ≡ rootCut L h num root r i o T
     on-t i o = as-root i o t T ruled (on-T .ranked)
 
-    on-later : (i o : Bool) (a : ElementCutOutput) (u : Table) → rootCut L h num root r i o T ≡ done a u → (i′ o′ : Bool) → cut L h i′ o′ root u ≡ rootCut L h num root r i′ o′ u
+    on-later : (i o : Bool) (a : ElementAnswer) (u : Table) → rootCut L h num root r i o T ≡ done a u → (i′ o′ : Bool) → cut L (keeping h i′ o′) root u ≡ rootCut L h num root r i′ o′ u
     on-later i o a u e i′ o′ =
         as-root i′ o′ u u (again u (cut-extends L h num root r i o T on-T a u e .extends)) (ready L h num root r i o T on-T a u e .ranked)
 
@@ -267,47 +278,47 @@ module _ (L : Limits) (h : Plane) (root : ℕ) (t : Table) (can : Sliceable L h 
     old-count = ap length (subst (Unmoved t) ruled (plane-unmoved L h t) .0)
 
   -- an unrefused cut is past rule 2
-  ruled-by : (i o : Bool) (a : ElementCutOutput) (u : Table) → cut L h i o root t ≡ done a u → (n : ℕ) × (T : Table) × (addPlane L h t ≡ done n T)
+  ruled-by : (i o : Bool) (a : ElementAnswer) (u : Table) → cut L (keeping h i o) root t ≡ done a u → (n : ℕ) × (T : Table) × (addPlane L h t ≡ done n T)
   ruled-by i o a u e = let w = next-done (addPlane L h t) (cutOn i o) a u (sym (cut-finite L h i o root t z) ∙ e) in (w .0, w .1, w .2)
 
-  to-carvings : (a : ElementCutOutput) (slice : Table) → cut L h true true root t ≡ done a slice
-      → (a₁ : ElementCutOutput) × (first : Table) × (a₂ : ElementCutOutput) × (second : Table)
-      × (cut L h true false root t ≡ done a₁ first) × (cut L h false true root first ≡ done a₂ second)
+  to-carvings : (a : ElementAnswer) (slice : Table) → cut L (keeping h true true) root t ≡ done a slice
+      → (a₁ : ElementAnswer) × (first : Table) × (a₂ : ElementAnswer) × (second : Table)
+      × (cut L (keeping h true false) root t ≡ done a₁ first) × (cut L (keeping h false true) root first ≡ done a₂ second)
   to-carvings a S e = go (ruled-by true true a S e)
     where
       go : (n : ℕ) × (T : Table) × (addPlane L h t ≡ done n T)
-          → (a₁ : ElementCutOutput) × (first : Table) × (a₂ : ElementCutOutput) × (second : Table)
-          × (cut L h true false root t ≡ done a₁ first) × (cut L h false true root first ≡ done a₂ second)
+          → (a₁ : ElementAnswer) × (first : Table) × (a₂ : ElementAnswer) × (second : Table)
+          × (cut L (keeping h true false) root t ≡ done a₁ first) × (cut L (keeping h false true) root first ≡ done a₂ second)
       go (n, T, q) =
           let slice = sym (on-t n T q true true) ∙ e in
           let f = first-carving L h n root r T (on-T n T q) a S slice in
           let s = second-carving L h n root r T (on-T n T q) a S slice in
           (f .value, f .after, s .value, s .after, on-t n T q true false ∙ f .runs, on-later n T q true false (f .value) (f .after) (f .runs) false true ∙ s .runs)
 
-  to-slice : (a₁ a₂ : ElementCutOutput) (first second : Table) → cut L h true false root t ≡ done a₁ first → cut L h false true root first ≡ done a₂ second
-      → (a : ElementCutOutput) × (slice : Table) × (cut L h true true root t ≡ done a slice)
+  to-slice : (a₁ a₂ : ElementAnswer) (first second : Table) → cut L (keeping h true false) root t ≡ done a₁ first → cut L (keeping h false true) root first ≡ done a₂ second
+      → (a : ElementAnswer) × (slice : Table) × (cut L (keeping h true true) root t ≡ done a slice)
   to-slice a₁ a₂ U W e₁ e₂ = go (ruled-by true false a₁ U e₁)
     where
-      sliced : (n : ℕ) (T : Table) (q : addPlane L h t ≡ done n T) (a : ElementCutOutput) (S : Table) → rootCut L h n root r true true T ≡ done a S
-          → (a : ElementCutOutput) × (slice : Table) × (cut L h true true root t ≡ done a slice)
+      sliced : (n : ℕ) (T : Table) (q : addPlane L h t ≡ done n T) (a : ElementAnswer) (S : Table) → rootCut L h n root r true true T ≡ done a S
+          → (a : ElementAnswer) × (slice : Table) × (cut L (keeping h true true) root t ≡ done a slice)
       sliced n T q a S e = (a, S, on-t n T q true true ∙ e)
 
-      go : (n : ℕ) × (T : Table) × (addPlane L h t ≡ done n T) → (a : ElementCutOutput) × (slice : Table) × (cut L h true true root t ≡ done a slice)
+      go : (n : ℕ) × (T : Table) × (addPlane L h t ≡ done n T) → (a : ElementAnswer) × (slice : Table) × (cut L (keeping h true true) root t ≡ done a slice)
       go (n, T, q) =
           let first = sym (on-t n T q true false) ∙ e₁ in
           let second = sym (on-later n T q true false a₁ U first false true) ∙ e₂ in
           let s = the-slice L h n root r T (on-T n T q) a₁ a₂ U W first second in
           sliced n T q (s .value) (s .after) (s .runs)
 
-  renumbers : (a a₁ a₂ : ElementCutOutput) (S U W : Table) → cut L h true true root t ≡ done a S → cut L h true false root t ≡ done a₁ U → cut L h false true root U ≡ done a₂ W
-      → (f : ℕ → ℕ) × Renumbering (elementCount t) S W f × Corresponds f a a₁ a₂
+  renumbers : (a a₁ a₂ : ElementAnswer) (S U W : Table) → cut L (keeping h true true) root t ≡ done a S → cut L (keeping h true false) root t ≡ done a₁ U → cut L (keeping h false true) root U ≡ done a₂ W
+      → (f : ℕ → ℕ) × Renumbering (elementCount t) S W f × AnswersCorrespond f a a₁ a₂
   renumbers a a₁ a₂ S U W e e₁ e₂ = go (ruled-by true true a S e)
     where
-      go : (n : ℕ) × (T : Table) × (addPlane L h t ≡ done n T) → (f : ℕ → ℕ) × Renumbering (elementCount t) S W f × Corresponds f a a₁ a₂
+      go : (n : ℕ) × (T : Table) × (addPlane L h t ≡ done n T) → (f : ℕ → ℕ) × Renumbering (elementCount t) S W f × AnswersCorrespond f a a₁ a₂
       go (n, T, q) =
           let first = sym (on-t n T q true false) ∙ e₁ in
           let second = sym (on-later n T q true false a₁ U first false true) ∙ e₂ in
-          subst (λ (m : ℕ). (f : ℕ → ℕ) × Renumbering m S W f × Corresponds f a a₁ a₂) (old-count n T q)
+          subst (λ (m : ℕ). (f : ℕ → ℕ) × Renumbering m S W f × AnswersCorrespond f a a₁ a₂) (old-count n T q)
           (after-plane L h n root r T (on-T n T q) a₁ a₂ U W first second a S (sym (on-t n T q true true) ∙ e))
 
 pub slice-is-two-carvings : (L : Limits) → SliceIsTwoCarvings L

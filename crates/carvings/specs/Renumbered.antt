@@ -10,6 +10,7 @@ use Rattle.rules.specs.declared.ElementOrNone.{ElementOrNone}
 use Rattle.rules.specs.declared.ElementOrNone.the-variants.{None, Some}
 use Rattle.rules.specs.declared.ElementCutOutput.{ElementCutOutput}
 use Rattle.rules.specs.declared.ElementCutOutput.the-variants.{Flush, NonFlush}
+use Rattle.rules.specs.declared.ElementAnswer.{ElementAnswer}
 
 -- the new numbers of a set, as a set: each member renumbered, and all of them put in rising order again
 abbrev pub image : (ElementNumber → ElementNumber) → List ElementNumber → List ElementNumber
@@ -45,9 +46,15 @@ pub record Renumbering (old : ℕ) (t u : Table) (f : ElementNumber → ElementN
   pub onto : (x : ElementNumber) → x < elementCount u → (e : ElementNumber) × (e < elementCount t) × (f e ≡ x)
   pub elements : (e : ElementNumber) → e < elementCount t → element u (f e) ≡ renumbered f (element t e)
 
--- the slice's answer, and those of the carvings for the inside and for the outside: Flush all three; or the inside of the first carving, the outside of the second
+-- the slice's output, and those of the carvings for the inside and for the outside: Flush all three; or the inside of the first carving, the outside of the second
 -- and the intersection of both are the slice's, renumbered, and the removed sides are none
 abbrev pub Corresponds : (ElementNumber → ElementNumber) → ElementCutOutput → ElementCutOutput → ElementCutOutput → Type 0
 Corresponds f Flush a b = (a ≡ Flush) × (b ≡ Flush)
 Corresponds f (NonFlush i o x) a b =
     (a ≡ NonFlush (renumberedPlace f i) None (renumberedPlace f x)) × (b ≡ NonFlush None (renumberedPlace f o) (renumberedPlace f x))
+
+-- and the three have one warning
+pub record AnswersCorrespond (f : ElementNumber → ElementNumber) (slice inside outside : ElementAnswer) : Type 0 where
+  pub outputs : Corresponds f (slice .output) (inside .output) (outside .output)
+  pub inside-warning : inside .warning ≡ slice .warning
+  pub outside-warning : outside .warning ≡ slice .warning

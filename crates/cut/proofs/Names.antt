@@ -8,7 +8,7 @@ use Rattle.rules.specs.Limits.{desk}
 use Rattle.rules.specs.Memory.{Memory, decode}
 use Rattle.rules.specs.Replies.{cutReply}
 use Rattle.rules.specs.Promises.{OneBelow, NamesBelow}
-use Rattle.rules.specs.declared.Hyperplane.{Hyperplane}
+use Rattle.rules.specs.declared.CutParams.{CutParams}
 use Rattle.rules.specs.declared.ElementOrNone.{ElementOrNone}
 use Rattle.rules.specs.declared.ElementOrNone.the-variants.{None, Some}
 use Rattle.rules.specs.declared.ElementCutOutput.{ElementCutOutput}
@@ -28,15 +28,15 @@ names-below : (n m : ℕ) (a : ElementCutOutput) → n ≤ m → NamesBelow n a 
 names-below n m Flush l h = tt
 names-below n m (NonFlush i o x) l h = (one-below n m i l (h .0), one-below n m o l (h .1), one-below n m x l (h .2))
 
-module _ (h : Hyperplane) (i o : Bool) (root : ℕ) (m m′ : Memory) {r : CutReply} (e : (r, m′) ≡ cutReply desk h i o root m) (a : ElementCutOutput) (q : r ≡ Answered a) where
-  answered : cutReply desk h i o root m ≡ (Answered a, m′)
+module _ (p : CutParams) (root : ℕ) (m m′ : Memory) {r : CutReply} (e : (r, m′) ≡ cutReply desk p root m) (a : ElementCutOutput) (w : Bool) (q : r ≡ Answered a w) where
+  answered : cutReply desk p root m ≡ (Answered a w, m′)
   answered = sym e ∙ (λ j. (q j, m′))
 
   after : Slices (m′ .counts) (m′ .points) (m′ .planes) (m′ .elements) (decode desk m′)
-  after = slices (memory-holds desk readable-desk m′ (memory-sound desk readable-desk h i o root m a m′ answered))
+  after = slices (memory-holds desk readable-desk m′ (memory-sound desk readable-desk p root m (record { output = a; warning = w }) m′ answered))
 
   pub four-counts : length (m′ .counts) ≡ 4
   four-counts = after .counts
 
   pub names-low : NamesBelow 512 a
-  names-low = names-below (getD (m′ .counts) 1 0) 512 a (after .elementsFit) (names-in-use desk readable-desk h i o root m a m′ answered)
+  names-low = names-below (getD (m′ .counts) 1 0) 512 a (after .elementsFit) (names-in-use desk readable-desk p root m (record { output = a; warning = w }) m′ answered)

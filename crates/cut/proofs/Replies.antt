@@ -13,15 +13,16 @@ use lib.Ieee.{Float, nan, inf, fin}
 use Rattle.rules.specs.Limits.{desk}
 use Rattle.rules.specs.Lists.{if_then_else_, all}
 use Rattle.rules.specs.Floats.{plusZero, sameBits, within, farthestPlane, unit}
-use Rattle.rules.specs.Table.{Plane, Table, elementCount}
+use Rattle.rules.specs.Table.{Table, elementCount}
 use Rattle.rules.specs.Sound.{soundPlane}
 use Rattle.rules.specs.Memory.{Memory, decode, soundMemory, planeRow}
 use Rattle.rules.specs.Held.{Holds, memoryOf}
-use Rattle.rules.specs.Cut.{cut, cutAtDistance, cutFinite, given}
-use Rattle.rules.specs.Replies.{distanceFits, dividerFits, dividerOf, written, cutReply}
+use Rattle.rules.specs.Cut.{Params, cut, cutAtDistance, cutFinite, given}
+use Rattle.rules.specs.Replies.{distanceFits, dividerFits, dividerOf, paramsOf, written, cutReply}
 use Rattle.rules.specs.declared.Hyperplane.{Hyperplane}
 use Rattle.rules.specs.declared.ElementCutOutput.the-variants.{NonFlush}
 use Rattle.rules.specs.declared.ElementOrNone.the-variants.{None}
+use Rattle.rules.specs.declared.CutParams.{CutParams}
 use Rattle.rules.specs.declared.CutReply.{CutReply}
 use Rattle.rules.specs.declared.CutReply.the-variants as reply
 use Rattle.rules.proofs.Good.{sound-good}
@@ -146,42 +147,45 @@ divider-is d h long u k p q =
 -- ---- the reply
 
 -- what a cut replies by the three tests
-abbrev replyBy : Hyperplane → Bool → Bool → ℕ → Memory → Bool → Bool → Bool → CutReply × Memory
-replyBy h i o root m a b c =
+abbrev replyBy : CutParams → ℕ → Memory → Bool → Bool → Bool → CutReply × Memory
+replyBy p root m a b c =
     if not a then (reply.Refused 3, m)
     else if not b then (reply.Refused 4, m)
-    else if not c then (reply.Refused 5, m) else written desk m (cut desk (dividerOf (decode desk m .dimension) h) i o root (decode desk m))
+    else if not c then (reply.Refused 5, m) else written desk m (cut desk (paramsOf (decode desk m .dimension) p) root (decode desk m))
 
-module _ (h : Hyperplane) (i o : Bool) (root : ℕ) (cs : List ℕ) (ps hs : List Float) (es : List ℕ) where
+module _ (p : CutParams) (root : ℕ) (cs : List ℕ) (ps hs : List Float) (es : List ℕ) where
   abbrev m : Memory
   m = memoryOf cs ps hs es
 
   abbrev t : Table
   t = decode desk m
 
-  by-tests : (a b c : Bool) → soundMemory desk m ≡ a → ltb root (elementCount t) ≡ b → dividerFits desk (t .dimension) h ≡ c → replyBy h i o root m a b c ≡ cutReply desk h i o root m
+  by-tests : (a b c : Bool) → soundMemory desk m ≡ a → ltb root (elementCount t) ≡ b → dividerFits desk (t .dimension) (p .divider) ≡ c → replyBy p root m a b c ≡ cutReply desk p root m
   unfolding cutReply
-  by-tests a b c p q r l = replyBy h i o root m (sym p l) (sym q l) (sym r l)
+  by-tests a b c q₁ q₂ q₃ l = replyBy p root m (sym q₁ l) (sym q₂ l) (sym q₃ l)
 
-  pub unsound : soundMemory desk m ≡ false → (reply.Refused 3, m) ≡ cutReply desk h i o root m
+  pub unsound : soundMemory desk m ≡ false → (reply.Refused 3, m) ≡ cutReply desk p root m
   unsound q = by-tests false _ _ q refl refl
 
   module _ (sound : soundMemory desk m ≡ true) where
-    pub unused : getD cs 1 0 ≤ root → (reply.Refused 4, m) ≡ cutReply desk h i o root m
+    pub unused : getD cs 1 0 ≤ root → (reply.Refused 4, m) ≡ cutReply desk p root m
     unused l = by-tests true false _ sound (le-ltb root (elementCount t) (le-trans (le-of-eq (sym (slices (held cs ps hs es sound) .elementCount))) l)) refl
 
-    pub not-unit : length (h .normal) ≡ 4 → root < getD cs 1 0 → unitNormal (getD cs 0 0) (h .normal) ≡ false → (reply.Refused 5, m) ≡ cutReply desk h i o root m
+    pub not-unit : length (p .divider .normal) ≡ 4 → root < getD cs 1 0 → unitNormal (getD cs 0 0) (p .divider .normal) ≡ false → (reply.Refused 5, m) ≡ cutReply desk p root m
     not-unit long l q =
         let same : getD cs 0 0 ≡ t .dimension = slices (held cs ps hs es sound) .dimension in
         by-tests true true false sound (lt-ltb root (elementCount t) (in-use cs ps hs es sound l))
-        (divider-is (t .dimension) h long false _ (ap (λ (x : ℕ). unitNormal x (h .normal)) (sym same) ∙ q) refl)
+        (divider-is (t .dimension) (p .divider) long false _ (ap (λ (x : ℕ). unitNormal x (p .divider .normal)) (sym same) ∙ q) refl)
 
-module _ {h : Hyperplane} {root : ℕ} {cs : List ℕ} {ps hs : List Float} {es : List ℕ} (P : TestsPassed h root cs ps hs es) where
+module _ (p : CutParams) {root : ℕ} {cs : List ℕ} {ps hs : List Float} {es : List ℕ} (P : TestsPassed (p .divider) root cs ps hs es) where
+  abbrev h : Hyperplane
+  h = p .divider
+
   abbrev table : Table
   table = tableOf cs ps hs es
 
-  abbrev plane : Plane
-  plane = dividerOf (table .dimension) h
+  abbrev params : Params
+  params = paramsOf (table .dimension) p
 
   holds : Holds desk cs ps hs es table
   holds = held cs ps hs es (P .sound)
@@ -193,33 +197,33 @@ module _ {h : Hyperplane} {root : ℕ} {cs : List ℕ} {ps hs : List Float} {es 
   unit-now = ap (λ (x : ℕ). unitNormal x (h .normal)) (sym (slices holds .dimension)) ∙ P .isUnit
 
   -- by the kind of the distance
-  by-kind : (i o : Bool) (k : DistanceKind) → distanceKind (h .distance) ≡ k
-      → replyBy h i o root (memoryOf cs ps hs es) true true (fit k) ≡ cutReply desk h i o root (memoryOf cs ps hs es)
-  by-kind i o k z =
-      by-tests h i o root cs ps hs es true true (fit k) (P .sound) (lt-ltb root (elementCount table) used-now) (divider-is (table .dimension) h (P .long) true k unit-now z)
+  by-kind : (k : DistanceKind) → distanceKind (h .distance) ≡ k
+      → replyBy p root (memoryOf cs ps hs es) true true (fit k) ≡ cutReply desk p root (memoryOf cs ps hs es)
+  by-kind k z =
+      by-tests p root cs ps hs es true true (fit k) (P .sound) (lt-ltb root (elementCount table) used-now) (divider-is (table .dimension) h (P .long) true k unit-now z)
 
-  pub unfit : (i o : Bool) → distanceKind (h .distance) ≡ Unfit → (reply.Refused 5, memoryOf cs ps hs es) ≡ cutReply desk h i o root (memoryOf cs ps hs es)
-  unfit i o z = by-kind i o Unfit z
+  pub unfit : distanceKind (h .distance) ≡ Unfit → (reply.Refused 5, memoryOf cs ps hs es) ≡ cutReply desk p root (memoryOf cs ps hs es)
+  unfit z = by-kind Unfit z
 
-  goes : (i o : Bool) → fit (distanceKind (h .distance)) ≡ true
-      → written desk (memoryOf cs ps hs es) (cutAtDistance desk plane (h .distance) i o root table) ≡ cutReply desk h i o root (memoryOf cs ps hs es)
+  goes : fit (distanceKind (h .distance)) ≡ true
+      → written desk (memoryOf cs ps hs es) (cutAtDistance desk params (h .distance) root table) ≡ cutReply desk p root (memoryOf cs ps hs es)
   unfolding cut
-  goes i o z = ap (replyBy h i o root (memoryOf cs ps hs es) true true) (sym z) ∙ by-kind i o _ refl
+  goes z = ap (replyBy p root (memoryOf cs ps hs es) true true) (sym z) ∙ by-kind _ refl
 
   -- rule 1
-  infinite : (i o : Bool) (x : Float) → h .distance ≡ x → fit (distanceKind (h .distance)) ≡ true
-      → written desk (memoryOf cs ps hs es) (cutAtDistance desk plane x i o root table) ≡ cutReply desk h i o root (memoryOf cs ps hs es)
-  infinite i o x e z = ap (λ (x : Float). written desk (memoryOf cs ps hs es) (cutAtDistance desk plane x i o root table)) (sym e) ∙ goes i o z
+  infinite : (x : Float) → h .distance ≡ x → fit (distanceKind (h .distance)) ≡ true
+      → written desk (memoryOf cs ps hs es) (cutAtDistance desk params x root table) ≡ cutReply desk p root (memoryOf cs ps hs es)
+  infinite x e z = ap (λ (x : Float). written desk (memoryOf cs ps hs es) (cutAtDistance desk params x root table)) (sym e) ∙ goes z
 
-  pub all-inside : (i o : Bool) → distanceKind (h .distance) ≡ PlusInfinity
-      → (reply.Answered (NonFlush (given root) None None), memoryOf cs ps hs es) ≡ cutReply desk h i o root (memoryOf cs ps hs es)
-  all-inside i o z =
-      (λ j. (reply.Answered (NonFlush (given root) None None), holds-memory desk readable-desk holds j)) ∙ infinite i o (inf false) (plus-is (h .distance) z) (ap fit z)
+  pub all-inside : {r : CutReply} → distanceKind (h .distance) ≡ PlusInfinity → r ≡ reply.Answered (NonFlush (given root) None None) false
+      → (r, memoryOf cs ps hs es) ≡ cutReply desk p root (memoryOf cs ps hs es)
+  all-inside z told =
+      (λ j. (told j, holds-memory desk readable-desk holds j)) ∙ infinite (inf false) (plus-is (h .distance) z) (ap fit z)
 
-  pub all-outside : (i o : Bool) → distanceKind (h .distance) ≡ MinusInfinity
-      → (reply.Answered (NonFlush None (given root) None), memoryOf cs ps hs es) ≡ cutReply desk h i o root (memoryOf cs ps hs es)
-  all-outside i o z =
-      (λ j. (reply.Answered (NonFlush None (given root) None), holds-memory desk readable-desk holds j)) ∙ infinite i o (inf true) (minus-is (h .distance) z) (ap fit z)
+  pub all-outside : {r : CutReply} → distanceKind (h .distance) ≡ MinusInfinity → r ≡ reply.Answered (NonFlush None (given root) None) false
+      → (r, memoryOf cs ps hs es) ≡ cutReply desk p root (memoryOf cs ps hs es)
+  all-outside z told =
+      (λ j. (told j, holds-memory desk readable-desk holds j)) ∙ infinite (inf true) (minus-is (h .distance) z) (ap fit z)
 
   -- the rules from 2 on
   module _ (z : distanceKind (h .distance) ≡ Finite) where
@@ -243,16 +247,13 @@ module _ {h : Hyperplane} {root : ℕ} {cs : List ℕ} {ps hs : List Float} {es 
     pub cut-ready : {ix : List ℕ} → Indexed es (getD cs 1 0) ix → CutReady cs ps hs es ix h root
     cut-ready X = record { table = table; fit = cut-fit; indexed = X }
 
-    by-finite : (i o : Bool) (x : Float) → distanceKind x ≡ Finite → cutFinite desk plane i o root table ≡ cutAtDistance desk plane x i o root table
+    by-finite : (x : Float) → distanceKind x ≡ Finite → cutFinite desk params root table ≡ cutAtDistance desk params x root table
     unfolding distanceKind
-    by-finite i o nan w = refl
-    by-finite i o (inf false) w = absurd (let e = ap code w in let y : ⊥ = omega (arith, e) in y)
-    by-finite i o (inf true) w = absurd (let e = ap code w in let y : ⊥ = omega (arith, e) in y)
-    by-finite i o (fin s a b) w = refl
+    by-finite nan w = refl
+    by-finite (inf false) w = absurd (let e = ap code w in let y : ⊥ = omega (arith, e) in y)
+    by-finite (inf true) w = absurd (let e = ap code w in let y : ⊥ = omega (arith, e) in y)
+    by-finite (fin s a b) w = refl
 
-    -- with the sides as their fates tell
-    pub replied : {i o a b : Bool} → a ≡ i → b ≡ o → {r : CutReply} {cs′ : List ℕ} {ps′ hs′ : List Float} {es′ : List ℕ} → WholeCut cs ps hs es h a b root r cs′ ps′ hs′ es′
-        → (r, memoryOf cs′ ps′ hs′ es′) ≡ cutReply desk h i o root (memoryOf cs ps hs es)
-    replied {a = a} {b} ea eb W =
-        W .of table cut-fit ∙ ap (written desk (memoryOf cs ps hs es)) (by-finite a b (h .distance) z) ∙ goes a b (ap fit z)
-        ∙ ap₂ (λ (x y : Bool). cutReply desk h x y root (memoryOf cs ps hs es)) ea eb
+    pub replied : {r : CutReply} {cs′ : List ℕ} {ps′ hs′ : List Float} {es′ : List ℕ} → WholeCut cs ps hs es p root r cs′ ps′ hs′ es′
+        → (r, memoryOf cs′ ps′ hs′ es′) ≡ cutReply desk p root (memoryOf cs ps hs es)
+    replied W = W .of table cut-fit ∙ ap (written desk (memoryOf cs ps hs es)) (by-finite (h .distance) z) ∙ goes (ap fit z)

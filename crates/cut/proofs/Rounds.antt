@@ -13,11 +13,11 @@ use lib.Ieee.{Float}
 use Rattle.rules.specs.Limits.{Limits, desk}
 use Rattle.rules.specs.Table.{Element, corner, Table, rankOf, boundaryOf, elementCount, rank, boundary, element}
 use Rattle.rules.specs.Held as held
-use Rattle.rules.specs.Held.{Extends, Holds, Came, Sets, Ranked, OutputOf}
+use Rattle.rules.specs.Held.{Extends, Holds, Came, Sets, Ranked, AnswerOf}
 use Rattle.rules.specs.Cut.{Outcome, done, next, Step, Cutting, Gathered, nothingYet, gathering, rule6, cutElement, cutBoundary, cutHigher}
-use Rattle.rules.specs.declared.ElementCutOutput.{ElementCutOutput}
-use Rattle.rules.specs.declared.CutReply.{CutReply}
-use Rattle.rules.specs.declared.CutReply.the-variants as reply
+use Rattle.rules.specs.declared.ElementAnswer.{ElementAnswer}
+use Rattle.gathered.specs.declared.answer.ElementReply.{ElementReply}
+use Rattle.gathered.specs.declared.answer.ElementReply.the-variants as reply
 use Rattle.rules.proofs.Extends.{extends-refl, extends-trans, element-same, count-more, begins-length}
 use Rattle.rules.proofs.Good.{Good, sound-good, good-sound}
 use Rattle.rules.proofs.Growing.{all-get}
@@ -31,7 +31,7 @@ use Rattle.space.proofs.Slices.{slices}
 use Rattle.gathered.specs.Sets.{Answers, Gathers, Sized, NothingYet, AnswerGathered, OutputInRoom}
 use Rattle.gathered.specs.Cutting.{cutOf, Fit, Rule6Fit, Rule6Ready, Rule6Done}
 use Rattle.rules.specs.declared.Cutter.{Cutter}
-use Rattle.cut.specs.Known.{Knows, HoldsKnown, ReplyInRoom, KeepReady, ReplyKept, outputAt, replyOf}
+use Rattle.cut.specs.Known.{Knows, HoldsKnown, ReplyInRoom, KeepReady, ReplyKept, answerAt, replyOf}
 use Rattle.cut.specs.Rounds.{AskReady, RoundReady, ElementAsked, Round, went, stopped, BoundaryCut}
 use Rattle.cut.specs.declared.known.Asked.{Asked}
 use Rattle.cut.specs.declared.known.Asked.the-variants as asked
@@ -53,12 +53,12 @@ module _ (r : ℕ) (more : 1 < r) where
   ep = omega arith
 
   module _ (e : ℕ) (k : Cutter) where
-    abbrev ask : ℕ → ℕ → Step ElementCutOutput
+    abbrev ask : ℕ → ℕ → Step ElementAnswer
     ask d = cutElement desk (cutOf d k) (r - 1)
 
-    ask-stays : (d b : ℕ) (u : Table) → Good desk u → k .number .0 < length (u .planes) → b < elementCount u → rank u b ≡ r - 1 → Stays desk (OutputOf (r - 1)) u (ask d b u)
+    ask-stays : (d b : ℕ) (u : Table) → Good desk u → k .number .0 < length (u .planes) → b < elementCount u → rank u b ≡ r - 1 → Stays desk (AnswerOf (r - 1)) u (ask d b u)
     ask-stays d b u g n l q =
-        subst (λ (m : ℕ). Stays desk (OutputOf m) u (cutElement desk (cutOf d k) m b u)) (sym ep) (element-stays desk (cutOf d k) (r - 2) b u g n l (q ∙ ep))
+        subst (λ (m : ℕ). Stays desk (AnswerOf m) u (cutElement desk (cutOf d k) m b u)) (sym ep) (element-stays desk (cutOf d k) (r - 2) b u g n l (q ∙ ep))
 
     -- how far the round is: the table now, what is gathered, and what is left to ask
     pub record At (hs : List Float) (t : Table) (i : ℕ) (s : Answers) (cs : List ℕ) (ps : List Float) (es ms : List ℕ) : Type 0 where
@@ -168,10 +168,10 @@ module _ {r : ℕ} (more : 1 < r) {e : ℕ} {k : Cutter} {cs₀ : List ℕ} {ps�
             ∙ ap₂ asking (sym number) (sym (add-one i))
 
         -- and once that element has answered so
-        opened-by : {c : Outcome ElementCutOutput} → ask r more e k (t .dimension) b (A .table) ≡ c
+        opened-by : {c : Outcome ElementAnswer} → ask r more e k (t .dimension) b (A .table) ≡ c
             → cutBoundary (ask r more e k (t .dimension)) (boundary t e) nothingYet t
             ≡ next c (λ a. cutBoundary (ask r more e k (t .dimension)) (drop (i + 1) (boundary t e)) (gathering b a (A .gathered)))
-        opened-by o = opened ∙ ap (λ (c : Outcome ElementCutOutput). next c (λ a. cutBoundary (ask r more e k (t .dimension)) (drop (i + 1) (boundary t e)) (gathering b a (A .gathered)))) o
+        opened-by o = opened ∙ ap (λ (c : Outcome ElementAnswer). next c (λ a. cutBoundary (ask r more e k (t .dimension)) (drop (i + 1) (boundary t e)) (gathering b a (A .gathered)))) o
 
     pub next-ready : {ix₀ ix : List ℕ} → AskReady cs₀ ps₀ es₀ ix₀ ms₀ r e k → i < n → (b : ℕ) → b ≡ getD es (e * 36 + (4 + i)) 0 → Indexed es (getD cs 1 0) ix → AskReady cs ps es ix ms (r - 1) b k
     next-ready R l b read X =
@@ -203,19 +203,19 @@ module _ {r : ℕ} (more : 1 < r) {e : ℕ} {k : Cutter} {cs₀ : List ℕ} {ps�
               let z : m ≡ j = cc in
               stopped j u (opened-by F K l b read o) (ap asked.Refused z) (extends-trans (A F K .extends) y) H
 
-      kept : {hs : List Float} {t : Table} (F : Fit cs₀ ps₀ hs es₀ r e k t) (K : Knows k ms₀ t) (v : ElementCutOutput) (u : Table)
-          → ask r more e k (t .dimension) b (A F K .table) ≡ done v u → Kept desk (OutputOf (r - 1)) (A F K .table) v u
+      kept : {hs : List Float} {t : Table} (F : Fit cs₀ ps₀ hs es₀ r e k t) (K : Knows k ms₀ t) (v : ElementAnswer) (u : Table)
+          → ask r more e k (t .dimension) b (A F K .table) ≡ done v u → Kept desk (AnswerOf (r - 1)) (A F K .table) v u
       kept {t = t} F K v u o =
           let f = fit-next F K l b read in
-          subst (Stays desk (OutputOf (r - 1)) (A F K .table)) o (ask-stays r more e k (t .dimension) b (A F K .table) (A F K .good) (f .plane) (f .used) (f .ranked))
+          subst (Stays desk (AnswerOf (r - 1)) (A F K .table)) o (ask-stays r more e k (t .dimension) b (A F K .table) (A F K .good) (f .plane) (f .used) (f .ranked))
 
       -- an answer, which the words say
-      module _ (q : x ≡ asked.Done) (a : ElementCutOutput) (told : a ≡ outputAt ms′ b) where
+      module _ (q : x ≡ asked.Done) (a : ElementAnswer) (told : a ≡ answerAt ms′ b) where
         yes : replyOf x ms′ b ≡ reply.Answered a
         yes = ap (λ (y : Asked). replyOf y ms′ b) q ∙ ap reply.Answered (sym told)
 
         -- is within the room
-        pub answer-room : {ix₀ : List ℕ} → AskReady cs₀ ps₀ es₀ ix₀ ms₀ r e k → OutputInRoom a
+        pub answer-room : {ix₀ : List ℕ} → AskReady cs₀ ps₀ es₀ ix₀ ms₀ r e k → OutputInRoom (a .output)
         answer-room R =
             let N = A (R .fit) (R .knows) in
             let f = fit-next (R .fit) (R .knows) l b read in
@@ -230,7 +230,7 @@ module _ {r : ℕ} (more : 1 < r) {e : ℕ} {k : Cutter} {cs₀ : List ℕ} {ps�
                 let f = yes in
                 let z : v ≡ a = cc in
                 let N = A F K in
-                let o′ : ask r more e k (t .dimension) b (N .table) ≡ done a u = o ∙ ap (λ (c : ElementCutOutput). done c u) z in
+                let o′ : ask r more e k (t .dimension) b (N .table) ≡ done a u = o ∙ ap (λ (c : ElementAnswer). done c u) z in
                 let S = kept F K a u o′ in
                 record {
                   table = u;
@@ -334,7 +334,7 @@ module _ {cs : List ℕ} {ps : List Float} {es ms : List ℕ} {r e : ℕ} {k : C
       E = end hs t F K
 
       -- rule 6 of what was gathered
-      abbrev answers : Outcome ElementCutOutput
+      abbrev answers : Outcome ElementAnswer
       answers = rule6 desk (cutOf (E .table .dimension) k) (element (E .table) e) (E .gathered) (E .gathered .flush) (E .table)
 
       whole : cutElement desk (cutOf (t .dimension) k) r e t ≡ answers
@@ -343,7 +343,7 @@ module _ {cs : List ℕ} {ps : List Float} {es ms : List ℕ} {r e : ℕ} {k : C
           ∙ ap₂ (λ (d : ℕ) (y : Element). rule6 desk (cutOf d k) y (E .gathered) (E .gathered .flush) (E .table)) (sym (E .extends .dimension))
           (sym (element-same t (E .table) e (E .extends) (F .used)))
 
-      answered : {x : CutReply} {cs″ es″ ix″ : List ℕ} → Rule6Done cs′ es′ r e k s x cs″ es″ ix″
+      answered : {x : ElementReply} {cs″ es″ ix″ : List ℕ} → Rule6Done cs′ es′ r e k s x cs″ es″ ix″
           → Came reply.Answered reply.Refused (Holds desk cs″ ps′ hs es″) t (cutElement desk (cutOf (t .dimension) k) r e t) x
       answered {x} {cs″} {es″} D = came (D .of ps′ hs (E .table) (E .gathered) (E .ready))
         where
@@ -357,7 +357,7 @@ module _ {cs : List ℕ} {ps : List Float} {es ms : List ℕ} {r e : ℕ} {k : C
         let E = end (R .planes) (R .table) (R .fit) (R .knows) in
         record { points = ps′; planes = R .planes; table = E .table; gathered = E .gathered; fit = E .ready; indexed = B .indexed }
 
-    module _ {x : CutReply} {cs″ es″ ix″ : List ℕ} (D : Rule6Done cs′ es′ r e k s x cs″ es″ ix″) where
+    module _ {x : ElementReply} {cs″ es″ ix″ : List ℕ} (D : Rule6Done cs′ es′ r e k s x cs″ es″ ix″) where
       pub element-keep : {ix : List ℕ} → AskReady cs ps es ix ms r e k → KeepReady e x
       element-keep R = record { low = ask-low R; room = reply-in-room (R .fit) (λ u H. H .fits .elementRoom) (answered (R .planes) (R .table) (R .fit) (R .knows) D) }
 

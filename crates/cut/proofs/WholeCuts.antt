@@ -1,7 +1,6 @@
 -- The whole cut: the hyperplane's step, then the root's; a refusal of either gives back the memory, since all that was done is to append.
 use Prim.Native.Nat.{ℕ, _*_, _<_}
 use mathlib.Core.Path.{_≡_, sym, ap, ap₂, _∙_, subst}
-use mathlib.Core.Bool.{Bool}
 use mathlib.Core.List.{List}
 use native.Mathlib.Nat.{le-trans, le-of-eq}
 use native.Mathlib.Omega.{arith}
@@ -13,12 +12,15 @@ use Rattle.rules.specs.Table.{Element, Plane, Table, elementCount, rank}
 use Rattle.rules.specs.Held as held
 use Rattle.rules.specs.Held.{Extends, Holds, Came, memoryOf}
 use Rattle.rules.specs.Cut.{Outcome, done, next, addPlane, cutElement, cutFinite}
-use Rattle.rules.specs.Replies.{dividerOf, written}
+use Rattle.rules.specs.Replies.{dividerOf, paramsOf, asReply, written}
 use Rattle.rules.specs.declared.Hyperplane.{Hyperplane}
 use Rattle.rules.specs.declared.HyperplaneId.{HyperplaneId}
-use Rattle.rules.specs.declared.ElementCutOutput.{ElementCutOutput}
+use Rattle.rules.specs.declared.ElementAnswer.{ElementAnswer}
+use Rattle.rules.specs.declared.CutParams.{CutParams}
 use Rattle.rules.specs.declared.CutReply.{CutReply}
-use Rattle.rules.specs.declared.CutReply.the-variants as reply
+use Rattle.rules.specs.declared.CutReply.the-variants as public
+use Rattle.gathered.specs.declared.answer.ElementReply.{ElementReply}
+use Rattle.gathered.specs.declared.answer.ElementReply.the-variants as reply
 use Rattle.rules.proofs.Extends.{extends-trans, count-more, begins-length}
 use Rattle.rules.proofs.Good.{Good, sound-good, good-sound}
 use Rattle.rules.proofs.Laws.{le-test}
@@ -36,7 +38,7 @@ use Rattle.space.proofs.RowAdds.{readable-desk}
 use Rattle.space.proofs.Slices.{slices}
 use Rattle.gathered.specs.Cutting.{Fit, cutOf}
 use Rattle.rules.specs.declared.Cutter.{Cutter}
-use Rattle.cut.specs.Known.{HoldsKnown, outputAt, replyOf}
+use Rattle.cut.specs.Known.{HoldsKnown, answerAt, replyOf}
 use Rattle.cut.specs.declared.known.Asked.{Asked}
 use Rattle.cut.specs.declared.known.Asked.the-variants as asked
 use Rattle.cut.specs.Rounds.{AskReady, ElementAsked}
@@ -61,8 +63,8 @@ record Named (ps : List Float) (es : List ℕ) (h : Hyperplane) (cs₁ : List �
 abbrev Added : List Float → List ℕ → Hyperplane → PlacedHyperplane → List ℕ → List Float → Table → Type 0
 Added ps es h x cs₁ hs₁ t = Came hyperplaneAt hyperplane.Refused (Holds desk cs₁ ps hs₁ es) t (addPlane desk (dividerOf (t .dimension) h) t) x
 
-abbrev cutter : Hyperplane → HyperplaneId → Bool → Bool → Cutter
-cutter h v i o = record { divider = h; number = v; «keep_inside» = i; «keep_outside» = o }
+abbrev cutter : CutParams → HyperplaneId → Cutter
+cutter p v = record { params = p; number = v }
 
 module _ {cs : List ℕ} {ps hs : List Float} {es : List ℕ} {h : Hyperplane} {root : ℕ} where
   pub counts-ready : {ix : List ℕ} → CutReady cs ps hs es ix h root → length cs ≡ 4
@@ -80,39 +82,40 @@ module _ {cs : List ℕ} {ps hs : List Float} {es : List ℕ} {h : Hyperplane} {
   pub rank-asked : {ix : List ℕ} → CutReady cs ps hs es ix h root → ElementReady es root
   rank-asked R = record { elements = slices (R .fit .holds) .elements; room = root-low R }
 
-  module _ {x : PlacedHyperplane} {cs₁ : List ℕ} {hs₁ : List Float} (P : HyperplaneAdded cs hs h x cs₁ hs₁) where
-    added : {t : Table} → CutFit cs ps hs es h root t → Added ps es h x cs₁ hs₁ t
-    added {t} F = P .of ps es t (dividerOf (t .dimension) h) (F .holds) (F .sound) (F .row) (F .plane)
+module _ (p : CutParams) {cs : List ℕ} {ps hs : List Float} {es : List ℕ} {root : ℕ} where
+  module _ {x : PlacedHyperplane} {cs₁ : List ℕ} {hs₁ : List Float} (P : HyperplaneAdded cs hs (p .divider) x cs₁ hs₁) where
+    added : {t : Table} → CutFit cs ps hs es (p .divider) root t → Added ps es (p .divider) x cs₁ hs₁ t
+    added {t} F = P .of ps es t (dividerOf (t .dimension) (p .divider)) (F .holds) (F .sound) (F .row) (F .plane)
 
     -- no room for the hyperplane
-    pub plane-refused : (i o : Bool) (n : ℕ) → x ≡ hyperplane.Refused n → CutTried cs ps hs es h i o root (reply.Refused n) cs₁ ps hs₁ es
-    plane-refused i o n q = record { of = λ t F. go t (added F) }
+    pub plane-refused : (n : ℕ) → x ≡ hyperplane.Refused n → CutTried cs ps hs es p root (reply.Refused n) cs₁ ps hs₁ es
+    plane-refused n q = record { of = λ t F. go t (added F) }
       where
-        go : (t : Table) → Added ps es h x cs₁ hs₁ t → Came reply.Answered reply.Refused (Holds desk cs₁ ps hs₁ es) t (cutFinite desk (dividerOf (t .dimension) h) i o root t) (reply.Refused n)
+        go : (t : Table) → Added ps es (p .divider) x cs₁ hs₁ t → Came reply.Answered reply.Refused (Holds desk cs₁ ps hs₁ es) t (cutFinite desk (paramsOf (t .dimension) p) root t) (reply.Refused n)
         go t (held.went j u m w H) = let z : _≡_ {A = ℕ} 0 1 = cc in absurd (omega arith)
         go t (held.stopped j u m w y H) =
             let z : n ≡ j = cc in
             held.stopped j u
-            (ap (λ (p : Outcome ℕ). next p (λ v l. cutElement desk (record { divider = dividerOf (t .dimension) h; number = v; keepInside = i; keepOutside = o }) (rank l root) root l)) m)
+            (ap (λ (q′ : Outcome ℕ). next q′ (λ v l. cutElement desk (record { params = paramsOf (t .dimension) p; number = v }) (rank l root) root l)) m)
             (ap reply.Refused z) y H
 
     -- the hyperplane's number is known
     module _ (v : HyperplaneId) (q : x ≡ hyperplane.At v) where
-      named : {t : Table} → CutFit cs ps hs es h root t → Named ps es h cs₁ hs₁ (v .0) t
+      named : {t : Table} → CutFit cs ps hs es (p .divider) root t → Named ps es (p .divider) cs₁ hs₁ (v .0) t
       named {t} F = go (added F)
         where
-          go : Added ps es h x cs₁ hs₁ t → Named ps es h cs₁ hs₁ (v .0) t
+          go : Added ps es (p .divider) x cs₁ hs₁ t → Named ps es (p .divider) cs₁ hs₁ (v .0) t
           go (held.stopped j u m w y H) = let z : _≡_ {A = ℕ} 0 1 = cc in absurd (omega arith)
           go (held.went j u m w H) =
               let same : _≡_ {A = HyperplaneId} (record { 0 = j }) v = cc in
               let z : j ≡ v .0 = ap (λ (n : HyperplaneId). n .0) same in
-              let m′ : addPlane desk (dividerOf (t .dimension) h) t ≡ done (v .0) u = m ∙ ap (λ (n : ℕ). done n u) z in
+              let m′ : addPlane desk (dividerOf (t .dimension) (p .divider)) t ≡ done (v .0) u = m ∙ ap (λ (n : ℕ). done n u) z in
               let K : Kept desk (λ (n : ℕ) (s : Table). n < length (s .planes)) t (v .0) u =
-              subst (Stays desk (λ (n : ℕ) (s : Table). n < length (s .planes)) t) m′ (plane-stays desk t (sound-good desk t (F .sound)) (dividerOf (t .dimension) h) (F .plane)) in
+              subst (Stays desk (λ (n : ℕ) (s : Table). n < length (s .planes)) t) m′ (plane-stays desk t (sound-good desk t (F .sound)) (dividerOf (t .dimension) (p .divider)) (F .plane)) in
               record { table = u; ended = m′; extends = K .extends; good = K .good; numbered = K .value; holds = H }
 
-      module _ (r : ℕ) (read : r ≡ getD es (root * 36) 0) (i o : Bool) where
-        root-fit : {t : Table} → (F : CutFit cs ps hs es h root t) → Fit cs₁ ps hs₁ es r root (cutter h v i o) (named F .table)
+      module _ (r : ℕ) (read : r ≡ getD es (root * 36) 0) where
+        root-fit : {t : Table} → (F : CutFit cs ps hs es (p .divider) root t) → Fit cs₁ ps hs₁ es r root (cutter p v) (named F .table)
         root-fit F =
             let A = named F in
             let used : root < elementCount (A .table) = le-trans (F .used) (count-more (A .extends)) in
@@ -125,36 +128,36 @@ module _ {cs : List ℕ} {ps hs : List Float} {es : List ℕ} {h : Hyperplane} {
             }
 
         -- the index is still of the rows
-        count-same : {ix : List ℕ} → CutReady cs ps hs es ix h root → getD cs 1 0 ≡ getD cs₁ 1 0
+        count-same : {ix : List ℕ} → CutReady cs ps hs es ix (p .divider) root → getD cs 1 0 ≡ getD cs₁ 1 0
         count-same R =
             let A = named (R .fit) in
-            slices (R .fit .holds) .elementCount ∙ sym (plane-count (dividerOf (R .table .dimension) h) (R .table) (A .table) (v .0) (A .ended))
+            slices (R .fit .holds) .elementCount ∙ sym (plane-count (dividerOf (R .table .dimension) (p .divider)) (R .table) (A .table) (v .0) (A .ended))
             ∙ sym (slices (A .holds) .elementCount)
 
         -- nothing is known yet
-        pub root-ready : {ix : List ℕ} → CutReady cs ps hs es ix h root → AskReady cs₁ ps es ix (replicate 1536 0) r root (cutter h v i o)
+        pub root-ready : {ix : List ℕ} → CutReady cs ps hs es ix (p .divider) root → AskReady cs₁ ps es ix (replicate 1536 0) r root (cutter p v)
         root-ready R = record {
           planes = hs₁;
           table = named (R .fit) .table;
           fit = root-fit (R .fit);
-          knows = knows-nothing (cutter h v i o) (named (R .fit) .table);
+          knows = knows-nothing (cutter p v) (named (R .fit) .table);
           indexed = index-count _ _ _ _ (count-same R) (R .indexed);
         }
 
-        pub root-cut : {x : Asked} {cs₂ : List ℕ} {ps₂ : List Float} {es₂ ix₂ ms₂ : List ℕ} → ElementAsked cs₁ ps es (replicate 1536 0) r root (cutter h v i o) x cs₂ ps₂ es₂ ix₂ ms₂
-            → (y : CutReply) → replyOf x ms₂ root ≡ y → CutTried cs ps hs es h i o root y cs₂ ps₂ hs₁ es₂
-        root-cut {x} {cs₂} {ps₂} {es₂} {ix₂} {ms₂} C y told = record { of = λ t F. go t F (C .of hs₁ (named F .table) (root-fit F) (knows-nothing (cutter h v i o) (named F .table))) }
+        pub root-cut : {x : Asked} {cs₂ : List ℕ} {ps₂ : List Float} {es₂ ix₂ ms₂ : List ℕ} → ElementAsked cs₁ ps es (replicate 1536 0) r root (cutter p v) x cs₂ ps₂ es₂ ix₂ ms₂
+            → (y : ElementReply) → replyOf x ms₂ root ≡ y → CutTried cs ps hs es p root y cs₂ ps₂ hs₁ es₂
+        root-cut {x} {cs₂} {ps₂} {es₂} {ix₂} {ms₂} C y told = record { of = λ t F. go t F (C .of hs₁ (named F .table) (root-fit F) (knows-nothing (cutter p v) (named F .table))) }
           where
-            steps : (t : Table) (F : CutFit cs ps hs es h root t)
-                → cutFinite desk (dividerOf (t .dimension) h) i o root t ≡ cutElement desk (cutOf (named F .table .dimension) (cutter h v i o)) r root (named F .table)
+            steps : (t : Table) (F : CutFit cs ps hs es (p .divider) root t)
+                → cutFinite desk (paramsOf (t .dimension) p) root t ≡ cutElement desk (cutOf (named F .table .dimension) (cutter p v)) r root (named F .table)
             steps t F =
-                ap (λ (p : Outcome ℕ). next p (λ n l. cutElement desk (record { divider = dividerOf (t .dimension) h; number = n; keepInside = i; keepOutside = o }) (rank l root) root l)) (named F .ended)
-                ∙ ap₂ (λ (d n : ℕ). cutElement desk (cutOf d (cutter h v i o)) n root (named F .table)) (sym (named F .extends .dimension)) (root-fit F .ranked)
+                ap (λ (q′ : Outcome ℕ). next q′ (λ n l. cutElement desk (record { params = paramsOf (t .dimension) p; number = n }) (rank l root) root l)) (named F .ended)
+                ∙ ap₂ (λ (d n : ℕ). cutElement desk (cutOf d (cutter p v)) n root (named F .table)) (sym (named F .extends .dimension)) (root-fit F .ranked)
 
-            go : (t : Table) (F : CutFit cs ps hs es h root t)
-                → Came reply.Answered reply.Refused (HoldsKnown cs₂ ps₂ hs₁ es₂ ms₂ (cutter h v i o)) (named F .table)
-                (cutElement desk (cutOf (named F .table .dimension) (cutter h v i o)) r root (named F .table)) (replyOf x ms₂ root)
-                → Came reply.Answered reply.Refused (Holds desk cs₂ ps₂ hs₁ es₂) t (cutFinite desk (dividerOf (t .dimension) h) i o root t) y
+            go : (t : Table) (F : CutFit cs ps hs es (p .divider) root t)
+                → Came reply.Answered reply.Refused (HoldsKnown cs₂ ps₂ hs₁ es₂ ms₂ (cutter p v)) (named F .table)
+                (cutElement desk (cutOf (named F .table .dimension) (cutter p v)) r root (named F .table)) (replyOf x ms₂ root)
+                → Came reply.Answered reply.Refused (Holds desk cs₂ ps₂ hs₁ es₂) t (cutFinite desk (paramsOf (t .dimension) p) root t) y
             go t F (held.went a u m w H) = held.went a u (steps t F ∙ m) (sym told ∙ w) (H .holds)
             go t F (held.stopped j u m w z H) = held.stopped j u (steps t F ∙ m) (sym told ∙ w) (extends-trans (named F .extends) z) (H .holds)
 
@@ -162,7 +165,7 @@ module _ {cs : List ℕ} {ps hs : List Float} {es : List ℕ} {h : Hyperplane} {
 pub root-refused : {x : Asked} {n : ℕ} (ms : List ℕ) (root : ℕ) → x ≡ asked.Refused n → replyOf x ms root ≡ reply.Refused n
 root-refused ms root q = ap (λ (y : Asked). replyOf y ms root) q
 
-pub root-answered : {x : Asked} {a : ElementCutOutput} (ms : List ℕ) (root : ℕ) → x ≡ asked.Done → a ≡ outputAt ms root → replyOf x ms root ≡ reply.Answered a
+pub root-answered : {x : Asked} {a : ElementAnswer} (ms : List ℕ) (root : ℕ) → x ≡ asked.Done → a ≡ answerAt ms root → replyOf x ms root ≡ reply.Answered a
 root-answered ms root q told = ap (λ (y : Asked). replyOf y ms root) q ∙ ap reply.Answered (sym told)
 
 -- ---- the memory given back
@@ -189,21 +192,23 @@ restore-asks {t = t} {u} H₀ X H =
       planeRoom = b .planesFit;
     }
 
-module _ {cs : List ℕ} {ps hs : List Float} {es : List ℕ} {h : Hyperplane} {i o : Bool} {root : ℕ} {y : CutReply} {cs₁ : List ℕ} {ps₁ hs₁ : List Float} {es₁ : List ℕ}
-    (T : CutTried cs ps hs es h i o root y cs₁ ps₁ hs₁ es₁) where
+module _ {cs : List ℕ} {ps hs : List Float} {es : List ℕ} {p : CutParams} {root : ℕ} {y : ElementReply} {cs₁ : List ℕ} {ps₁ hs₁ : List Float} {es₁ : List ℕ}
+    (T : CutTried cs ps hs es p root y cs₁ ps₁ hs₁ es₁) where
   abbrev Tried : Table → Type 0
-  Tried t = Came reply.Answered reply.Refused (Holds desk cs₁ ps₁ hs₁ es₁) t (cutFinite desk (dividerOf (t .dimension) h) i o root t) y
+  Tried t = Came reply.Answered reply.Refused (Holds desk cs₁ ps₁ hs₁ es₁) t (cutFinite desk (paramsOf (t .dimension) p) root t) y
 
-  pub whole-done : (a : ElementCutOutput) → y ≡ reply.Answered a → WholeCut cs ps hs es h i o root (reply.Answered a) cs₁ ps₁ hs₁ es₁
+  pub whole-done : (a : ElementAnswer) → y ≡ reply.Answered a → WholeCut cs ps hs es p root (asReply a) cs₁ ps₁ hs₁ es₁
   whole-done a w = record { of = λ t F. go t (T .of t F) }
     where
       go : (t : Table) → Tried t
-          → _≡_ {A = CutReply × Memory} (reply.Answered a, memoryOf cs₁ ps₁ hs₁ es₁) (written desk (memoryOf cs ps hs es) (cutFinite desk (dividerOf (t .dimension) h) i o root t))
+          → _≡_ {A = CutReply × Memory} (asReply a, memoryOf cs₁ ps₁ hs₁ es₁) (written desk (memoryOf cs ps hs es) (cutFinite desk (paramsOf (t .dimension) p) root t))
       go t (held.stopped j u m w′ z H) = let e : _≡_ {A = ℕ} 0 1 = cc in absurd (omega arith)
-      go t (held.went b u m w′ H) = (λ l. ((sym w ∙ w′) l, holds-memory desk readable-desk H l)) ∙ sym (ap (written desk (memoryOf cs ps hs es)) m)
+      go t (held.went b u m w′ H) =
+          let e : a ≡ b = cc in
+          (λ l. (asReply (e l), holds-memory desk readable-desk H l)) ∙ sym (ap (written desk (memoryOf cs ps hs es)) m)
 
   module _ (n : ℕ) (w : y ≡ reply.Refused n) where
-    pub whole-asks : {ix : List ℕ} → CutReady cs ps hs es ix h root → RestoreAsks cs cs₁ ps₁ hs₁ es₁
+    pub whole-asks : {ix : List ℕ} → CutReady cs ps hs es ix (p .divider) root → RestoreAsks cs cs₁ ps₁ hs₁ es₁
     whole-asks R = go (T .of (R .table) (R .fit))
       where
         go : Tried (R .table) → RestoreAsks cs cs₁ ps₁ hs₁ es₁
@@ -211,15 +216,15 @@ module _ {cs : List ℕ} {ps hs : List Float} {es : List ℕ} {h : Hyperplane} {
         go (held.stopped j u m w′ z H) = restore-asks (R .fit .holds) z H
 
     pub whole-refused : {cs′ : List ℕ} {ps′ hs′ : List Float} {es′ : List ℕ} → Restored cs₁ ps₁ hs₁ es₁ (getD cs 1 0) (getD cs 2 0) (getD cs 3 0) cs′ ps′ hs′ es′
-        → WholeCut cs ps hs es h i o root (reply.Refused n) cs′ ps′ hs′ es′
+        → WholeCut cs ps hs es p root (public.Refused n) cs′ ps′ hs′ es′
     whole-refused {cs′} {ps′} {hs′} {es′} R = record { of = λ t F. go t F (T .of t F) }
       where
-        go : (t : Table) → CutFit cs ps hs es h root t → Tried t
-            → _≡_ {A = CutReply × Memory} (reply.Refused n, memoryOf cs′ ps′ hs′ es′) (written desk (memoryOf cs ps hs es) (cutFinite desk (dividerOf (t .dimension) h) i o root t))
+        go : (t : Table) → CutFit cs ps hs es (p .divider) root t → Tried t
+            → _≡_ {A = CutReply × Memory} (public.Refused n, memoryOf cs′ ps′ hs′ es′) (written desk (memoryOf cs ps hs es) (cutFinite desk (paramsOf (t .dimension) p) root t))
         go t F (held.went b u m w′ H) = let e : _≡_ {A = ℕ} 0 1 = cc in absurd (omega arith)
         go t F (held.stopped j u m w′ z H) =
             let e : n ≡ j = cc in
             let s = slices (F .holds) in
             let back : _≡_ {A = Memory} (memoryOf cs′ ps′ hs′ es′) (memoryOf cs ps hs es) =
             holds-memory desk readable-desk (R .of t u z H (s .elementCount) (s .pointCount) (s .planeCount)) ∙ sym (holds-memory desk readable-desk (F .holds)) in
-            (λ l. (reply.Refused (e l), back l)) ∙ sym (ap (written desk (memoryOf cs ps hs es)) m)
+            (λ l. (public.Refused (e l), back l)) ∙ sym (ap (written desk (memoryOf cs ps hs es)) m)

@@ -1,9 +1,9 @@
 -- What a cut remembers: the words of the answers given so far, and when they are true of a table. Definitions only.
-use Prim.Native.Nat.{ℕ, zero, suc, _+_, _*_, _<_}
+use Prim.Native.Nat.{ℕ, zero, suc, _+_, _*_, _/_, _%_, _<_}
 use mathlib.Core.Path.{_≡_}
-use mathlib.Core.Bool.{Bool, true}
+use mathlib.Core.Bool.{Bool, true, cond}
 use mathlib.Core.List.{List}
-use lib.Dec.{ltb}
+use lib.Dec.{ltb, eqb}
 use lib.ListN.{length, getD, set}
 use lib.Ieee.{Float}
 use Rattle.rules.specs.Limits.{desk}
@@ -14,8 +14,9 @@ use Rattle.rules.specs.declared.ElementOrNone.{ElementOrNone}
 use Rattle.rules.specs.declared.ElementOrNone.the-variants.{None, Some}
 use Rattle.rules.specs.declared.ElementCutOutput.{ElementCutOutput}
 use Rattle.rules.specs.declared.ElementCutOutput.the-variants.{Flush, NonFlush}
-use Rattle.rules.specs.declared.CutReply.{CutReply}
-use Rattle.rules.specs.declared.CutReply.the-variants as reply
+use Rattle.rules.specs.declared.ElementAnswer.{ElementAnswer}
+use Rattle.gathered.specs.declared.answer.ElementReply.{ElementReply}
+use Rattle.gathered.specs.declared.answer.ElementReply.the-variants as reply
 use Rattle.gathered.specs.Sets.{OutputInRoom}
 use Rattle.gathered.specs.Cutting.{cutOf}
 use Rattle.rules.specs.declared.Cutter.{Cutter}
@@ -35,6 +36,10 @@ someOf zero = None
 someOf (suc zero) = None
 someOf (suc (suc e)) = given e
 
+-- the third place and the warning, in one word
+abbrev pub thirdWord : ℕ → Bool → ℕ
+thirdWord n w = n * 2 + cond w 1 0
+
 -- what three words say: a second word of 0 is flush
 abbrev pub outputOf : ℕ → ℕ → ℕ → ElementCutOutput
 outputOf a zero c = Flush
@@ -45,61 +50,73 @@ unfoldable pub knownAt : List ℕ → ℕ → Bool
 knownAt ms e = ltb 0 (getD ms (e * 3) 0)
 
 -- what it answered
-unfoldable pub outputAt : List ℕ → ℕ → ElementCutOutput
-outputAt ms e = outputOf (getD ms (e * 3) 0) (getD ms (e * 3 + 1) 0) (getD ms (e * 3 + 2) 0)
+unfoldable pub answerAt : List ℕ → ℕ → ElementAnswer
+answerAt ms e = record {
+  output = outputOf (getD ms (e * 3) 0) (getD ms (e * 3 + 1) 0) (getD ms (e * 3 + 2) 0 / 2);
+  warning = eqb (getD ms (e * 3 + 2) 0 % 2) 1;
+}
 
 -- the three words of element e are a, b and c
 unfoldable pub threeAt : List ℕ → ℕ → ℕ → ℕ → ℕ → List ℕ
 threeAt ms e a b c = set (set (set ms (e * 3) a) (e * 3 + 1) b) (e * 3 + 2) c
 
--- the answer of element e is kept
-abbrev pub withAnswer : List ℕ → ℕ → ElementCutOutput → List ℕ
-withAnswer ms e Flush = threeAt ms e 1 0 0
-withAnswer ms e (NonFlush i o x) = threeAt ms e (wordOf i) (wordOf o) (wordOf x)
+-- the output of element e is kept, with a warning
+abbrev pub withOutput : List ℕ → ℕ → ElementCutOutput → Bool → List ℕ
+withOutput ms e Flush w = threeAt ms e 1 0 (thirdWord 0 w)
+withOutput ms e (NonFlush i o x) w = threeAt ms e (wordOf i) (wordOf o) (thirdWord (wordOf x) w)
+
+-- its answer is
+abbrev pub withAnswer : List ℕ → ℕ → ElementAnswer → List ℕ
+withAnswer ms e a = withOutput ms e (a .output) (a .warning)
 
 -- a refusal is not kept
-abbrev pub withReply : List ℕ → ℕ → CutReply → List ℕ
+abbrev pub withReply : List ℕ → ℕ → ElementReply → List ℕ
 withReply ms e (reply.Refused n) = ms
 withReply ms e (reply.Answered a) = withAnswer ms e a
 
 -- the elements that a reply names are within the room
-abbrev pub ReplyInRoom : CutReply → Type 0
+abbrev pub ReplyInRoom : ElementReply → Type 0
 ReplyInRoom (reply.Refused n) = Unit {0}
-ReplyInRoom (reply.Answered a) = OutputInRoom a
+ReplyInRoom (reply.Answered a) = OutputInRoom (a .output)
 
 -- ---- a reply whose answer is in the words
 
 -- how asking ended: an answer is left out
-abbrev pub askedBy : CutReply → Asked
+abbrev pub askedBy : ElementReply → Asked
 askedBy (reply.Refused n) = asked.Refused n
 askedBy (reply.Answered a) = asked.Done
 
+-- what keeping an answer asks
+pub record AnswerReady (e : ℕ) (a : ElementAnswer) : Type 0 where
+  pub low : e < 512
+  pub room : OutputInRoom (a .output)
+
 -- what keeping a reply to element e asks
-pub record KeepReady (e : ℕ) (x : CutReply) : Type 0 where
+pub record KeepReady (e : ℕ) (x : ElementReply) : Type 0 where
   pub low : e < 512
   pub room : ReplyInRoom x
 
 -- and what it does: how asking ended, and the words after it
-pub record ReplyKept (ms : List ℕ) (e : ℕ) (x : CutReply) (y : Asked) (ms′ : List ℕ) : Type 0 where
+pub record ReplyKept (ms : List ℕ) (e : ℕ) (x : ElementReply) (y : Asked) (ms′ : List ℕ) : Type 0 where
   pub asked : y ≡ askedBy x
   pub words : ms′ ≡ withReply ms e x
 
 -- the reply is put back from the words of element e
-abbrev pub replyOf : Asked → List ℕ → ℕ → CutReply
+abbrev pub replyOf : Asked → List ℕ → ℕ → ElementReply
 replyOf (asked.Refused n) ms e = reply.Refused n
-replyOf asked.Done ms e = reply.Answered (outputAt ms e)
+replyOf asked.Done ms e = reply.Answered (answerAt ms e)
 
 -- ---- what is known is true
 
 -- asking element e in table t gives answer a, and adds nothing
-pub record Repeats (k : Cutter) (t : Table) (a : ElementCutOutput) (e : ℕ) : Type 0 where
+pub record Repeats (k : Cutter) (t : Table) (a : ElementAnswer) (e : ℕ) : Type 0 where
   pub used : e < elementCount t
   pub again : cutElement desk (cutOf (t .dimension) k) (rank t e) e t ≡ done a t
 
 -- all that is known is repeated by the table as it is now
 pub record Knows (k : Cutter) (ms : List ℕ) (t : Table) : Type 0 where
   pub long : length ms ≡ 1536
-  pub of : (e : ℕ) → e < 512 → knownAt ms e ≡ true → Repeats k t (outputAt ms e) e
+  pub of : (e : ℕ) → e < 512 → knownAt ms e ≡ true → Repeats k t (answerAt ms e) e
 
 -- the memory holds the table, and what is known is true of it
 pub record HoldsKnown (cs : List ℕ) (ps hs : List Float) (es ms : List ℕ) (k : Cutter) (t : Table) : Type 0 where

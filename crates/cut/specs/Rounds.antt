@@ -8,7 +8,7 @@ use Rattle.rules.specs.Limits.{desk}
 use Rattle.rules.specs.Table.{Table, boundary}
 use Rattle.rules.specs.Held.{Extends, Came}
 use Rattle.rules.specs.Cut.{Outcome, refused, done, Gathered, nothingYet, cutElement, cutBoundary}
-use Rattle.rules.specs.declared.CutReply.the-variants as reply
+use Rattle.gathered.specs.declared.answer.ElementReply.the-variants as reply
 use Rattle.space.specs.Chains.{Indexed}
 use Rattle.gathered.specs.Sets.{Answers, Gathers, Sized, NothingYet}
 use Rattle.gathered.specs.Cutting.{Fit, cutOf}

@@ -1,12 +1,12 @@
 // Rule 5: an element asks for its boundary, and the boundary asks for each element. An element asked twice in a cut is answered from what is known.
 use crate::known::Asked;
 use crate::known::KNOWN;
+use crate::known::answer_at;
 use crate::known::is_known;
 use crate::known::keep;
-use crate::known::output_at;
 use gathered::answer;
 use gathered::sets;
-use gathered::sets::FLUSH;
+use gathered::sets::TALLY;
 use rules::Cutter;
 use rules::ElementId;
 use space::rows;
@@ -36,7 +36,7 @@ pub fn cut_element(
         let low = ends::cut_low(counts, points, elements, index, e, rank, k);
         return keep(known, e, low);
     }
-    let mut f = [0u16; FLUSH];
+    let mut f = [0u16; TALLY];
     let mut i = [0u16; SET];
     let mut o = [0u16; SET];
     let mut x = [0u16; SET];
@@ -73,15 +73,15 @@ fn cut_boundary(
     e: ElementId,
     rank: usize,
     k: Cutter,
-    flush: &mut [u16; FLUSH],
+    tally: &mut [u16; TALLY],
     inside: &mut [u16; SET],
     outside: &mut [u16; SET],
     intersections: &mut [u16; SET],
 ) -> Asked
     requires { ⌜ RoundReady (now counts) (now points) (now elements) (now index) (now known) rank (e .0) k
-        (answersIn (now flush) (now inside) (now outside) (now intersections)) ⌝ }
+        (answersIn (now tally) (now inside) (now outside) (now intersections)) ⌝ }
     ensures { λ r. ⌜ BoundaryCut (now (counts .entry)) (now (points .entry)) (now (elements .entry)) (now (known .entry)) rank (e .0) k r
-        (answersIn (now (flush .exit)) (now (inside .exit)) (now (outside .exit)) (now (intersections .exit)))
+        (answersIn (now (tally .exit)) (now (inside .exit)) (now (outside .exit)) (now (intersections .exit)))
         (now (counts .exit)) (now (points .exit)) (now (elements .exit)) (now (index .exit)) (now (known .exit)) ⌝ }
 {
     let n = rows::size_of(elements, e);
@@ -93,8 +93,8 @@ fn cut_boundary(
                 return Asked::Refused(no);
             }
             Asked::Done => {
-                let a = output_at(known, b);
-                sets::gather_in(flush, inside, outside, intersections, b, a);
+                let a = answer_at(known, b);
+                sets::gather_in(tally, inside, outside, intersections, b, a);
             }
         }
     }

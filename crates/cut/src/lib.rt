@@ -6,6 +6,7 @@ mod whole;
 use hypermath::DistanceKind;
 use hypermath::distance_kind;
 use hypermath::is_unit;
+use rules::CutParams;
 use rules::CutReply;
 use rules::ElementCutOutput;
 use rules::ElementId;
@@ -16,18 +17,25 @@ use soundness::sound::memory_indexed;
 use space::chains::INDEX;
 use space::words::wide;
 use whole::cut_finite;
-ghost use mathlib.Core.Bool.{true, false};
+ghost use mathlib.Core.Bool.{false};
 ghost use mathlib.Core.Path.{_≡_};
 ghost use Rattle.rules.specs.Limits.{desk};
 ghost use Rattle.rules.specs.Held.{memoryOf};
-ghost use Rattle.rules.specs.Replies.{isKept, cutReply};
+ghost use Rattle.rules.specs.Replies.{cutBy, cutReply};
 
-fn is_kept(fate: PolytopeFate) -> bool
-    ensures { λ r. ⌜ r ≡ isKept fate ⌝ }
+// Rule 1: the root is given on one side, and no corner is tested.
+fn all_on(inside: ElementOrNone, outside: ElementOrNone) -> CutReply
+    ensures { λ r. ⌜ r ≡ CutReply.Answered (ElementCutOutput.NonFlush inside outside ElementOrNone.None) false ⌝ }
 {
-    match fate {
-        PolytopeFate::Remove => false,
-        PolytopeFate::Keep => true,
+    let intersection = ElementOrNone::None;
+    let output = ElementCutOutput::NonFlush {
+        inside,
+        outside,
+        intersection,
+    };
+    CutReply::Answered {
+        output,
+        warning: false,
     }
 }
 
@@ -37,13 +45,11 @@ pub fn cut(
     points: &mut [f64],
     planes: &mut [f64],
     elements: &mut [u16],
-    divider: Hyperplane,
-    inside: PolytopeFate,
-    outside: PolytopeFate,
+    params: CutParams,
     root: ElementId,
 ) -> CutReply
     ensures { λ r. ⌜ (r, memoryOf (now (counts .exit)) (now (points .exit)) (now (planes .exit)) (now (elements .exit)))
-        ≡ cutReply desk divider (isKept inside) (isKept outside) (root .0) (memoryOf (now (counts .entry)) (now (points .entry)) (now (planes .entry)) (now (elements .entry))) ⌝ }
+        ≡ cutReply desk params (root .0) (memoryOf (now (counts .entry)) (now (points .entry)) (now (planes .entry)) (now (elements .entry))) ⌝ }
 {
     let mut index = [0u16; INDEX];
     if !memory_indexed(counts, points, planes, elements, &mut index) {
@@ -52,6 +58,7 @@ pub fn cut(
     if wide(counts[1]) <= root.0 {
         return CutReply::Refused(4);
     }
+    let divider = params.divider;
     let normal = divider.normal;
     if !is_unit(wide(counts[0]), normal) {
         return CutReply::Refused(5);
@@ -59,22 +66,17 @@ pub fn cut(
     let kind = distance_kind(divider.distance);
     match kind {
         DistanceKind::Unfit => CutReply::Refused(5),
-        DistanceKind::PlusInfinity => CutReply::Answered(ElementCutOutput::NonFlush {
-            inside: ElementOrNone::Some(root),
-            outside: ElementOrNone::None,
-            intersection: ElementOrNone::None,
-        }),
-        DistanceKind::MinusInfinity => CutReply::Answered(ElementCutOutput::NonFlush {
-            inside: ElementOrNone::None,
-            outside: ElementOrNone::Some(root),
-            intersection: ElementOrNone::None,
-        }),
-        DistanceKind::Finite => {
-            let i = is_kept(inside);
-            let o = is_kept(outside);
-            let h = divider;
-            cut_finite(counts, points, planes, elements, &mut index, h, i, o, root)
-        }
+        DistanceKind::PlusInfinity => all_on(ElementOrNone::Some(root), ElementOrNone::None),
+        DistanceKind::MinusInfinity => all_on(ElementOrNone::None, ElementOrNone::Some(root)),
+        DistanceKind::Finite => cut_finite(
+            counts,
+            points,
+            planes,
+            elements,
+            &mut index,
+            params,
+            root,
+        ),
     }
 }
 
@@ -88,20 +90,14 @@ pub fn carve(
     root: ElementId,
 ) -> CutReply
     ensures { λ r. ⌜ (r, memoryOf (now (counts .exit)) (now (points .exit)) (now (planes .exit)) (now (elements .exit)))
-        ≡ cutReply desk divider true false (root .0) (memoryOf (now (counts .entry)) (now (points .entry)) (now (planes .entry)) (now (elements .entry))) ⌝ }
+        ≡ cutReply desk (cutBy divider PolytopeFate.Keep PolytopeFate.Remove) (root .0) (memoryOf (now (counts .entry)) (now (points .entry)) (now (planes .entry)) (now (elements .entry))) ⌝ }
 {
-    let inside = PolytopeFate::Keep;
-    let outside = PolytopeFate::Remove;
-    cut(
-        counts,
-        points,
-        planes,
-        elements,
+    let params = CutParams {
         divider,
-        inside,
-        outside,
-        root,
-    )
+        inside: PolytopeFate::Keep,
+        outside: PolytopeFate::Remove,
+    };
+    cut(counts, points, planes, elements, params, root)
 }
 
 // Keeps what lies on either side.
@@ -114,8 +110,12 @@ pub fn slice(
     root: ElementId,
 ) -> CutReply
     ensures { λ r. ⌜ (r, memoryOf (now (counts .exit)) (now (points .exit)) (now (planes .exit)) (now (elements .exit)))
-        ≡ cutReply desk divider true true (root .0) (memoryOf (now (counts .entry)) (now (points .entry)) (now (planes .entry)) (now (elements .entry))) ⌝ }
+        ≡ cutReply desk (cutBy divider PolytopeFate.Keep PolytopeFate.Keep) (root .0) (memoryOf (now (counts .entry)) (now (points .entry)) (now (planes .entry)) (now (elements .entry))) ⌝ }
 {
-    let both = PolytopeFate::Keep;
-    cut(counts, points, planes, elements, divider, both, both, root)
+    let params = CutParams {
+        divider,
+        inside: PolytopeFate::Keep,
+        outside: PolytopeFate::Keep,
+    };
+    cut(counts, points, planes, elements, params, root)
 }

@@ -2,11 +2,12 @@
 use crate::elements::cut_element;
 use crate::known::Asked;
 use crate::known::KNOWN;
-use crate::known::output_at;
+use crate::known::answer_at;
+use gathered::answer::ElementReply;
+use rules::CutParams;
 use rules::CutReply;
 use rules::Cutter;
 use rules::ElementId;
-use rules::Hyperplane;
 use space::memo::PlacedHyperplane;
 use space::memo::add_hyperplane;
 use space::restore::restore;
@@ -20,31 +21,25 @@ fn cut_named(
     planes: &mut [f64],
     elements: &mut [u16],
     index: &mut [u16],
-    h: Hyperplane,
-    keep_inside: bool,
-    keep_outside: bool,
+    params: CutParams,
     root: ElementId,
-) -> CutReply
-    requires { ⌜ CutReady (now counts) (now points) (now planes) (now elements) (now index) h (root .0) ⌝ }
-    ensures { λ r. ⌜ CutTried (now (counts .entry)) (now (points .entry)) (now (planes .entry)) (now (elements .entry)) h «keep_inside» «keep_outside» (root .0) r
+) -> ElementReply
+    requires { ⌜ CutReady (now counts) (now points) (now planes) (now elements) (now index) (params .divider) (root .0) ⌝ }
+    ensures { λ r. ⌜ CutTried (now (counts .entry)) (now (points .entry)) (now (planes .entry)) (now (elements .entry)) params (root .0) r
         (now (counts .exit)) (now (points .exit)) (now (planes .exit)) (now (elements .exit)) ⌝ }
 {
-    let named = add_hyperplane(counts, planes, h);
+    let divider = params.divider;
+    let named = add_hyperplane(counts, planes, divider);
     match named {
-        PlacedHyperplane::Refused(no) => CutReply::Refused(no),
+        PlacedHyperplane::Refused(no) => ElementReply::Refused(no),
         PlacedHyperplane::At(number) => {
             let rank = rank_of(elements, root);
-            let k = Cutter {
-                divider: h,
-                number,
-                keep_inside,
-                keep_outside,
-            };
+            let k = Cutter { params, number };
             let mut known = [0u16; KNOWN];
             let asked = cut_element(counts, points, elements, index, &mut known, root, rank, k);
             match asked {
-                Asked::Refused(no) => CutReply::Refused(no),
-                Asked::Done => CutReply::Answered(output_at(&known, root)),
+                Asked::Refused(no) => ElementReply::Refused(no),
+                Asked::Done => ElementReply::Answered(answer_at(&known, root)),
             }
         }
     }
@@ -57,34 +52,26 @@ pub fn cut_finite(
     planes: &mut [f64],
     elements: &mut [u16],
     index: &mut [u16],
-    h: Hyperplane,
-    keep_inside: bool,
-    keep_outside: bool,
+    params: CutParams,
     root: ElementId,
 ) -> CutReply
-    requires { ⌜ CutReady (now counts) (now points) (now planes) (now elements) (now index) h (root .0) ⌝ }
-    ensures { λ r. ⌜ WholeCut (now (counts .entry)) (now (points .entry)) (now (planes .entry)) (now (elements .entry)) h «keep_inside» «keep_outside» (root .0) r
+    requires { ⌜ CutReady (now counts) (now points) (now planes) (now elements) (now index) (params .divider) (root .0) ⌝ }
+    ensures { λ r. ⌜ WholeCut (now (counts .entry)) (now (points .entry)) (now (planes .entry)) (now (elements .entry)) params (root .0) r
         (now (counts .exit)) (now (points .exit)) (now (planes .exit)) (now (elements .exit)) ⌝ }
 {
     let e = counts[1];
     let v = counts[2];
     let p = counts[3];
-    let reply = cut_named(
-        counts,
-        points,
-        planes,
-        elements,
-        index,
-        h,
-        keep_inside,
-        keep_outside,
-        root,
-    );
+    let reply = cut_named(counts, points, planes, elements, index, params, root);
     match reply {
-        CutReply::Refused(no) => {
+        ElementReply::Refused(no) => {
             restore(counts, points, planes, elements, e, v, p);
             CutReply::Refused(no)
         }
-        CutReply::Answered(a) => CutReply::Answered(a),
+        ElementReply::Answered(a) => {
+            let output = a.output;
+            let warning = a.warning;
+            CutReply::Answered { output, warning }
+        }
     }
 }

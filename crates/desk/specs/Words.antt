@@ -5,7 +5,9 @@ use mathlib.Core.List.{List, [], _∷_}
 use lib.Dec.{eqb, leb}
 use lib.Ieee.{Float}
 use Rattle.rules.specs.Memory.{Memory}
+use Rattle.rules.specs.Replies.{fateOf}
 use Rattle.rules.specs.declared.Hyperplane.{Hyperplane}
+use Rattle.rules.specs.declared.PolytopeFate.{PolytopeFate}
 use Rattle.rules.specs.declared.ElementOrNone.{ElementOrNone}
 use Rattle.rules.specs.declared.ElementOrNone.the-variants.{None, Some}
 use Rattle.rules.specs.declared.ElementCutOutput.{ElementCutOutput}
@@ -22,15 +24,19 @@ abbrev pub elementWord : ElementOrNone → ℕ
 elementWord None = 0xffff
 elementWord (Some e) = e .0
 
--- bit 8 for flush; else inside in bits 16 to 31, outside in 32 to 47, intersection in 48 to 63
-abbrev pub outputWord : ElementCutOutput → ℕ
-outputWord Flush = 0x100
-outputWord (NonFlush i o x) = elementWord i * 0x10000 + elementWord o * 0x100000000 + elementWord x * 0x1000000000000
+-- bit 9 for a warning
+abbrev pub warningWord : Bool → ℕ
+warningWord w = cond w 0x200 0
+
+-- beside it bit 8 for flush; else inside in bits 16 to 31, outside in 32 to 47, intersection in 48 to 63
+abbrev pub outputWord : ElementCutOutput → Bool → ℕ
+outputWord Flush w = warningWord w + 0x100
+outputWord (NonFlush i o x) w = warningWord w + elementWord i * 0x10000 + elementWord o * 0x100000000 + elementWord x * 0x1000000000000
 
 -- bits 0 to 7 are the reply's number
 abbrev pub cutWord : CutReply × Memory → ℕ × Memory
 cutWord (Refused n, m) = (n, m)
-cutWord (Answered a, m) = (outputWord a, m)
+cutWord (Answered a w, m) = (outputWord a w, m)
 
 -- bits 0 to 7 are the reply's number, and above them stands the size of the list
 abbrev pub sizeWord : ListReply → ℕ
@@ -51,8 +57,8 @@ abbrev pub dividerWith : Float → Float → Float → Float → Float → Hyper
 dividerWith n0 n1 n2 n3 distance = record { normal = n0 ∷ n1 ∷ n2 ∷ n3 ∷ []; distance = distance }
 
 -- 0 removes a side, and any other number keeps it
-abbrev pub keptBy : ℕ → Bool
-keptBy n = not (eqb n 0)
+abbrev pub fateBy : ℕ → PolytopeFate
+fateBy n = fateOf (not (eqb n 0))
 
 -- a rank as a byte; one that no byte holds is 255, which no element has either
 abbrev pub rankByte : ℕ → ℕ

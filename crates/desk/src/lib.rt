@@ -1,5 +1,6 @@
 // Every entry point for hosts: slices as a pointer and a length, and numbers of 32 bits, so that none is cut to another on its way.
 use elements::questions;
+use rules::CutParams;
 use rules::CutReply;
 use rules::ElementCutOutput;
 use rules::ElementId;
@@ -13,14 +14,14 @@ ghost use mathlib.Core.Path.{_≡_};
 ghost use Rattle.rules.specs.Limits.{desk};
 ghost use Rattle.rules.specs.Held.{memoryOf};
 ghost use Rattle.rules.specs.Files.{saveReply, openReply};
-ghost use Rattle.rules.specs.Replies.{isKept, isSoundReply, cubeReply, cutReply, subElementsReply, withRankReply, vertexSetReply, greatestCommonReply, edgesInOrderReply, primordialFacetReply};
+ghost use Rattle.rules.specs.Replies.{isSoundReply, cubeReply, cutBy, cutReply, subElementsReply, withRankReply, vertexSetReply, greatestCommonReply, edgesInOrderReply, primordialFacetReply};
 ghost use Rattle.rules.specs.Promises.{OneBelow, NamesBelow};
 ghost use Rattle.space.specs.Numbers.{NumberBelow};
-ghost use Rattle.desk.specs.Words.{elementWord, outputWord, cutWord, sizeWord, SizeFits, listWord, facetWord, dividerWith, keptBy, rankByte};
+ghost use Rattle.desk.specs.Words.{elementWord, warningWord, outputWord, cutWord, sizeWord, SizeFits, listWord, facetWord, dividerWith, fateBy, rankByte};
 
 // 0 removes a side, and any other number keeps it.
 fn fate(kept: u32) -> PolytopeFate
-    ensures { λ r. ⌜ isKept r ≡ keptBy kept ⌝ }
+    ensures { λ r. ⌜ r ≡ fateBy kept ⌝ }
 {
     if kept == 0 {
         return PolytopeFate::Remove;
@@ -48,12 +49,22 @@ fn element_word(e: ElementOrNone) -> u64
     }
 }
 
-fn output_word(a: ElementCutOutput) -> u64
-    requires { ⌜ NamesBelow (desk .elements) a ⌝ }
-    ensures { λ r. ⌜ r ≡ outputWord a ⌝ }
+fn warning_word(warning: bool) -> u64
+    ensures { λ r. ⌜ NumberBelow r (warningWord warning) 0x201 ⌝ }
 {
+    if warning {
+        return 0x200;
+    }
+    0
+}
+
+fn output_word(a: ElementCutOutput, warning: bool) -> u64
+    requires { ⌜ NamesBelow (desk .elements) a ⌝ }
+    ensures { λ r. ⌜ r ≡ outputWord a warning ⌝ }
+{
+    let w = warning_word(warning);
     match a {
-        ElementCutOutput::Flush => 0x100,
+        ElementCutOutput::Flush => w + 0x100,
         ElementCutOutput::NonFlush {
             inside,
             outside,
@@ -62,7 +73,7 @@ fn output_word(a: ElementCutOutput) -> u64
             let i = element_word(inside);
             let o = element_word(outside);
             let x = element_word(intersection);
-            i * 0x10000 + o * 0x1_0000_0000 + x * 0x1_0000_0000_0000
+            w + i * 0x10000 + o * 0x1_0000_0000 + x * 0x1_0000_0000_0000
         }
     }
 }
@@ -122,17 +133,22 @@ pub extern "C" fn desk_cut(
     root: u32,
 ) -> u64
     ensures { λ r. ⌜ (r, memoryOf (now (counts .exit)) (now (points .exit)) (now (planes .exit)) (now (elements .exit))) ≡
-        cutWord (cutReply desk (dividerWith n0 n1 n2 n3 distance) (keptBy inside) (keptBy outside) root (memoryOf (now (counts .entry)) (now (points .entry)) (now (planes .entry)) (now (elements .entry)))) ⌝ }
+        cutWord (cutReply desk (cutBy (dividerWith n0 n1 n2 n3 distance) (fateBy inside) (fateBy outside)) root (memoryOf (now (counts .entry)) (now (points .entry)) (now (planes .entry)) (now (elements .entry)))) ⌝ }
 {
     let normal = [n0, n1, n2, n3];
     let divider = Hyperplane { normal, distance };
-    let i = fate(inside);
-    let o = fate(outside);
+    let inside = fate(inside);
+    let outside = fate(outside);
+    let params = CutParams {
+        divider,
+        inside,
+        outside,
+    };
     let root = ElementId(root as usize);
-    let reply = cut::cut(counts, points, planes, elements, divider, i, o, root);
+    let reply = cut::cut(counts, points, planes, elements, params, root);
     match reply {
         CutReply::Refused(no) => no as u64,
-        CutReply::Answered(a) => output_word(a),
+        CutReply::Answered { output, warning } => output_word(output, warning),
     }
 }
 

@@ -9,18 +9,18 @@ use lib.ListN.{length, getD, take, set}
 use lib.Ieee.{Float}
 use Rattle.rules.specs.Limits.{desk}
 use Rattle.rules.specs.Lists.{pad}
-use Rattle.rules.specs.Floats.{plusZero, sideOf, edgeTest, crossingPoint}
+use Rattle.rules.specs.Floats.{plusZero, sideOf, sideTest, crossingOf, crossingPoint}
 use Rattle.rules.specs.Table.{Element, Table, rankOf, rank, boundary, element, pointAt}
 use Rattle.rules.specs.Held.{Extends, Holds, Came, went, stopped, Sets, Ranked}
-use Rattle.rules.specs.Cut.{Outcome, done, next, give, Cutting, Gathered, cornerAnswer, nothingYet, addVertex, crossEdge, cutEnds, cutEdge, cutElement, rule6}
+use Rattle.rules.specs.Cut.{Outcome, done, next, give, Cutting, Gathered, cornerOutput, cornerAnswer, nothingYet, addVertex, crossEdge, cutEnds, cutEdge, cutElement, rule6}
 use Rattle.rules.specs.declared.Side.{Side}
 use Rattle.rules.specs.declared.Side.the-variants.{Inside, On, Outside}
 use Rattle.rules.specs.declared.Crossing.{Crossing}
 use Rattle.rules.specs.declared.Crossing.the-variants.{None as NoCrossing, At}
 use Rattle.rules.specs.declared.ElementId.{ElementId}
-use Rattle.rules.specs.declared.ElementCutOutput.{ElementCutOutput}
-use Rattle.rules.specs.declared.CutReply.{CutReply}
-use Rattle.rules.specs.declared.CutReply.the-variants as reply
+use Rattle.rules.specs.declared.ElementAnswer.{ElementAnswer}
+use Rattle.gathered.specs.declared.answer.ElementReply.{ElementReply}
+use Rattle.gathered.specs.declared.answer.ElementReply.the-variants as reply
 use Rattle.rules.proofs.Extends.{extends-trans, begins-length, count-more, element-same}
 use Rattle.rules.proofs.Good.{Good, sound-good, good-sound}
 use Rattle.rules.proofs.Ranked.{corner-answer, sets-gathering, sets-none}
@@ -39,7 +39,7 @@ use Rattle.space.proofs.Slices.{slices}
 use Rattle.gathered.specs.Sets.{Answers, answersIn, Gathers, Sized, NothingYet, OutputInRoom, AnswerGathered}
 use Rattle.gathered.specs.Cutting.{Fit, cutOf, Rule6Fit, Rule6Ready, Rule6Done}
 use Rattle.rules.specs.declared.Cutter.{Cutter}
-use Rattle.gathered.proofs.Gathering.{at-most, said-count, said-last, said-long}
+use Rattle.gathered.proofs.Gathering.{at-most, said-count, said-last, said-warning, said-long}
 use Rattle.ends.specs.Ends.{PointAsked, EndsReady, EndsRead, EndsAsked, endsOf, EndsGathered, crossedOf, afterEnds, CrossedFit, CrossedReady, CrossedAsked, CrossedCut, CrossedLeft}
 use Rattle.ends.specs.declared.EdgeEnds.{EdgeEnds}
 use Rattle.ends.specs.Elements.{Ready, ElementCut, LowAsked, LowLeft}
@@ -51,28 +51,28 @@ use Rattle.ends.proofs.Vertices as vertex
 pub sized-more : {s : Answers} (i m : ℕ) → i ≤ m → Sized s i → Sized s m
 sized-more i m h z = record {
   flushes = le-trans (z .flushes) h;
-  flush = z .flush;
+  tally = z .tally;
   inside = at-most i m h (z .inside);
   outside = at-most i m h (z .outside);
   intersections = at-most i m h (z .intersections);
 }
 
 -- an end answers with itself or with nothing
-corner-room : (a : ℕ) (side : Side) → a < 512 → OutputInRoom (cornerAnswer a side)
+corner-room : (a : ℕ) (side : Side) → a < 512 → OutputInRoom (cornerOutput a side)
 corner-room a Inside h = record { inside = h; outside = tt; intersection = tt }
 corner-room a On h = tt
 corner-room a Outside h = record { inside = tt; outside = h; intersection = tt }
 
 -- so does the code
-pub answer-room : {y : ElementCutOutput} (a : ℕ) (s : Float) → a < 512 → y ≡ cornerAnswer a (sideOf s) → OutputInRoom y
-answer-room a s h q = subst OutputInRoom (sym q) (corner-room a (sideOf s) h)
+pub answer-room : {y : ElementAnswer} (a : ℕ) (s : Float) → a < 512 → y ≡ cornerAnswer a (sideTest s) → OutputInRoom (y .output)
+answer-room a s h q = subst (λ (z : ElementAnswer). OutputInRoom (z .output)) (sym q) (corner-room a (sideOf s) h)
 
 -- the two ends in turn, from words that hold no answer
-pub ends-gathered : {s s₁ s₂ : Answers} {x y : ElementCutOutput} (a b : ℕ) (sa sb : Float) → NothingYet s → x ≡ cornerAnswer a (sideOf sa) → AnswerGathered s a x s₁
-    → y ≡ cornerAnswer b (sideOf sb) → AnswerGathered s₁ b y s₂ → EndsGathered a b sa sb s₂
+pub ends-gathered : {s s₁ s₂ : Answers} {x y : ElementAnswer} (a b : ℕ) (sa sb : Float) → NothingYet s → x ≡ cornerAnswer a (sideTest sa) → AnswerGathered s a x s₁
+    → y ≡ cornerAnswer b (sideTest sb) → AnswerGathered s₁ b y s₂ → EndsGathered a b sa sb s₂
 ends-gathered {s} {s₁} {s₂} a b sa sb N qx X qy Y =
-    let first : AnswerGathered s a (cornerAnswer a (sideOf sa)) s₁ = subst (λ (z : ElementCutOutput). AnswerGathered s a z s₁) qx X in
-    let second : AnswerGathered s₁ b (cornerAnswer b (sideOf sb)) s₂ = subst (λ (z : ElementCutOutput). AnswerGathered s₁ b z s₂) qy Y in
+    let first : AnswerGathered s a (cornerAnswer a (sideTest sa)) s₁ = subst (λ (z : ElementAnswer). AnswerGathered s a z s₁) qx X in
+    let second : AnswerGathered s₁ b (cornerAnswer b (sideTest sb)) s₂ = subst (λ (z : ElementAnswer). AnswerGathered s₁ b z s₂) qy Y in
     record { of = second .of _ (first .of _ (N .of)); sized = second .sized 1 (first .sized 0 (N .sized)) }
 
 -- whatever is gathered: that, with vertex element v as the flush one
@@ -80,11 +80,18 @@ pub record Crossed (s : Answers) (v : ℕ) (s′ : Answers) : Type 0 where
   pub of : (g : Gathered) → Gathers s g → Gathers s′ (crossedOf v g)
   pub sized : (m : ℕ) → 1 ≤ m → Sized s m → Sized s′ m
 
--- the flush words say so once the count is 1 and the last one is v
-pub crossed : (f i o x : List ℕ) (v : ℕ) → length f ≡ 2 → Crossed (answersIn f i o x) v (answersIn (set (set f 0 1) 1 v) i o x)
+-- the tally says so once the count is 1 and the last one is v
+pub crossed : (f i o x : List ℕ) (v : ℕ) → length f ≡ 3 → Crossed (answersIn f i o x) v (answersIn (set (set f 0 1) 1 v) i o x)
 crossed f i o x v long = record {
-  of = λ g G. record { flushes = said-count f 1 v long; flush = said-last f 1 v long; inside = G .inside; outside = G .outside; intersections = G .intersections };
-  sized = λ m h Z. record { flushes = le-trans (le-of-eq (said-count f 1 v long)) h; flush = said-long f 1 v long; inside = Z .inside; outside = Z .outside; intersections = Z .intersections };
+  of = λ g G. record {
+    flushes = said-count f 1 v long;
+    flush = said-last f 1 v long;
+    inside = G .inside;
+    outside = G .outside;
+    intersections = G .intersections;
+    warning = said-warning f 1 v long ∙ G .warning;
+  };
+  sized = λ m h Z. record { flushes = le-trans (le-of-eq (said-count f 1 v long)) h; tally = said-long f 1 v long; inside = Z .inside; outside = Z .outside; intersections = Z .intersections };
 }
 
 -- ---- the crossing is matched or appended
@@ -142,7 +149,7 @@ module _ {cs : List ℕ} {ps : List Float} {es : List ℕ} {e : ℕ} {k : Cutter
             let z : crossEdge desk p q (At f) g t ≡ done (crossedOf i g) u = ap (λ (y : Outcome ℕ). next y (λ v. give (crossedOf v g))) (o ∙ ap (λ (n : ℕ). done n u) r) in
             record { table = u; ended = z; kept = subst (Stays desk (Sets 0) t) z crossing-kept; holds = H }
 
-    abbrev whole : Outcome ElementCutOutput
+    abbrev whole : Outcome ElementAnswer
     whole = afterEnds (cutOf (t .dimension) k) (element t e) (crossEdge desk p q (At f) g t)
 
     module _ (i : ℕ) (Q : Left i) where
@@ -160,7 +167,7 @@ module _ {cs : List ℕ} {ps : List Float} {es : List ℕ} {e : ℕ} {k : Cutter
         sets = Q .kept .value;
       }
 
-      abbrev rest : Outcome ElementCutOutput
+      abbrev rest : Outcome ElementAnswer
       rest = rule6 desk (cutOf (Q .table .dimension) k) (element (Q .table) e) (crossedOf i g) (i ∷ []) (Q .table)
 
       same : whole ≡ rest
@@ -169,7 +176,7 @@ module _ {cs : List ℕ} {ps : List Float} {es : List ℕ} {e : ℕ} {k : Cutter
           ∙ ap₂ (λ (n : ℕ) (z : Element). rule6 desk (cutOf n k) z (crossedOf i g) (i ∷ []) (Q .table))
           (sym (Q .kept .extends .dimension)) (sym (element-same t (Q .table) e (Q .kept .extends) (X .fit .used)))
 
-      after-left : {y : CutReply} {cs″ es″ : List ℕ} → Came reply.Answered reply.Refused (Holds desk cs″ ps′ hs es″) (Q .table) rest y
+      after-left : {y : ElementReply} {cs″ es″ : List ℕ} → Came reply.Answered reply.Refused (Holds desk cs″ ps′ hs es″) (Q .table) rest y
           → Came reply.Answered reply.Refused (Holds desk cs″ ps′ hs es″) t whole y
       after-left (went a u o l H) = went a u (same ∙ o) l H
       after-left (stopped n u o l z H) = stopped n u (same ∙ o) l (extends-trans (Q .kept .extends) z) H
@@ -195,7 +202,7 @@ module _ {cs : List ℕ} {ps : List Float} {es : List ℕ} {e : ℕ} {k : Cutter
           let Q = left (R .fit) (v .0) h in
           record { points = ps′; planes = R .planes; table = Q .table; gathered = crossedOf (v .0) (R .gathered); fit = left-ready (R .fit) (v .0) Q C; indexed = indexed }
 
-      pub crossed-done : {y : CutReply} {cs″ es″ ix″ : List ℕ} → Rule6Done cs′ es′ 1 e k s′ y cs″ es″ ix″ → CrossedLeft cs ps es e k s x y cs″ ps′ es″ ix″
+      pub crossed-done : {y : ElementReply} {cs″ es″ ix″ : List ℕ} → Rule6Done cs′ es′ 1 e k s′ y cs″ es″ ix″ → CrossedLeft cs ps es e k s x y cs″ ps′ es″ ix″
       crossed-done D = record {
         cut = record {
           of = λ hs t p q f g X. (let Q = left X (v .0) h in after-left X (v .0) Q (D .of ps′ hs (Q .table) (crossedOf (v .0) g) (left-ready X (v .0) Q C)));
@@ -254,7 +261,7 @@ module _ {ps : List Float} {es : List ℕ} {e : ℕ} (R : EndsReady ps es e) whe
 
 -- what the edge test says of the two ends
 abbrev pub tested : ℕ → Cutter → EdgeEnds → Crossing
-tested d k r = edgeTest (distanceTo d (k .divider) (r .p)) (distanceTo d (k .divider) (r .q))
+tested d k r = crossingOf (distanceTo d (k .params .divider) (r .p)) (distanceTo d (k .params .divider) (r .q))
 
 module _ (k : Cutter) (d : ℕ) (r : EdgeEnds) (sa sb : Float) where
   abbrev a : ℕ
@@ -266,8 +273,8 @@ module _ (k : Cutter) (d : ℕ) (r : EdgeEnds) (sa sb : Float) where
   abbrev answered : Gathered
   answered = endsOf a b sa sb
 
-  module _ {cs : List ℕ} {ps : List Float} {es : List ℕ} {e : ℕ} (hd : d ≡ getD cs 0 0) (E : EndsRead ps es e r) (ha : sa ≡ distanceTo d (k .divider) (r .p))
-      (hb : sb ≡ distanceTo d (k .divider) (r .q)) where
+  module _ {cs : List ℕ} {ps : List Float} {es : List ℕ} {e : ℕ} (hd : d ≡ getD cs 0 0) (E : EndsRead ps es e r) (ha : sa ≡ distanceTo d (k .params .divider) (r .p))
+      (hb : sb ≡ distanceTo d (k .params .divider) (r .q)) where
     module _ {hs : List Float} {t : Table} (F : Fit cs ps hs es 1 e k t) where
       abbrev c : Cutting
       c = cutOf (t .dimension) k
@@ -284,16 +291,16 @@ module _ (k : Cutter) (d : ℕ) (r : EdgeEnds) (sa sb : Float) where
       opened z h =
           ap₂ (λ (x y : ℕ). afterEnds c (element t e) (cutEnds desk c x y (pointAt t x) (pointAt t y) t))
           (sym (end-is F 0 a (lit≤ tt) (E .first))) (sym (end-is F 1 b (lit≤ tt) (E .second)))
-          ∙ ap₂ (λ (x y : Float). afterEnds c (element t e) (crossEdge desk (pointAt t a) (pointAt t b) (edgeTest x y) (endsOf a b x y) t))
+          ∙ ap₂ (λ (x y : Float). afterEnds c (element t e) (crossEdge desk (pointAt t a) (pointAt t b) (crossingOf x y) (endsOf a b x y) t))
           (sym (ha ∙ vertex.distance-is fa d (r .p) hd (E .firstPoint))) (sym (hb ∙ vertex.distance-is fb d (r .q) hd (E .secondPoint)))
-          ∙ ap (λ (x : Crossing). afterEnds c (element t e) (crossEdge desk (pointAt t a) (pointAt t b) x answered t)) (sym (h ∙ ap₂ edgeTest (sym ha) (sym hb)))
+          ∙ ap (λ (x : Crossing). afterEnds c (element t e) (crossEdge desk (pointAt t a) (pointAt t b) x answered t)) (sym (h ∙ ap₂ crossingOf (sym ha) (sym hb)))
 
       ends-sets : Sets 0 answered t
       ends-sets =
           let ra = end-ranked F 0 a (lit≤ tt) (E .first) in
           let rb = end-ranked F 1 b (lit≤ tt) (E .second) in
-          sets-gathering 0 b (cornerAnswer b (sideOf sb)) _ t rb (corner-answer t b (sideOf sb) rb)
-          (sets-gathering 0 a (cornerAnswer a (sideOf sa)) nothingYet t ra (corner-answer t a (sideOf sa) ra) (sets-none 0 t))
+          sets-gathering 0 b (cornerAnswer b (sideTest sb)) _ t rb (corner-answer t b (sideOf sb) rb)
+          (sets-gathering 0 a (cornerAnswer a (sideTest sa)) nothingYet t ra (corner-answer t a (sideOf sa) ra) (sets-none 0 t))
 
     module _ {s : Answers} (G : EndsGathered a b sa sb s) where
       -- no crossing
@@ -310,12 +317,12 @@ module _ (k : Cutter) (d : ℕ) (r : EdgeEnds) (sa sb : Float) where
         indexed = A .indexed;
       }
 
-      pub missed-cut : {y : CutReply} {cs′ es′ ix′ : List ℕ} → (z : Crossing) → z ≡ tested d k r → z ≡ NoCrossing → Rule6Done cs es 1 e k s y cs′ es′ ix′
+      pub missed-cut : {y : ElementReply} {cs′ es′ ix′ : List ℕ} → (z : Crossing) → z ≡ tested d k r → z ≡ NoCrossing → Rule6Done cs es 1 e k s y cs′ es′ ix′
           → LowLeft cs ps es 1 e k y cs′ ps es′ ix′
       missed-cut {y} {cs′} {es′} z h m D = record {
         cut = record {
           of = λ hs t F.
-              subst (λ (o : Outcome ElementCutOutput). Came reply.Answered reply.Refused (Holds desk cs′ ps hs es′) t o y) (sym (opened F NoCrossing (sym m ∙ h)))
+              subst (λ (o : Outcome ElementAnswer). Came reply.Answered reply.Refused (Holds desk cs′ ps hs es′) t o y) (sym (opened F NoCrossing (sym m ∙ h)))
               (D .of ps hs t answered (missed-fit F));
         };
         indexed = D .indexed;
@@ -346,16 +353,16 @@ module _ (k : Cutter) (d : ℕ) (r : EdgeEnds) (sa sb : Float) where
           fit = crossing-fit (R .fit);
         }
 
-        pub crossing-cut : {y : CutReply} {cs′ : List ℕ} {ps′ : List Float} {es′ : List ℕ} → (z : Crossing) → z ≡ tested d k r → z ≡ At f → CrossedCut cs ps es e k s x y cs′ ps′ es′
+        pub crossing-cut : {y : ElementReply} {cs′ : List ℕ} {ps′ : List Float} {es′ : List ℕ} → (z : Crossing) → z ≡ tested d k r → z ≡ At f → CrossedCut cs ps es e k s x y cs′ ps′ es′
             → ElementCut cs ps es 1 e k y cs′ ps′ es′
         crossing-cut {y} {cs′} {ps′} {es′} z h m D = record {
           of = λ hs t F.
-              subst (λ (o : Outcome ElementCutOutput). Came reply.Answered reply.Refused (Holds desk cs′ ps′ hs es′) t o y) (sym (opened F (At f) (sym m ∙ h)))
+              subst (λ (o : Outcome ElementAnswer). Came reply.Answered reply.Refused (Holds desk cs′ ps′ hs es′) t o y) (sym (opened F (At f) (sym m ∙ h)))
               (D .of hs t (pointAt t a) (pointAt t b) f answered (crossing-fit F));
         }
 
 -- ---- an element of rank 1
 
-pub edge-left : {cs : List ℕ} {ps : List Float} {es : List ℕ} {r e : ℕ} {k : Cutter} {y : CutReply} {cs′ : List ℕ} {ps′ : List Float} {es′ ix′ : List ℕ} → r ≡ 1
+pub edge-left : {cs : List ℕ} {ps : List Float} {es : List ℕ} {r e : ℕ} {k : Cutter} {y : ElementReply} {cs′ : List ℕ} {ps′ : List Float} {es′ ix′ : List ℕ} → r ≡ 1
     → LowLeft cs ps es 1 e k y cs′ ps′ es′ ix′ → LowLeft cs ps es r e k y cs′ ps′ es′ ix′
 edge-left {cs} {ps} {es} {r} {e} {k} {y} {cs′} {ps′} {es′} {ix′} q C = subst (λ (n : ℕ). LowLeft cs ps es n e k y cs′ ps′ es′ ix′) (sym q) C

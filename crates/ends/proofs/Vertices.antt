@@ -9,13 +9,13 @@ use lib.ListN.{length, getD, take}
 use lib.Ieee.{Float, nan}
 use Rattle.rules.specs.Limits.{desk}
 use Rattle.rules.specs.Lists.{pad}
-use Rattle.rules.specs.Floats.{plusZero, signedDistance, sideOf}
+use Rattle.rules.specs.Floats.{plusZero, signedDistance, sideTest}
 use Rattle.rules.specs.Table.{Element, corner, polytope, Table, element, pointAt, pointOf}
 use Rattle.rules.specs.Sound.{soundPoint}
 use Rattle.rules.specs.Held.{pointsOf, went}
 use Rattle.rules.specs.Cut.{cornerAnswer, distanceOf, done, cutElement, cutCorner}
-use Rattle.rules.specs.declared.ElementCutOutput.{ElementCutOutput}
-use Rattle.rules.specs.declared.CutReply.the-variants as reply
+use Rattle.rules.specs.declared.ElementAnswer.{ElementAnswer}
+use Rattle.gathered.specs.declared.answer.ElementReply.the-variants as reply
 use Rattle.hypermath.specs.Answers.{distanceTo}
 use Rattle.rules.proofs.Corners.{corner-named}
 use Rattle.rules.proofs.Good.{Good, sound-good, above-zero}
@@ -82,15 +82,15 @@ module _ {cs : List ℕ} {ps hs : List Float} {es : List ℕ} {e : ℕ} {k : Cut
   taken-is p h = ap (take (t .dimension)) (h ∙ stored-is) ∙ point-back desk readable-desk (t .dimension) (pointAt t e) point-sound
 
   pub distance-is : (d : ℕ) (p : List Float) → d ≡ getD cs 0 0 → p ≡ storedPoint ps (getD es (e * 36 + 4) 0)
-      → distanceTo d (k .divider) p ≡ distanceOf (cutOf (t .dimension) k) (pointAt t e)
+      → distanceTo d (k .params .divider) p ≡ distanceOf (cutOf (t .dimension) k) (pointAt t e)
   distance-is d p hd hp =
-      ap (λ (n : ℕ). distanceTo n (k .divider) p) (dimension-is d hd (F .holds))
-      ∙ ap (signedDistance (take (t .dimension) (k .divider .normal)) (k .divider .distance)) (taken-is p hp)
+      ap (λ (n : ℕ). distanceTo n (k .params .divider) p) (dimension-is d hd (F .holds))
+      ∙ ap (signedDistance (take (t .dimension) (k .params .divider .normal)) (k .params .divider .distance)) (taken-is p hp)
 
-pub corner-cut : {cs : List ℕ} {ps : List Float} {es : List ℕ} {e : ℕ} {k : Cutter} {r : ElementCutOutput} (d : ℕ) (p : List Float) (s : Float) → d ≡ getD cs 0 0
-    → p ≡ storedPoint ps (getD es (e * 36 + 4) 0) → s ≡ distanceTo d (k .divider) p → r ≡ cornerAnswer e (sideOf s) → CornerCut cs ps es e k r
+pub corner-cut : {cs : List ℕ} {ps : List Float} {es : List ℕ} {e : ℕ} {k : Cutter} {r : ElementAnswer} (d : ℕ) (p : List Float) (s : Float) → d ≡ getD cs 0 0
+    → p ≡ storedPoint ps (getD es (e * 36 + 4) 0) → s ≡ distanceTo d (k .params .divider) p → r ≡ cornerAnswer e (sideTest s) → CornerCut cs ps es e k r
 corner-cut {e = e} d p s hd hp hs hr = record {
-  of = λ planes t F. hr ∙ ap (λ (x : Float). cornerAnswer e (sideOf x)) (hs ∙ distance-is F d p hd hp);
+  of = λ planes t F. hr ∙ ap (λ (x : Float). cornerAnswer e (sideTest x)) (hs ∙ distance-is F d p hd hp);
 }
 
 -- ---- an element of rank 0
@@ -98,7 +98,7 @@ corner-cut {e = e} d p s hd hp hs hr = record {
 pub low-at : {cs : List ℕ} {ps : List Float} {es ix : List ℕ} {r e : ℕ} {k : Cutter} (n : ℕ) → r ≡ n → LowAsked cs ps es ix r e k → LowAsked cs ps es ix n e k
 low-at {cs} {ps} {es} {ix} {r} {e} {k} n q A = subst (λ (i : ℕ). LowAsked cs ps es ix i e k) q A
 
-pub corner-left : {cs : List ℕ} {ps : List Float} {es ix : List ℕ} {r e : ℕ} {k : Cutter} {a : ElementCutOutput} → r ≡ 0 → CornerCut cs ps es e k a
+pub corner-left : {cs : List ℕ} {ps : List Float} {es ix : List ℕ} {r e : ℕ} {k : Cutter} {a : ElementAnswer} → r ≡ 0 → CornerCut cs ps es e k a
     → Indexed es (getD cs 1 0) ix → LowLeft cs ps es r e k (reply.Answered a) cs ps es ix
 unfolding cutElement cutCorner
 corner-left {cs} {ps} {es} {ix} {r} {e} {k} {a} q C I = record {
@@ -106,7 +106,7 @@ corner-left {cs} {ps} {es} {ix} {r} {e} {k} {a} q C I = record {
     of = λ hs t F.
         (let G : Fit cs ps hs es 0 e k t = subst (λ (n : ℕ). Fit cs ps hs es n e k t) q F in
         went a t
-        (ap (λ (n : ℕ). cutElement desk (cutOf (t .dimension) k) n e t) q ∙ ap (λ (x : ElementCutOutput). done x t) (sym (C .of hs t G)))
+        (ap (λ (n : ℕ). cutElement desk (cutOf (t .dimension) k) n e t) q ∙ ap (λ (x : ElementAnswer). done x t) (sym (C .of hs t G)))
         refl (F .holds));
   };
   indexed = I;

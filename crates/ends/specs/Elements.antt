@@ -7,8 +7,8 @@ use Rattle.rules.specs.Limits.{desk}
 use Rattle.rules.specs.Table.{Table}
 use Rattle.rules.specs.Held.{Holds, Came}
 use Rattle.rules.specs.Cut.{cutElement}
-use Rattle.rules.specs.declared.CutReply.{CutReply}
-use Rattle.rules.specs.declared.CutReply.the-variants as reply
+use Rattle.gathered.specs.declared.answer.ElementReply.{ElementReply}
+use Rattle.gathered.specs.declared.answer.ElementReply.the-variants as reply
 use Rattle.space.specs.Chains.{Indexed}
 use Rattle.gathered.specs.Cutting.{Fit, cutOf}
 use Rattle.rules.specs.declared.Cutter.{Cutter}
@@ -20,7 +20,7 @@ pub record Ready (cs : List ℕ) (ps : List Float) (es : List ℕ) (r e : ℕ) (
   pub fit : Fit cs ps planes es r e k table
 
 -- whatever such table the memory holds: the cut of element e
-pub record ElementCut (cs : List ℕ) (ps : List Float) (es : List ℕ) (r e : ℕ) (k : Cutter) (x : CutReply) (cs′ : List ℕ) (ps′ : List Float) (es′ : List ℕ) : Type 0 where
+pub record ElementCut (cs : List ℕ) (ps : List Float) (es : List ℕ) (r e : ℕ) (k : Cutter) (x : ElementReply) (cs′ : List ℕ) (ps′ : List Float) (es′ : List ℕ) : Type 0 where
   pub of : (hs : List Float) (t : Table) → Fit cs ps hs es r e k t
       → Came reply.Answered reply.Refused (Holds desk cs′ ps′ hs es′) t (cutElement desk (cutOf (t .dimension) k) r e t) x
 
@@ -31,7 +31,7 @@ pub record LowAsked (cs : List ℕ) (ps : List Float) (es ix : List ℕ) (r e : 
   pub indexed : Indexed es (getD cs 1 0) ix
 
 -- its cut, with the rows indexed as well
-pub record LowLeft (cs : List ℕ) (ps : List Float) (es : List ℕ) (r e : ℕ) (k : Cutter) (x : CutReply)
+pub record LowLeft (cs : List ℕ) (ps : List Float) (es : List ℕ) (r e : ℕ) (k : Cutter) (x : ElementReply)
     (cs′ : List ℕ) (ps′ : List Float) (es′ ix′ : List ℕ) : Type 0 where
   pub cut : ElementCut cs ps es r e k x cs′ ps′ es′
   pub indexed : Indexed es′ (getD cs′ 1 0) ix′

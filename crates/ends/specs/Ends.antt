@@ -7,15 +7,15 @@ use lib.ListN.{length, getD}
 use lib.Ieee.{Float}
 use Rattle.rules.specs.Limits.{desk}
 use Rattle.rules.specs.Lists.{pad}
-use Rattle.rules.specs.Floats.{plusZero, sideOf, crossingPoint}
+use Rattle.rules.specs.Floats.{plusZero, sideTest, crossingPoint}
 use Rattle.rules.specs.Table.{Table, Element, element, pointAt}
 use Rattle.rules.specs.Sound.{soundPoint}
 use Rattle.rules.specs.Held.{Holds, Came, Sets}
 use Rattle.rules.specs.Cut.{Outcome, next, Cutting, Gathered, cornerAnswer, distanceOf, gathering, nothingYet, crossEdge, rule6}
 use Rattle.rules.specs.declared.Crossing.the-variants.{At}
-use Rattle.rules.specs.declared.ElementCutOutput.{ElementCutOutput}
-use Rattle.rules.specs.declared.CutReply.{CutReply}
-use Rattle.rules.specs.declared.CutReply.the-variants as reply
+use Rattle.rules.specs.declared.ElementAnswer.{ElementAnswer}
+use Rattle.gathered.specs.declared.answer.ElementReply.{ElementReply}
+use Rattle.gathered.specs.declared.answer.ElementReply.the-variants as reply
 use Rattle.space.specs.Chains.{Indexed}
 use Rattle.space.specs.Shared.{storedPoint}
 use Rattle.gathered.specs.Sets.{Answers, Gathers, Sized, NothingYet}
@@ -33,8 +33,8 @@ pub record PointAsked (ps : List Float) (es : List ℕ) (e : ℕ) : Type 0 where
   pub vertex : getD es (e * 36 + 4) 0 < 256
 
 -- whatever table that may be cut the memory holds, in which element e is a vertex: its answer
-pub record CornerCut (cs : List ℕ) (ps : List Float) (es : List ℕ) (e : ℕ) (k : Cutter) (r : ElementCutOutput) : Type 0 where
-  pub of : (hs : List Float) (t : Table) → Fit cs ps hs es 0 e k t → r ≡ cornerAnswer e (sideOf (distanceOf (cutOf (t .dimension) k) (pointAt t e)))
+pub record CornerCut (cs : List ℕ) (ps : List Float) (es : List ℕ) (e : ℕ) (k : Cutter) (r : ElementAnswer) : Type 0 where
+  pub of : (hs : List Float) (t : Table) → Fit cs ps hs es 0 e k t → r ≡ cornerAnswer e (sideTest (distanceOf (cutOf (t .dimension) k) (pointAt t e)))
 
 -- ---- the two ends of an edge
 
@@ -61,7 +61,7 @@ pub record EndsAsked (a b : ℕ) (s : Answers) : Type 0 where
 
 -- what the ends a and b answer, gathered
 abbrev pub endsOf : ℕ → ℕ → Float → Float → Gathered
-endsOf a b sa sb = gathering b (cornerAnswer b (sideOf sb)) (gathering a (cornerAnswer a (sideOf sa)) nothingYet)
+endsOf a b sa sb = gathering b (cornerAnswer b (sideTest sb)) (gathering a (cornerAnswer a (sideTest sa)) nothingYet)
 
 -- the code holds what the two ends answer
 pub record EndsGathered (a b : ℕ) (sa sb : Float) (r : Answers) : Type 0 where
@@ -72,10 +72,10 @@ pub record EndsGathered (a b : ℕ) (sa sb : Float) (r : Answers) : Type 0 where
 
 -- what is gathered, with vertex element v as the flush one
 abbrev pub crossedOf : ℕ → Gathered → Gathered
-crossedOf v g = record { flush = v ∷ []; inside = g .inside; outside = g .outside; intersections = g .intersections }
+crossedOf v g = record { flush = v ∷ []; inside = g .inside; outside = g .outside; intersections = g .intersections; warning = g .warning }
 
 -- once the ends of element y are gathered: rule 6
-abbrev pub afterEnds : Cutting → Element → Outcome Gathered → Outcome ElementCutOutput
+abbrev pub afterEnds : Cutting → Element → Outcome Gathered → Outcome ElementAnswer
 afterEnds c y o = next o (λ g. rule6 desk c y g (g .flush))
 
 -- in a table that may be cut, x is the point at parameter f of an edge with ends at p and q, and the code holds what the ends answered
@@ -100,7 +100,7 @@ pub record CrossedReady (cs : List ℕ) (ps : List Float) (es : List ℕ) (e : �
   pub fit : CrossedFit cs ps planes es e k s x table low high parameter gathered
 
 -- whatever such table the memory holds: the crossing is matched or appended, and then rule 6
-pub record CrossedCut (cs : List ℕ) (ps : List Float) (es : List ℕ) (e : ℕ) (k : Cutter) (s : Answers) (x : List Float) (y : CutReply)
+pub record CrossedCut (cs : List ℕ) (ps : List Float) (es : List ℕ) (e : ℕ) (k : Cutter) (s : Answers) (x : List Float) (y : ElementReply)
     (cs′ : List ℕ) (ps′ : List Float) (es′ : List ℕ) : Type 0 where
   pub of : (hs : List Float) (t : Table) (p q : List Float) (f : Float) (g : Gathered) → CrossedFit cs ps hs es e k s x t p q f g
       → Came reply.Answered reply.Refused (Holds desk cs′ ps′ hs es′) t (afterEnds (cutOf (t .dimension) k) (element t e) (crossEdge desk p q (At f) g t)) y
@@ -111,7 +111,7 @@ pub record CrossedAsked (cs : List ℕ) (ps : List Float) (es ix : List ℕ) (e 
   pub indexed : Indexed es (getD cs 1 0) ix
 
 -- what stands afterwards, its rows indexed as well
-pub record CrossedLeft (cs : List ℕ) (ps : List Float) (es : List ℕ) (e : ℕ) (k : Cutter) (s : Answers) (x : List Float) (y : CutReply)
+pub record CrossedLeft (cs : List ℕ) (ps : List Float) (es : List ℕ) (e : ℕ) (k : Cutter) (s : Answers) (x : List Float) (y : ElementReply)
     (cs′ : List ℕ) (ps′ : List Float) (es′ ix′ : List ℕ) : Type 0 where
   pub cut : CrossedCut cs ps es e k s x y cs′ ps′ es′
   pub indexed : Indexed es′ (getD cs′ 1 0) ix′

@@ -1,10 +1,11 @@
 // Rules 3 and 4: the cut of a vertex, and of an edge by its two ends.
 use gathered::answer;
+use gathered::answer::ElementReply;
 use gathered::sets;
-use gathered::sets::FLUSH;
+use gathered::sets::TALLY;
 use rules::Crossing;
-use rules::CutReply;
 use rules::Cutter;
+use rules::ElementAnswer;
 use rules::ElementCutOutput;
 use rules::ElementId;
 use rules::ElementOrNone;
@@ -18,8 +19,8 @@ use space::words::wide;
 ghost use Prim.Native.Nat.{_+_, _*_};
 ghost use mathlib.Core.Path.{_≡_};
 ghost use lib.ListN.{getD};
-ghost use Rattle.rules.specs.Floats.{sideOf};
-ghost use Rattle.rules.specs.Cut.{cornerAnswer};
+ghost use Rattle.rules.specs.Floats.{sideTest};
+ghost use Rattle.rules.specs.Cut.{cornerOutput, cornerAnswer};
 ghost use Rattle.space.specs.Shared.{storedPoint};
 ghost use Rattle.gathered.specs.Sets.{answersIn};
 ghost use Rattle.ends.specs.Ends.{PointAsked, CornerCut, EndsReady, EndsRead, EndsAsked, EndsGathered, CrossedAsked, CrossedLeft};
@@ -42,11 +43,10 @@ fn corner_point(points: &[f64], elements: &[u16], e: ElementId) -> [f64; 4]
     memo::read_point(points, v)
 }
 
-// Rule 3, by the signed distance: On is flush, else the vertex is given on its side, also when that side is removed.
-fn corner_answer(e: ElementId, s: f64) -> ElementCutOutput
-    ensures { λ r. ⌜ r ≡ cornerAnswer (e .0) (sideOf s) ⌝ }
+// Rule 3: On is flush, else the vertex is given on its side, also when that side is removed.
+fn corner_output(e: ElementId, side: Side) -> ElementCutOutput
+    ensures { λ r. ⌜ r ≡ cornerOutput (e .0) side ⌝ }
 {
-    let side = hypermath::side_of(s);
     match side {
         Side::Inside => ElementCutOutput::NonFlush {
             inside: ElementOrNone::Some(e),
@@ -62,6 +62,19 @@ fn corner_answer(e: ElementId, s: f64) -> ElementCutOutput
     }
 }
 
+// By the signed distance, with the warning of its side test.
+fn corner_answer(e: ElementId, s: f64) -> ElementAnswer
+    ensures { λ r. ⌜ r ≡ cornerAnswer (e .0) (sideTest s) ⌝ }
+{
+    let test = hypermath::side_of(s);
+    let side = test.side;
+    let output = corner_output(e, side);
+    ElementAnswer {
+        output,
+        warning: test.warning,
+    }
+}
+
 // A vertex adds nothing to the table.
 fn cut_corner(
     counts: &[u16],
@@ -69,13 +82,14 @@ fn cut_corner(
     elements: &[u16],
     e: ElementId,
     k: Cutter,
-) -> ElementCutOutput
+) -> ElementAnswer
     requires { ⌜ Ready (now counts) (now points) (now elements) 0 (e .0) k ⌝ }
     ensures { λ r. ⌜ CornerCut (now (counts .entry)) (now (points .entry)) (now (elements .entry)) (e .0) k r ⌝ }
 {
     let d = wide(counts[0]);
     let p = corner_point(points, elements, e);
-    let h = k.divider;
+    let params = k.params;
+    let h = params.divider;
     let s = hypermath::signed_distance(d, h, p);
     corner_answer(e, s)
 }
@@ -94,7 +108,7 @@ fn read_ends(points: &[f64], elements: &[u16], e: ElementId) -> EdgeEnds
 
 // Ends on the plane are flush, and other ends go to their side; the lower-numbered end comes first.
 fn gather_ends(
-    flush: &mut [u16; FLUSH],
+    tally: &mut [u16; TALLY],
     inside: &mut [u16; SET],
     outside: &mut [u16; SET],
     intersections: &mut [u16; SET],
@@ -103,13 +117,13 @@ fn gather_ends(
     b: ElementId,
     sb: f64,
 )
-    requires { ⌜ EndsAsked (a .0) (b .0) (answersIn (now flush) (now inside) (now outside) (now intersections)) ⌝ }
-    ensures { λ r. ⌜ EndsGathered (a .0) (b .0) sa sb (answersIn (now (flush .exit)) (now (inside .exit)) (now (outside .exit)) (now (intersections .exit))) ⌝ }
+    requires { ⌜ EndsAsked (a .0) (b .0) (answersIn (now tally) (now inside) (now outside) (now intersections)) ⌝ }
+    ensures { λ r. ⌜ EndsGathered (a .0) (b .0) sa sb (answersIn (now (tally .exit)) (now (inside .exit)) (now (outside .exit)) (now (intersections .exit))) ⌝ }
 {
     let first = corner_answer(a, sa);
-    sets::gather_in(flush, inside, outside, intersections, a, first);
+    sets::gather_in(tally, inside, outside, intersections, a, first);
     let second = corner_answer(b, sb);
-    sets::gather_in(flush, inside, outside, intersections, b, second);
+    sets::gather_in(tally, inside, outside, intersections, b, second);
 }
 
 // The crossing is matched or appended: vertex, then its element. It counts as the flush one.
@@ -120,23 +134,23 @@ fn cut_crossed(
     index: &mut [u16],
     e: ElementId,
     k: Cutter,
-    flush: &mut [u16; FLUSH],
+    tally: &mut [u16; TALLY],
     inside: &mut [u16; SET],
     outside: &mut [u16; SET],
     intersections: &[u16; SET],
     x: [f64; 4],
-) -> CutReply
-    requires { ⌜ CrossedAsked (now counts) (now points) (now elements) (now index) (e .0) k (answersIn (now flush) (now inside) (now outside) (now intersections)) x ⌝ }
+) -> ElementReply
+    requires { ⌜ CrossedAsked (now counts) (now points) (now elements) (now index) (e .0) k (answersIn (now tally) (now inside) (now outside) (now intersections)) x ⌝ }
     ensures { λ r. ⌜ CrossedLeft (now (counts .entry)) (now (points .entry)) (now (elements .entry)) (e .0) k
-        (answersIn (now (flush .entry)) (now (inside .entry)) (now (outside .entry)) (now (intersections .entry))) x r
+        (answersIn (now (tally .entry)) (now (inside .entry)) (now (outside .entry)) (now (intersections .entry))) x r
         (now (counts .exit)) (now (points .exit)) (now (elements .exit)) (now (index .exit)) ⌝ }
 {
     let placed = memo::add_vertex(counts, points, elements, index, x);
     match placed {
-        Placed::Refused(no) => CutReply::Refused(no),
+        Placed::Refused(no) => ElementReply::Refused(no),
         Placed::At(v) => {
-            flush[0] = 1;
-            flush[1] = v.0 as u16;
+            tally[0] = 1;
+            tally[1] = v.0 as u16;
             answer::rule6(
                 counts,
                 elements,
@@ -144,7 +158,7 @@ fn cut_crossed(
                 e,
                 1,
                 k,
-                flush,
+                tally,
                 inside,
                 outside,
                 intersections,
@@ -161,24 +175,26 @@ fn cut_edge(
     index: &mut [u16],
     e: ElementId,
     k: Cutter,
-) -> CutReply
+) -> ElementReply
     requires { ⌜ LowAsked (now counts) (now points) (now elements) (now index) 1 (e .0) k ⌝ }
     ensures { λ r. ⌜ LowLeft (now (counts .entry)) (now (points .entry)) (now (elements .entry)) 1 (e .0) k r
         (now (counts .exit)) (now (points .exit)) (now (elements .exit)) (now (index .exit)) ⌝ }
 {
     let d = wide(counts[0]);
     let ends = read_ends(points, elements, e);
-    let h = k.divider;
+    let params = k.params;
+    let h = params.divider;
     let p = ends.p;
     let q = ends.q;
     let sa = hypermath::signed_distance(d, h, p);
     let sb = hypermath::signed_distance(d, h, q);
-    let crossing = hypermath::edge_test(d, h, [p, q]);
-    let mut f = [0u16; FLUSH];
+    let test = hypermath::edge_test(d, h, [p, q]);
+    let mut f = [0u16; TALLY];
     let mut i = [0u16; SET];
     let mut o = [0u16; SET];
     let mut x = [0u16; SET];
     gather_ends(&mut f, &mut i, &mut o, &mut x, ends.a, sa, ends.b, sb);
+    let crossing = test.crossing;
     match crossing {
         Crossing::None => answer::rule6(counts, elements, index, e, 1, k, &f, &mut i, &mut o, &x),
         Crossing::At(t) => {
@@ -209,14 +225,14 @@ pub fn cut_low(
     e: ElementId,
     rank: usize,
     k: Cutter,
-) -> CutReply
+) -> ElementReply
     requires { ⌜ LowAsked (now counts) (now points) (now elements) (now index) rank (e .0) k ⌝ }
     ensures { λ r. ⌜ LowLeft (now (counts .entry)) (now (points .entry)) (now (elements .entry)) rank (e .0) k r
         (now (counts .exit)) (now (points .exit)) (now (elements .exit)) (now (index .exit)) ⌝ }
 {
     if rank == 0 {
         let a = cut_corner(counts, points, elements, e, k);
-        return CutReply::Answered(a);
+        return ElementReply::Answered(a);
     }
     cut_edge(counts, points, elements, index, e, k)
 }

@@ -12,13 +12,16 @@ pub fn ones(words: &[u64]) {
     }
 }
 
-// A single float: its side, its use as a distance, and whether it is zero bits.
+// A single float: its side, whether it is a close call, its use as a distance, and whether it is zero bits.
 fn one(words: &[u64], at: usize)
     requires { ⌜ at < length (now words) ⌝ }
 {
     let x = read::float(words, at);
     print::name(b"one");
-    print::side(hypermath::side_of(x));
+    let test = hypermath::side_of(x);
+    let side = test.side;
+    print::side(side);
+    print::test(test.warning);
     print::kind(hypermath::distance_kind(x));
     print::test(hypermath::is_zero_bits(x));
     print::line_end();
@@ -45,7 +48,7 @@ fn pair(words: &[u64], at: usize)
     let h = Hyperplane { normal, distance };
     let p = read::on_first_axis(a);
     let q = read::on_first_axis(b);
-    print::crossing(hypermath::edge_test(1, h, [p, q]));
+    print::edge(hypermath::edge_test(1, h, [p, q]));
     print::line_end();
 }
 
@@ -105,7 +108,7 @@ fn edge(words: &[u64], at: usize)
     print::name(b"edge");
     print::float(hypermath::signed_distance(d, h, a));
     print::float(hypermath::signed_distance(d, h, b));
-    print::crossing(hypermath::edge_test(d, h, [a, b]));
+    print::edge(hypermath::edge_test(d, h, [a, b]));
     print::line_end();
 }
 

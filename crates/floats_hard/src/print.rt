@@ -3,6 +3,7 @@ use hypermath::DistanceKind;
 use hypermath::FoundHyperplane;
 use hypermath::FoundVertex;
 use rules::Crossing;
+use rules::EdgeTest;
 use rules::Hyperplane;
 use rules::HyperplaneId;
 use rules::Side;
@@ -67,7 +68,9 @@ pub fn kind(k: DistanceKind) {
     ;
 }
 
-pub fn crossing(c: Crossing) {
+// The crossing, and the warning.
+pub fn edge(e: EdgeTest) {
+    let c = e.crossing;
     match c {
         Crossing::None => none(),
         Crossing::At(t) => {
@@ -75,6 +78,7 @@ pub fn crossing(c: Crossing) {
             float(t);
         },
     }
+    test(e.warning);
 }
 
 pub fn vertex(v: FoundVertex) {

@@ -39,6 +39,18 @@ const NEG_T_UP: u64 = 0xbeb0000000000001;
 
 const T_UP_UP: u64 = 0x3eb0000000000002;
 
+const CLOSE_DOWN: u64 = 0x3eefffffffffffff;
+
+const NEG_CLOSE_DOWN: u64 = 0xbeefffffffffffff;
+
+const CLOSE: u64 = 0x3ef0000000000000;
+
+const NEG_CLOSE: u64 = 0xbef0000000000000;
+
+const CLOSE_UP: u64 = 0x3ef0000000000001;
+
+const NEG_CLOSE_UP: u64 = 0xbef0000000000001;
+
 const EDGE: u64 = 0x3f50000000000000;
 
 const EDGE_TIE: u64 = 0x3f50000000040000;
@@ -166,7 +178,7 @@ const NEG_INF: u64 = 0xfff0000000000000;
 const NAN: u64 = 0x7ff8000000000000;
 
 // x.
-pub const ONES: [u64; 34] = [
+pub const ONES: [u64; 40] = [
     ZERO,
     NEG_ZERO,
     TINY,
@@ -180,6 +192,12 @@ pub const ONES: [u64; 34] = [
     NEG_T_DOWN,
     NEG_T,
     NEG_T_UP,
+    CLOSE_DOWN,
+    CLOSE,
+    CLOSE_UP,
+    NEG_CLOSE_DOWN,
+    NEG_CLOSE,
+    NEG_CLOSE_UP,
     UNDER,
     ONE_DOWN,
     ONE,
@@ -204,7 +222,7 @@ pub const ONES: [u64; 34] = [
 ];
 
 // Two floats.
-pub const PAIRS: [u64; 172] = [
+pub const PAIRS: [u64; 178] = [
     ZERO,
     ZERO,
     ZERO,
@@ -363,6 +381,12 @@ pub const PAIRS: [u64; 172] = [
     NEG_T_UP,
     NEG_T_UP,
     NAN,
+    CLOSE,
+    NEG_ONE,
+    ONE,
+    NEG_CLOSE,
+    NEG_CLOSE_UP,
+    CLOSE_UP,
     NAN,
     NEG_ONE,
     NEG_ONE,

@@ -10,12 +10,11 @@ use lib.Ieee.{Float}
 use Rattle.rules.specs.Limits.{desk}
 use Rattle.rules.specs.Table.{Element, Table, rankOf, element}
 use Rattle.rules.specs.Held.{Extends, Holds, Came, went, Ranked, AllOf, SetOf, SomeOf}
+use Rattle.rules.specs.Replies.{isKept}
 use Rattle.rules.specs.Cut.{Outcome, done, next, give, Gathered, Cutting, given, newIntersection, sideOfCut, rule7, rule6}
 use Rattle.rules.specs.declared.ElementOrNone.{ElementOrNone}
-use Rattle.rules.specs.declared.ElementCutOutput.{ElementCutOutput}
+use Rattle.rules.specs.declared.ElementAnswer.{ElementAnswer}
 use Rattle.rules.specs.declared.ElementCutOutput.the-variants.{Flush, NonFlush}
-use Rattle.rules.specs.declared.CutReply.{CutReply}
-use Rattle.rules.specs.declared.CutReply.the-variants as reply
 use Rattle.rules.proofs.Extends.{extends-refl, begins-length, count-more, element-same}
 use Rattle.rules.proofs.Good.{Good, sound-good, good-sound}
 use Rattle.rules.proofs.Laws.{test-le}
@@ -25,11 +24,13 @@ use Rattle.rules.proofs.StaysCut.{new-intersection-stays, side-stays}
 use Rattle.space.specs.Chains.{Indexed}
 use Rattle.space.specs.declared.memo.Added.{Added}
 use Rattle.space.specs.declared.memo.Added.the-variants as added
-use Rattle.gathered.specs.Sets.{numbersIn, SizedSet, Answers}
+use Rattle.gathered.specs.declared.answer.ElementReply.{ElementReply}
+use Rattle.gathered.specs.declared.answer.ElementReply.the-variants as reply
+use Rattle.gathered.specs.Sets.{numbersIn, SizedSet, Answers, warningIn}
 use Rattle.gathered.specs.Cutting.{cutOf, Fit, IntersectionFit, IntersectionReady, IntersectionMade, SideFit, SideReady, SideMade, Rule6Fit, Rule6Ready, Rule6Done, SideSet, Rule7Fit, Rule7Ready, Rule7Done}
 use Rattle.rules.specs.declared.Cutter.{Cutter}
 use Rattle.gathered.proofs.Fitting.{rank-before, owner-of, rank-low}
-use Rattle.gathered.proofs.Steps.{made-is, came-refused, came-answered, came-next}
+use Rattle.gathered.proofs.Steps.{made-is, came-as, came-refused, came-answered, came-next}
 
 -- ---- in a later table
 
@@ -102,8 +103,12 @@ module _ {cs es : List ℕ} {r e : ℕ} {k : Cutter} {ps hs : List Float} {t : T
 
 -- ---- rule 7
 
-module _ {cs es : List ℕ} {r e : ℕ} {k : Cutter} {i o : List ℕ} {x : ElementOrNone} where
-  pub inside-ready : {ix : List ℕ} → Rule7Ready cs es ix r e k i o x → SideReady cs es ix r e i x
+-- the three places and the warning
+abbrev sides : ElementOrNone → ElementOrNone → ElementOrNone → Bool → ElementAnswer
+sides i o x w = record { output = NonFlush i o x; warning = w }
+
+module _ {cs es : List ℕ} {r e : ℕ} {k : Cutter} {i o : List ℕ} {x : ElementOrNone} {v : Bool} where
+  pub inside-ready : {ix : List ℕ} → Rule7Ready cs es ix r e k i o x v → SideReady cs es ix r e i x
   inside-ready R =
       let F = R .fit in
       record {
@@ -114,8 +119,8 @@ module _ {cs es : List ℕ} {r e : ℕ} {k : Cutter} {i o : List ℕ} {x : Eleme
         indexed = R .indexed;
       }
 
-  module _ {y : Added} {cs₁ es₁ ix₁ : List ℕ} (M : SideMade cs es r e (k .«keep_inside») i x y cs₁ es₁ ix₁) where
-    pub inside-refused : (n : ℕ) → y ≡ added.Refused n → Rule7Done cs es r e k i o x (reply.Refused n) cs₁ es₁ ix₁
+  module _ {y : Added} {cs₁ es₁ ix₁ : List ℕ} (M : SideMade cs es r e (isKept (k .params .inside)) i x y cs₁ es₁ ix₁) where
+    pub inside-refused : (n : ℕ) → y ≡ added.Refused n → Rule7Done cs es r e k i o x v (reply.Refused n) cs₁ es₁ ix₁
     unfolding rule7
     inside-refused n q = record {
       of = λ ps hs t g F. came-refused n _ q (side-came (F .fit) (F .some) (here (F .fit) (F .some)) x (F .intersection) (F .inside) M);
@@ -123,11 +128,11 @@ module _ {cs es : List ℕ} {r e : ℕ} {k : Cutter} {i o : List ℕ} {x : Eleme
     }
 
     module _ (a : ElementOrNone) (q : y ≡ added.Made a) where
-      inner : {ps hs : List Float} {t : Table} {g : Gathered} → Rule7Fit cs ps hs es r e k i o x t g
-          → (v : Table) × (sideOfCut desk (k .«keep_inside») (element t e) x (g .inside) t ≡ done a v) × Later cs₁ ps hs es₁ t v
+      inner : {ps hs : List Float} {t : Table} {g : Gathered} → Rule7Fit cs ps hs es r e k i o x v t g
+          → (v : Table) × (sideOfCut desk (isKept (k .params .inside)) (element t e) x (g .inside) t ≡ done a v) × Later cs₁ ps hs es₁ t v
       inner F = side-after (F .fit) (F .some) (here (F .fit) (F .some)) x (F .intersection) (F .inside) M a q
 
-      pub outside-ready : {ix : List ℕ} → Rule7Ready cs es ix r e k i o x → SideReady cs₁ es₁ ix₁ r e o x
+      pub outside-ready : {ix : List ℕ} → Rule7Ready cs es ix r e k i o x v → SideReady cs₁ es₁ ix₁ r e o x
       outside-ready R =
           let F = R .fit in
           let m = inner F in
@@ -139,28 +144,29 @@ module _ {cs es : List ℕ} {r e : ℕ} {k : Cutter} {i o : List ℕ} {x : Eleme
             indexed = M .indexed;
           }
 
-      module _ {z : Added} {cs₂ es₂ ix₂ : List ℕ} (N : SideMade cs₁ es₁ r e (k .«keep_outside») o x z cs₂ es₂ ix₂) where
-        outer : {ps hs : List Float} {t : Table} {g : Gathered} (F : Rule7Fit cs ps hs es r e k i o x t g)
-            → Came added.Made added.Refused (Holds desk cs₂ ps hs es₂) (inner F .0) (sideOfCut desk (k .«keep_outside») (element t e) x (g .outside) (inner F .0)) z
+      module _ {z : Added} {cs₂ es₂ ix₂ : List ℕ} (N : SideMade cs₁ es₁ r e (isKept (k .params .outside)) o x z cs₂ es₂ ix₂) where
+        outer : {ps hs : List Float} {t : Table} {g : Gathered} (F : Rule7Fit cs ps hs es r e k i o x v t g)
+            → Came added.Made added.Refused (Holds desk cs₂ ps hs es₂) (inner F .0) (sideOfCut desk (isKept (k .params .outside)) (element t e) x (g .outside) (inner F .0)) z
         outer F = side-came (F .fit) (F .some) (inner F .2) x (F .intersection) (F .outside) N
 
-        pub outside-refused : (n : ℕ) → z ≡ added.Refused n → Rule7Done cs es r e k i o x (reply.Refused n) cs₂ es₂ ix₂
+        pub outside-refused : (n : ℕ) → z ≡ added.Refused n → Rule7Done cs es r e k i o x v (reply.Refused n) cs₂ es₂ ix₂
         unfolding rule7
         outside-refused n w = record {
-          of = λ ps hs t g F. came-next a _ (inner F .1) (inner F .2 .extends) (came-refused n (λ b. give (NonFlush a b x)) w (outer F));
+          of = λ ps hs t g F. came-next a _ (inner F .1) (inner F .2 .extends) (came-refused n (λ b. give (sides a b x (g .warning))) w (outer F));
           indexed = N .indexed;
         }
 
-        pub rule7-answered : (b : ElementOrNone) → z ≡ added.Made b → Rule7Done cs es r e k i o x (reply.Answered (NonFlush a b x)) cs₂ es₂ ix₂
+        pub rule7-answered : (b : ElementOrNone) → z ≡ added.Made b → Rule7Done cs es r e k i o x v (reply.Answered (sides a b x v)) cs₂ es₂ ix₂
         unfolding rule7
         rule7-answered b w = record {
-          of = λ ps hs t g F. came-next a _ (inner F .1) (inner F .2 .extends) (came-answered b (λ v. NonFlush a v x) w (outer F));
+          of = λ ps hs t g F.
+              came-next a _ (inner F .1) (inner F .2 .extends) (came-as (ap (λ (u : Bool). reply.Answered (sides a b x u)) (sym (F .warning))) (came-answered b (λ d. sides a d x (g .warning)) w (outer F)));
           indexed = N .indexed;
         }
 
 -- ---- rule 6, by the flush answers
 
-many-flush : (c : Cutting) (y : Element) (g : Gathered) (fs : List ℕ) (t : Table) → 1 < length fs → rule6 desk c y g fs t ≡ done Flush t
+many-flush : (c : Cutting) (y : Element) (g : Gathered) (fs : List ℕ) (t : Table) → 1 < length fs → rule6 desk c y g fs t ≡ done (record { output = Flush; warning = g .warning }) t
 unfolding rule6
 many-flush c y g [] t h = absurd (let z : ⊥ = omega (arith, h) in z)
 many-flush c y g (a ∷ []) t h = absurd (let z : ⊥ = omega (arith, h) in z)
@@ -185,13 +191,15 @@ module _ {cs es : List ℕ} {r e : ℕ} {k : Cutter} {s : Answers} {ps hs : List
   side-set : {set xs : List ℕ} → numbersIn set ≡ xs → SizedSet set 32 → SetOf t (suc (r - 1)) xs → SideSet r t set xs
   side-set {xs = xs} h z q = record { held = h; sized = z; sets = subst (λ (n : ℕ). SetOf t n xs) (sym (rank-before r (F .some))) q }
 
-  rule7-fit : {cs₁ es₁ : List ℕ} {u : Table} (U : Later cs₁ ps hs es₁ t u) (x : ElementOrNone) → SomeOf r x u → Rule7Fit cs₁ ps hs es₁ r e k (s .inside) (s .outside) x u g
-  rule7-fit U x h = record {
+  rule7-fit : {cs₁ es₁ : List ℕ} {u : Table} (U : Later cs₁ ps hs es₁ t u) (x : ElementOrNone) → SomeOf r x u → (v : Bool) → v ≡ warningIn (s .tally)
+      → Rule7Fit cs₁ ps hs es₁ r e k (s .inside) (s .outside) x v u g
+  rule7-fit U x h v told = record {
     fit = fit-later (F .fit) (F .some) U;
     some = F .some;
     inside = side-later (U .extends) (side-set (F .gathers .inside) (F .sized .inside) (F .sets .inside));
     outside = side-later (U .extends) (side-set (F .gathers .outside) (F .sized .outside) (F .sets .outside));
     intersection = h;
+    warning = told ∙ F .gathers .warning;
   }
 
   intersection-fit : IntersectionFit cs ps hs es r k (s .intersections) t
@@ -213,27 +221,30 @@ module _ {cs es : List ℕ} {r e : ℕ} {k : Cutter} {s : Answers} {ps hs : List
       (new-intersection-stays desk (cutOf (t .dimension) k) t (r - 1) (numbersIn (s .intersections)) (good (F .fit) (F .some)) (f .plane)
       (test-le (suc (r - 1)) (t .dimension) (subst (λ (q : ℕ). q ≤ t .dimension) n (f .low))) (f .sets))
 
-module _ {cs es : List ℕ} {r e : ℕ} {k : Cutter} {s : Answers} where
-  pub rule6-flush : 1 < getD (s .flush) 0 0 → {ix : List ℕ} → Indexed es (getD cs 1 0) ix → Rule6Done cs es r e k s (reply.Answered Flush) cs es ix
+-- v is the warning, as it was read
+module _ {cs es : List ℕ} {r e : ℕ} {k : Cutter} {s : Answers} {v : Bool} (told : v ≡ warningIn (s .tally)) where
+  pub rule6-flush : 1 < getD (s .tally) 0 0 → {ix : List ℕ} → Indexed es (getD cs 1 0) ix → Rule6Done cs es r e k s (reply.Answered (record { output = Flush; warning = v })) cs es ix
   rule6-flush h indexed = record {
-    of = λ ps hs t g F. went Flush t (many-flush (cutOf (t .dimension) k) (element t e) g (g .flush) t (le-trans h (le-of-eq (F .gathers .flushes)))) refl (F .fit .holds);
+    of = λ ps hs t g F.
+        went (record { output = Flush; warning = g .warning }) t (many-flush (cutOf (t .dimension) k) (element t e) g (g .flush) t (le-trans h (le-of-eq (F .gathers .flushes))))
+        (ap (λ (w : Bool). reply.Answered (record { output = Flush; warning = w })) (told ∙ F .gathers .warning)) (F .fit .holds);
     indexed = indexed;
   }
 
   -- exactly one
-  module _ (h : getD (s .flush) 0 0 ≡ 1) (f : ℕ) (w : f ≡ getD (s .flush) 1 0) where
+  module _ (h : getD (s .tally) 0 0 ≡ 1) (f : ℕ) (w : f ≡ getD (s .tally) 1 0) where
     sole : {ps hs : List Float} {t : Table} {g : Gathered} → Rule6Fit cs ps hs es r e k s t g → g .flush ≡ f ∷ []
     sole {g = g} F = one-flush (g .flush) f (sym (F .gathers .flushes) ∙ h) (w ∙ F .gathers .flush)
 
-    flush-fit : {ps hs : List Float} {t : Table} {g : Gathered} → Rule6Fit cs ps hs es r e k s t g → Rule7Fit cs ps hs es r e k (s .inside) (s .outside) (given f) t g
+    flush-fit : {ps hs : List Float} {t : Table} {g : Gathered} → Rule6Fit cs ps hs es r e k s t g → Rule7Fit cs ps hs es r e k (s .inside) (s .outside) (given f) v t g
     flush-fit {t = t} F =
         rule7-fit F (here (F .fit) (F .some)) (given f)
-        (subst (λ (n : ℕ). Ranked t n f) (sym (rank-before r (F .some))) (subst (AllOf (Ranked t (suc (r - 1)))) (sole F) (F .sets .flush) .0))
+        (subst (λ (n : ℕ). Ranked t n f) (sym (rank-before r (F .some))) (subst (AllOf (Ranked t (suc (r - 1)))) (sole F) (F .sets .flush) .0)) v told
 
-    pub flush-ready : {ix : List ℕ} → Rule6Ready cs es ix r e k s → Rule7Ready cs es ix r e k (s .inside) (s .outside) (given f)
+    pub flush-ready : {ix : List ℕ} → Rule6Ready cs es ix r e k s → Rule7Ready cs es ix r e k (s .inside) (s .outside) (given f) v
     flush-ready R = record { points = R .points; planes = R .planes; table = R .table; gathered = R .gathered; fit = flush-fit (R .fit); indexed = R .indexed }
 
-    pub rule6-one : {y : CutReply} {cs′ es′ ix′ : List ℕ} → Rule7Done cs es r e k (s .inside) (s .outside) (given f) y cs′ es′ ix′ → Rule6Done cs es r e k s y cs′ es′ ix′
+    pub rule6-one : {y : ElementReply} {cs′ es′ ix′ : List ℕ} → Rule7Done cs es r e k (s .inside) (s .outside) (given f) v y cs′ es′ ix′ → Rule6Done cs es r e k s y cs′ es′ ix′
     unfolding rule6
     rule6-one {y} {cs′} {es′} D = record {
       of = λ ps hs t g F.
@@ -246,7 +257,7 @@ module _ {cs es : List ℕ} {r e : ℕ} {k : Cutter} {s : Answers} where
   pub intersection-ready : {ix : List ℕ} → Rule6Ready cs es ix r e k s → IntersectionReady cs es ix r k (s .intersections)
   intersection-ready R = record { points = R .points; planes = R .planes; table = R .table; fit = intersection-fit (R .fit); indexed = R .indexed }
 
-  module _ (h : getD (s .flush) 0 0 ≤ 1) (n : getD (s .flush) 0 0 ≡ 1 → ⊥) {y : Added} {cs₁ es₁ ix₁ : List ℕ}
+  module _ (h : getD (s .tally) 0 0 ≤ 1) (n : getD (s .tally) 0 0 ≡ 1 → ⊥) {y : Added} {cs₁ es₁ ix₁ : List ℕ}
       (M : IntersectionMade cs es r k (s .intersections) y cs₁ es₁ ix₁) where
     none-flush : {ps hs : List Float} {t : Table} {g : Gathered} → Rule6Fit cs ps hs es r e k s t g → [] ≡ g .flush
     none-flush {g = g} F =
@@ -262,7 +273,7 @@ module _ {cs es : List ℕ} {r e : ℕ} {k : Cutter} {s : Answers} where
 
     module _ {ps hs : List Float} {t : Table} {g : Gathered} (F : Rule6Fit cs ps hs es r e k s t g) where
       -- rule 6 without a flush answer
-      by-none : {z : CutReply} {cs₂ es₂ : List ℕ}
+      by-none : {z : ElementReply} {cs₂ es₂ : List ℕ}
           → Came reply.Answered reply.Refused (Holds desk cs₂ ps hs es₂) t (next (intersected k e t g) (rule7 desk (cutOf (t .dimension) k) (element t e) g)) z
           → Came reply.Answered reply.Refused (Holds desk cs₂ ps hs es₂) t (rule6 desk (cutOf (t .dimension) k) (element t e) g (g .flush) t) z
       unfolding rule6
@@ -275,25 +286,25 @@ module _ {cs es : List ℕ} {r e : ℕ} {k : Cutter} {s : Answers} where
     module _ (x : ElementOrNone) (q : y ≡ added.Made x) where
       -- the table after the intersection
       crossed : {ps hs : List Float} {t : Table} {g : Gathered} → Rule6Fit cs ps hs es r e k s t g
-          → (u : Table) × (intersected k e t g ≡ done x u) × Later cs₁ ps hs es₁ t u × Rule7Fit cs₁ ps hs es₁ r e k (s .inside) (s .outside) x u g
+          → (u : Table) × (intersected k e t g ≡ done x u) × Later cs₁ ps hs es₁ t u × Rule7Fit cs₁ ps hs es₁ r e k (s .inside) (s .outside) x v u g
       crossed {ps} {hs} {t} {g} F =
           let m = made-is x q (middle F) in
           let K : Kept desk (SomeOf r) t x (m .table) = subst (Stays desk (SomeOf r) t) (same-intersection F ∙ m .made) (intersection-keeps F) in
           let U : Later cs₁ ps hs es₁ t (m .table) = record { extends = K .extends; good = K .good; holds = m .holds } in
-          (m .table, m .made, U, rule7-fit F U x (K .value))
+          (m .table, m .made, U, rule7-fit F U x (K .value) v told)
 
-      pub intersection-known : {ix : List ℕ} → Rule6Ready cs es ix r e k s → Rule7Ready cs₁ es₁ ix₁ r e k (s .inside) (s .outside) x
+      pub intersection-known : {ix : List ℕ} → Rule6Ready cs es ix r e k s → Rule7Ready cs₁ es₁ ix₁ r e k (s .inside) (s .outside) x v
       intersection-known R =
           let m = crossed (R .fit) in
           record { points = R .points; planes = R .planes; table = m .0; gathered = R .gathered; fit = m .3; indexed = M .indexed }
 
-      pub rule6-none : {z : CutReply} {cs₂ es₂ ix₂ : List ℕ} → Rule7Done cs₁ es₁ r e k (s .inside) (s .outside) x z cs₂ es₂ ix₂ → Rule6Done cs es r e k s z cs₂ es₂ ix₂
+      pub rule6-none : {z : ElementReply} {cs₂ es₂ ix₂ : List ℕ} → Rule7Done cs₁ es₁ r e k (s .inside) (s .outside) x v z cs₂ es₂ ix₂ → Rule6Done cs es r e k s z cs₂ es₂ ix₂
       rule6-none {z} {cs₂} {es₂} D = record {
         of = λ ps hs t g F. (
             let m = crossed F in
             let X = m .2 .extends in
             by-none F (came-next x (rule7 desk (cutOf (t .dimension) k) (element t e) g) (m .1) X
-            (subst (λ (o : Outcome ElementCutOutput). Came reply.Answered reply.Refused (Holds desk cs₂ ps hs es₂) (m .0) o z)
+            (subst (λ (o : Outcome ElementAnswer). Came reply.Answered reply.Refused (Holds desk cs₂ ps hs es₂) (m .0) o z)
             (ap₂ (λ (d : ℕ) (v : Element). rule7 desk (cutOf d k) v g x (m .0)) (X .dimension) (element-same t (m .0) e X (F .fit .used))) (D .of ps hs (m .0) g (m .3))))
             );
         indexed = D .indexed;

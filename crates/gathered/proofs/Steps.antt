@@ -6,9 +6,9 @@ use Rattle.rules.specs.Table.{Table}
 use Rattle.rules.specs.Cut.{Outcome, done, next, give, Step}
 use Rattle.rules.specs.Held.{Extends, Came, went, stopped}
 use Rattle.rules.specs.declared.ElementOrNone.{ElementOrNone}
-use Rattle.rules.specs.declared.ElementCutOutput.{ElementCutOutput}
-use Rattle.rules.specs.declared.CutReply.{CutReply}
-use Rattle.rules.specs.declared.CutReply.the-variants as reply
+use Rattle.rules.specs.declared.ElementAnswer.{ElementAnswer}
+use Rattle.gathered.specs.declared.answer.ElementReply.{ElementReply}
+use Rattle.gathered.specs.declared.answer.ElementReply.the-variants as reply
 use Rattle.rules.proofs.Extends.{extends-trans}
 use Rattle.space.specs.declared.memo.Added.{Added}
 use Rattle.space.specs.declared.memo.Added.the-variants as added
@@ -24,25 +24,29 @@ module _ {H : Table → Type 0} {t : Table} {o : Outcome ElementOrNone} {y : Add
   made-is p q (stopped j u e w x h) = let z : _≡_ {A = ℕ} 0 1 = cc in absurd (omega arith)
   made-is p q (went a u e w h) = let z : a ≡ p = cc in record { table = u; made = e ∙ ap (λ (v : ElementOrNone). done v u) z; holds = h }
 
-  pub came-refused : (n : ℕ) (f : ElementOrNone → Step ElementCutOutput) → y ≡ added.Refused n → Came added.Made added.Refused H t o y
+  pub came-refused : (n : ℕ) (f : ElementOrNone → Step ElementAnswer) → y ≡ added.Refused n → Came added.Made added.Refused H t o y
       → Came reply.Answered reply.Refused H t (next o f) (reply.Refused n)
   came-refused n f q (went a u e w h) = let z : _≡_ {A = ℕ} 0 1 = cc in absurd (omega arith)
   came-refused n f q (stopped j u e w x h) =
       let z : n ≡ j = cc in stopped j u (ap (λ (v : Outcome ElementOrNone). next v f) e) (ap reply.Refused z) x h
 
-  pub came-answered : (p : ElementOrNone) (f : ElementOrNone → ElementCutOutput) → y ≡ added.Made p → Came added.Made added.Refused H t o y
+  pub came-answered : (p : ElementOrNone) (f : ElementOrNone → ElementAnswer) → y ≡ added.Made p → Came added.Made added.Refused H t o y
       → Came reply.Answered reply.Refused H t (next o (λ x. give (f x))) (reply.Answered (f p))
   came-answered p f q c =
       let m = made-is p q c in
       went (f p) (m .table) (ap (λ (v : Outcome ElementOrNone). next v (λ x. give (f x))) (m .made)) refl (m .holds)
 
+-- the reply, said otherwise
+pub came-as : {H : Table → Type 0} {t : Table} {o : Outcome ElementAnswer} {y z : ElementReply} → y ≡ z → Came reply.Answered reply.Refused H t o y → Came reply.Answered reply.Refused H t o z
+came-as {H} {t} {o} e c = subst (λ (v : ElementReply). Came reply.Answered reply.Refused H t o v) e c
+
 -- a later step, seen from an earlier table
-came-later : {H : Table → Type 0} {t u : Table} {o : Outcome ElementCutOutput} {y : CutReply} → Extends t u → Came reply.Answered reply.Refused H u o y
+came-later : {H : Table → Type 0} {t u : Table} {o : Outcome ElementAnswer} {y : ElementReply} → Extends t u → Came reply.Answered reply.Refused H u o y
     → Came reply.Answered reply.Refused H t o y
 came-later x (went a v e w h) = went a v e w h
 came-later x (stopped j v e w z h) = stopped j v e w (extends-trans x z) h
 
-pub came-next : {H : Table → Type 0} {t u : Table} {o : Outcome ElementOrNone} {y : CutReply} (p : ElementOrNone) (f : ElementOrNone → Step ElementCutOutput) → o ≡ done p u → Extends t u
+pub came-next : {H : Table → Type 0} {t u : Table} {o : Outcome ElementOrNone} {y : ElementReply} (p : ElementOrNone) (f : ElementOrNone → Step ElementAnswer) → o ≡ done p u → Extends t u
     → Came reply.Answered reply.Refused H u (f p u) y → Came reply.Answered reply.Refused H t (next o f) y
 came-next {H} {t} {u} {o} {y} p f e x c =
     subst (λ (v : Outcome ElementOrNone). Came reply.Answered reply.Refused H t (next v f) y) (sym e) (came-later x c)

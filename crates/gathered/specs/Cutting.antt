@@ -3,19 +3,20 @@ use Prim.Native.Nat.{ℕ, _+_, _-_, _*_, _≤_, _<_}
 use mathlib.Core.Path.{_≡_}
 use mathlib.Core.Bool.{Bool, true}
 use mathlib.Core.List.{List}
-use lib.ListN.{length, getD, take}
+use lib.ListN.{length, getD}
 use lib.Ieee.{Float}
 use Rattle.rules.specs.Limits.{desk}
 use Rattle.rules.specs.Table.{Table, elementCount, rank, element}
 use Rattle.rules.specs.Sound.{sound}
 use Rattle.rules.specs.Cut.{Cutting, Gathered, newIntersection, sideOfCut, rule7, rule6}
+use Rattle.rules.specs.Replies.{paramsOf}
 use Rattle.rules.specs.Held.{Holds, Came, Sets, SetOf, SomeOf}
 use Rattle.rules.specs.declared.ElementOrNone.{ElementOrNone}
-use Rattle.rules.specs.declared.CutReply.{CutReply}
-use Rattle.rules.specs.declared.CutReply.the-variants as reply
 use Rattle.space.specs.Chains.{Indexed}
 use Rattle.space.specs.declared.memo.Added.{Added}
 use Rattle.space.specs.declared.memo.Added.the-variants as added
+use Rattle.gathered.specs.declared.answer.ElementReply.{ElementReply}
+use Rattle.gathered.specs.declared.answer.ElementReply.the-variants as reply
 use Rattle.gathered.specs.Sets.{numbersIn, SizedSet, Answers, Sized, Gathers}
 use Rattle.rules.specs.declared.Cutter.{Cutter}
 
@@ -23,12 +24,7 @@ use Rattle.rules.specs.declared.Cutter.{Cutter}
 
 -- what the code has at hand, as the rules have it in a space of d dimensions
 abbrev pub cutOf : ℕ → Cutter → Cutting
-cutOf d k = record {
-  divider = record { normal = take d (k .divider .normal); distance = k .divider .distance };
-  number = k .number .0;
-  keepInside = k .«keep_inside»;
-  keepOutside = k .«keep_outside»;
-}
+cutOf d k = record { params = paramsOf d (k .params); number = k .number .0 }
 
 -- the table that the memory holds may be cut: it is sound, and has the divider's hyperplane and element e, of rank r
 pub record Fit (cs : List ℕ) (ps hs : List Float) (es : List ℕ) (r e : ℕ) (k : Cutter) (t : Table) : Type 0 where
@@ -132,7 +128,7 @@ pub record Rule6Ready (cs es ix : List ℕ) (r e : ℕ) (k : Cutter) (s : Answer
   pub indexed : Indexed es (getD cs 1 0) ix
 
 -- whatever such table the memory holds, and whatever is gathered: rule 6; and the index leads to the rows of after
-pub record Rule6Done (cs es : List ℕ) (r e : ℕ) (k : Cutter) (s : Answers) (y : CutReply) (cs′ es′ ix′ : List ℕ) : Type 0 where
+pub record Rule6Done (cs es : List ℕ) (r e : ℕ) (k : Cutter) (s : Answers) (y : ElementReply) (cs′ es′ ix′ : List ℕ) : Type 0 where
   pub of : (ps hs : List Float) (t : Table) (g : Gathered) → Rule6Fit cs ps hs es r e k s t g
       → Came reply.Answered reply.Refused (Holds desk cs′ ps hs es′) t (rule6 desk (cutOf (t .dimension) k) (element t e) g (g .flush) t) y
   pub indexed : Indexed es′ (getD cs′ 1 0) ix′
@@ -145,25 +141,26 @@ pub record SideSet (r : ℕ) (t : Table) (set xs : List ℕ) : Type 0 where
   pub sized : SizedSet set 32
   pub sets : SetOf t r xs
 
--- the boundary of element e has answered, the code holds the sides' sets, and the intersection is in use and of the rank below
-pub record Rule7Fit (cs : List ℕ) (ps hs : List Float) (es : List ℕ) (r e : ℕ) (k : Cutter) (i o : List ℕ) (x : ElementOrNone) (t : Table) (g : Gathered) : Type 0 where
+-- the boundary of element e has answered, the code holds the sides' sets and the warning, and the intersection is in use and of the rank below
+pub record Rule7Fit (cs : List ℕ) (ps hs : List Float) (es : List ℕ) (r e : ℕ) (k : Cutter) (i o : List ℕ) (x : ElementOrNone) (w : Bool) (t : Table) (g : Gathered) : Type 0 where
   pub fit : Fit cs ps hs es r e k t
   pub some : 1 ≤ r
   pub inside : SideSet r t i (g .inside)
   pub outside : SideSet r t o (g .outside)
   pub intersection : SomeOf r x t
+  pub warning : w ≡ g .warning
 
 -- there is such a table, and the index leads to its rows
-pub record Rule7Ready (cs es ix : List ℕ) (r e : ℕ) (k : Cutter) (i o : List ℕ) (x : ElementOrNone) : Type 0 where
+pub record Rule7Ready (cs es ix : List ℕ) (r e : ℕ) (k : Cutter) (i o : List ℕ) (x : ElementOrNone) (w : Bool) : Type 0 where
   pub points : List Float
   pub planes : List Float
   pub table : Table
   pub gathered : Gathered
-  pub fit : Rule7Fit cs points planes es r e k i o x table gathered
+  pub fit : Rule7Fit cs points planes es r e k i o x w table gathered
   pub indexed : Indexed es (getD cs 1 0) ix
 
 -- whatever such table the memory holds, and whatever is gathered: rule 7; and the index leads to the rows of after
-pub record Rule7Done (cs es : List ℕ) (r e : ℕ) (k : Cutter) (i o : List ℕ) (x : ElementOrNone) (y : CutReply) (cs′ es′ ix′ : List ℕ) : Type 0 where
-  pub of : (ps hs : List Float) (t : Table) (g : Gathered) → Rule7Fit cs ps hs es r e k i o x t g
+pub record Rule7Done (cs es : List ℕ) (r e : ℕ) (k : Cutter) (i o : List ℕ) (x : ElementOrNone) (w : Bool) (y : ElementReply) (cs′ es′ ix′ : List ℕ) : Type 0 where
+  pub of : (ps hs : List Float) (t : Table) (g : Gathered) → Rule7Fit cs ps hs es r e k i o x w t g
       → Came reply.Answered reply.Refused (Holds desk cs′ ps hs es′) t (rule7 desk (cutOf (t .dimension) k) (element t e) g x t) y
   pub indexed : Indexed es′ (getD cs′ 1 0) ix′

@@ -1,12 +1,14 @@
 // Rules 6 to 8: what a cut adds for an element whose boundary has answered, and the element's own answer.
 use crate::including::include;
-use crate::sets::FLUSH;
-use rules::CutReply;
+use crate::sets::TALLY;
+use crate::sets::has_warning;
 use rules::Cutter;
+use rules::ElementAnswer;
 use rules::ElementCutOutput;
 use rules::ElementId;
 use rules::ElementOrNone;
 use rules::HyperplaneId;
+use rules::PolytopeFate;
 use space::memo;
 use space::memo::Added;
 use space::rows;
@@ -19,8 +21,24 @@ ghost use lib.Dec.{eqb};
 ghost use lib.ListN.{getD};
 ghost use Rattle.rules.specs.Limits.{noPlane};
 ghost use Rattle.rules.specs.Lists.{if_then_else_};
+ghost use Rattle.rules.specs.Replies.{isKept};
 ghost use Rattle.gathered.specs.Sets.{answersIn};
 ghost use Rattle.gathered.specs.Cutting.{PlaneReady, IntersectionReady, IntersectionMade, RowReadable, OwnTold, SideReady, SideMade, Rule7Ready, Rule7Done, Rule6Ready, Rule6Done};
+
+// How the cut of an element ended: what the functions of a cut hand each other.
+pub enum ElementReply {
+    Refused(u8),
+    Answered(ElementAnswer),
+}
+
+fn is_kept(fate: PolytopeFate) -> bool
+    ensures { λ r. ⌜ r ≡ isKept fate ⌝ }
+{
+    match fate {
+        PolytopeFate::Remove => false,
+        PolytopeFate::Keep => true,
+    }
+}
 
 // The divider's hyperplane if the rank is the dimension.
 fn plane_of_intersection(counts: &[u16], rank: usize, number: HyperplaneId) -> u16
@@ -76,15 +94,15 @@ fn side_of_cut(
     index: &mut [u16],
     e: ElementId,
     rank: usize,
-    keep: bool,
+    fate: PolytopeFate,
     set: &mut [u16; SET],
     x: ElementOrNone,
 ) -> Added
     requires { ⌜ SideReady (now counts) (now elements) (now index) rank (e .0) (now set) x ⌝ }
-    ensures { λ r. ⌜ SideMade (now (counts .entry)) (now (elements .entry)) rank (e .0) keep (now (set .entry)) x r
+    ensures { λ r. ⌜ SideMade (now (counts .entry)) (now (elements .entry)) rank (e .0) (isKept fate) (now (set .entry)) x r
         (now (counts .exit)) (now (elements .exit)) (now (index .exit)) ⌝ }
 {
-    if !keep {
+    if !is_kept(fate) {
         return Added::Made(ElementOrNone::None);
     }
     let plane = rows::plane_of(elements, e);
@@ -109,23 +127,30 @@ fn rule7(
     inside: &mut [u16; SET],
     outside: &mut [u16; SET],
     x: ElementOrNone,
-) -> CutReply
-    requires { ⌜ Rule7Ready (now counts) (now elements) (now index) rank (e .0) k (now inside) (now outside) x ⌝ }
-    ensures { λ r. ⌜ Rule7Done (now (counts .entry)) (now (elements .entry)) rank (e .0) k (now (inside .entry)) (now (outside .entry)) x r
+    warning: bool,
+) -> ElementReply
+    requires { ⌜ Rule7Ready (now counts) (now elements) (now index) rank (e .0) k (now inside) (now outside) x warning ⌝ }
+    ensures { λ r. ⌜ Rule7Done (now (counts .entry)) (now (elements .entry)) rank (e .0) k (now (inside .entry)) (now (outside .entry)) x warning r
         (now (counts .exit)) (now (elements .exit)) (now (index .exit)) ⌝ }
 {
-    let first = side_of_cut(counts, elements, index, e, rank, k.keep_inside, inside, x);
+    let params = k.params;
+    let fate_inside = params.inside;
+    let fate_outside = params.outside;
+    let first = side_of_cut(counts, elements, index, e, rank, fate_inside, inside, x);
     match first {
-        Added::Refused(no) => CutReply::Refused(no),
+        Added::Refused(no) => ElementReply::Refused(no),
         Added::Made(i) => {
-            let second = side_of_cut(counts, elements, index, e, rank, k.keep_outside, outside, x);
+            let second = side_of_cut(counts, elements, index, e, rank, fate_outside, outside, x);
             match second {
-                Added::Refused(no) => CutReply::Refused(no),
-                Added::Made(o) => CutReply::Answered(ElementCutOutput::NonFlush {
-                    inside: i,
-                    outside: o,
-                    intersection: x,
-                }),
+                Added::Refused(no) => ElementReply::Refused(no),
+                Added::Made(o) => {
+                    let output = ElementCutOutput::NonFlush {
+                        inside: i,
+                        outside: o,
+                        intersection: x,
+                    };
+                    ElementReply::Answered(ElementAnswer { output, warning })
+                }
             }
         }
     }
@@ -139,27 +164,51 @@ pub fn rule6(
     e: ElementId,
     rank: usize,
     k: Cutter,
-    flush: &[u16; FLUSH],
+    tally: &[u16; TALLY],
     inside: &mut [u16; SET],
     outside: &mut [u16; SET],
     intersections: &[u16; SET],
-) -> CutReply
-    requires { ⌜ Rule6Ready (now counts) (now elements) (now index) rank (e .0) k (answersIn (now flush) (now inside) (now outside) (now intersections)) ⌝ }
+) -> ElementReply
+    requires { ⌜ Rule6Ready (now counts) (now elements) (now index) rank (e .0) k (answersIn (now tally) (now inside) (now outside) (now intersections)) ⌝ }
     ensures { λ r. ⌜ Rule6Done (now (counts .entry)) (now (elements .entry)) rank (e .0) k
-        (answersIn (now (flush .entry)) (now (inside .entry)) (now (outside .entry)) (now (intersections .entry))) r
+        (answersIn (now (tally .entry)) (now (inside .entry)) (now (outside .entry)) (now (intersections .entry))) r
         (now (counts .exit)) (now (elements .exit)) (now (index .exit)) ⌝ }
 {
-    let flushes = flush[0];
+    let warning = has_warning(tally);
+    let flushes = tally[0];
     if 1 < flushes {
-        return CutReply::Answered(ElementCutOutput::Flush);
+        let output = ElementCutOutput::Flush;
+        return ElementReply::Answered(ElementAnswer { output, warning });
     }
     if flushes == 1 {
-        let x = ElementOrNone::Some(ElementId(wide(flush[1])));
-        return rule7(counts, elements, index, e, rank, k, inside, outside, x);
+        let x = ElementOrNone::Some(ElementId(wide(tally[1])));
+        return rule7(
+            counts,
+            elements,
+            index,
+            e,
+            rank,
+            k,
+            inside,
+            outside,
+            x,
+            warning,
+        );
     }
     let middle = new_intersection(counts, elements, index, rank, k, intersections);
     match middle {
-        Added::Refused(no) => CutReply::Refused(no),
-        Added::Made(x) => rule7(counts, elements, index, e, rank, k, inside, outside, x),
+        Added::Refused(no) => ElementReply::Refused(no),
+        Added::Made(x) => rule7(
+            counts,
+            elements,
+            index,
+            e,
+            rank,
+            k,
+            inside,
+            outside,
+            x,
+            warning,
+        ),
     }
 }

@@ -9,9 +9,12 @@ use native.Mathlib.Omega.{arith}
 use lib.ListN.{length, getD, set, take, replicate}
 use lib.Ieee.{Float, nan, fin, binary64, add, sub, mul, div, lt, ne}
 use Rattle.rules.specs.Lists.{if_then_else_, pad}
-use Rattle.rules.specs.Floats.{plusZero, within, sideOf, opposite, edgeTest, greater, lesser, clamp, crossingPoint}
+use Rattle.rules.specs.Floats.{plusZero, within, sideOf, sideTest, opposite, crossingOf, edgeTest, greater, lesser, clamp, crossingPoint}
 use Rattle.rules.specs.Promises.{Between}
+use Rattle.rules.specs.declared.Crossing.{Crossing}
 use Rattle.rules.specs.declared.Crossing.the-variants.{None, At}
+use Rattle.rules.specs.declared.EdgeTest.{EdgeTest}
+use Rattle.rules.specs.declared.SideTest.{SideTest}
 use Rattle.rules.proofs.Clamp.{clamp-within, clamp-between}
 use Rattle.rules.proofs.Laws.{if-true, if-false}
 use Rattle.hypermath.specs.Answers.{Clamped}
@@ -20,13 +23,19 @@ use Rattle.hypermath.proofs.Filling.{fill-next}
 
 -- ---- the edge test
 
-pub crossed : (a b : Float) → opposite (sideOf a) (sideOf b) ≡ true → At (div binary64 a (sub binary64 a b)) ≡ edgeTest a b
-unfolding edgeTest
+pub crossed : (a b : Float) → opposite (sideOf a) (sideOf b) ≡ true → At (div binary64 a (sub binary64 a b)) ≡ crossingOf a b
+unfolding crossingOf
 crossed a b h = sym (if-true (opposite (sideOf a) (sideOf b)) _ _ h)
 
-pub not-crossed : (a b : Float) → opposite (sideOf a) (sideOf b) ≡ false → None ≡ edgeTest a b
-unfolding edgeTest
+pub not-crossed : (a b : Float) → opposite (sideOf a) (sideOf b) ≡ false → None ≡ crossingOf a b
+unfolding crossingOf
 not-crossed a b h = sym (if-false (opposite (sideOf a) (sideOf b)) _ _ h)
+
+abbrev pub tested : Crossing → Bool → EdgeTest
+tested x w = record { crossing = x; warning = w }
+
+pub tested-is : (a b : Float) (x : Crossing) (s t : SideTest) (w : Bool) → x ≡ crossingOf a b → s ≡ sideTest a → t ≡ sideTest b → w ≡ (s .warning || t .warning) → tested x w ≡ edgeTest a b
+tested-is a b x s t w e p q v = λ j. tested (e j) ((v ∙ (λ i. p i .warning || q i .warning)) j)
 
 -- ---- the clamp
 

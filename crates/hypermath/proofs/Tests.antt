@@ -1,13 +1,15 @@
 -- Ranges, sides, unit normals and distances: each test of the code is one of the definition, so the answer is read off the tests that were taken.
 use Prim.Native.Nat.{ℕ}
-use mathlib.Core.Path.{_≡_, refl, sym, _∙_}
-use mathlib.Core.Bool.{Bool, true, false, _&&_, false≢true, true≢false}
+use mathlib.Core.Path.{_≡_, refl, sym, ap, _∙_}
+use mathlib.Core.Bool.{Bool, true, false, not, _&&_, false≢true, true≢false}
 use mathlib.Core.List.{List}
 use lib.ListN.{take, drop}
 use lib.Ieee.{Float, nan, inf, fin, binary64, neg, add, sub, lt, le, eq}
-use Rattle.rules.specs.Lists.{all}
-use Rattle.rules.specs.Floats.{plusZero, one, tolerance, farthestPlane, within, sameBits, dot, sideOf, unit}
+use Rattle.rules.specs.Lists.{if_then_else_, all}
+use Rattle.rules.specs.Floats.{plusZero, one, tolerance, farthestPlane, closeBound, within, sameBits, dot, sideOf, closeCall, sideTest, unit}
+use Rattle.rules.specs.declared.Side.{Side}
 use Rattle.rules.specs.declared.Side.the-variants.{Inside, On, Outside}
+use Rattle.rules.specs.declared.SideTest.{SideTest}
 use Rattle.rules.proofs.Laws.{if-true, if-false}
 use Rattle.hypermath.specs.Answers.{unitNormal, distanceKind}
 use Rattle.hypermath.specs.declared.DistanceKind.the-variants.{Unfit, Finite, PlusInfinity, MinusInfinity}
@@ -22,17 +24,36 @@ within-is bound x a b p q = both-are a b (le (neg bound) x) (le x bound) p q
 
 -- ---- sides
 
-pub on-it : (s : Float) → within tolerance s ≡ true → On ≡ sideOf s
-unfolding sideOf
-on-it s w = sym (if-true (within tolerance s) _ _ w)
+abbrev pub told : Side → Bool → SideTest
+told side warning = record { side = side; warning = warning }
 
-pub inside-it : (s : Float) → within tolerance s ≡ false → lt s (neg tolerance) ≡ true → Inside ≡ sideOf s
-unfolding sideOf
-inside-it s w l = sym (if-false (within tolerance s) _ _ w ∙ if-true (lt s (neg tolerance)) _ _ l)
+-- off the plane the warning is the second range test
+close-it : (s : Float) (v : Bool) → within tolerance s ≡ false → v ≡ within closeBound s → v ≡ closeCall s
+unfolding closeCall
+close-it s v w e = e ∙ sym (and-yes (within closeBound s)) ∙ ap (λ (b : Bool). within closeBound s && not b) (sym w)
+  where
+    and-yes : (b : Bool) → (b && true) ≡ b
+    and-yes true = refl
+    and-yes false = refl
 
-pub outside-it : (s : Float) → within tolerance s ≡ false → lt s (neg tolerance) ≡ false → Outside ≡ sideOf s
+pub on-it : (s : Float) → within tolerance s ≡ true → told On false ≡ sideTest s
+unfolding sideOf closeCall
+on-it s w = sym (λ j. told (if-true (within tolerance s) On (if lt s (neg tolerance) then Inside else Outside) w j) (far j))
+  where
+    and-no : (b : Bool) → (b && false) ≡ false
+    and-no true = refl
+    and-no false = refl
+
+    far : (within closeBound s && not (within tolerance s)) ≡ false
+    far = ap (λ (b : Bool). within closeBound s && not b) w ∙ and-no (within closeBound s)
+
+pub inside-it : (s : Float) (v : Bool) → within tolerance s ≡ false → v ≡ within closeBound s → lt s (neg tolerance) ≡ true → told Inside v ≡ sideTest s
 unfolding sideOf
-outside-it s w l = sym (if-false (within tolerance s) _ _ w ∙ if-false (lt s (neg tolerance)) _ _ l)
+inside-it s v w e l = λ j. told (sym (if-false (within tolerance s) On _ w ∙ if-true (lt s (neg tolerance)) Inside Outside l) j) (close-it s v w e j)
+
+pub outside-it : (s : Float) (v : Bool) → within tolerance s ≡ false → v ≡ within closeBound s → lt s (neg tolerance) ≡ false → told Outside v ≡ sideTest s
+unfolding sideOf
+outside-it s v w e l = λ j. told (sym (if-false (within tolerance s) On _ w ∙ if-false (lt s (neg tolerance)) Inside Outside l) j) (close-it s v w e j)
 
 -- ---- unit normals
 

@@ -8,11 +8,12 @@ use lib.ListN.{getD, take, drop}
 use lib.IntN.{ℤ}
 use lib.Ieee.{Float, nan, inf, fin, isNan}
 use Rattle.rules.specs.Lists.{if_then_else_, all, rows}
-use Rattle.rules.specs.Floats.{plusZero, sameBits, within, farthestPlane, signedDistance, unit, clamp}
+use Rattle.rules.specs.Floats.{plusZero, sameBits, within, farthestPlane, signedDistance, sideOf, unit, clamp}
 use Rattle.rules.specs.Table.{VertexNumber, HyperplaneNumber, Plane}
 use Rattle.rules.specs.Replies.{dividerOf}
 use Rattle.rules.specs.Promises.{Between}
 use Rattle.rules.specs.declared.Hyperplane.{Hyperplane}
+use Rattle.rules.specs.declared.Side.{Side}
 use Rattle.hypermath.specs.Axes.{axes}
 use Rattle.hypermath.specs.declared.DistanceKind.{DistanceKind}
 use Rattle.hypermath.specs.declared.DistanceKind.the-variants.{Unfit, Finite, PlusInfinity, MinusInfinity}
@@ -24,6 +25,11 @@ use Rattle.hypermath.specs.declared.FoundHyperplane.the-variants.{None a
 -- the signed distance of a lent point from a lent hyperplane, in a space of d dimensions
 abbrev pub distanceTo : ℕ → Hyperplane → List Float → Float
 distanceTo d h p = signedDistance (take d (h .normal)) (h .distance) (take d p)
+
+-- the sides of two signed distances
+pub record SidesOf (sa : Float) (a : Side) (sb : Float) (b : Side) : Type 0 where
+  pub first : a ≡ sideOf sa
+  pub second : b ≡ sideOf sb
 
 -- a normal as it is lent: unit over the dimension, and zero bits past it
 abbrev pub unitNormal : ℕ → List Float → Bool

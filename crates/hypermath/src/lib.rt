@@ -1,16 +1,21 @@
 // All that the rules do with floats: distances and sides, crossings, matches, and the two searches over the lent rows.
 mod between;
 pub mod patterns;
+mod sides;
 
 use between::above_both;
 use between::below_both;
 use between::greater;
 use between::lesser;
 use rules::Crossing;
+use rules::EdgeTest;
 use rules::Hyperplane;
 use rules::HyperplaneId;
 use rules::Side;
+use rules::SideTest;
 use rules::VertexId;
+use sides::either;
+use sides::opposed;
 ghost use Prim.Native.Nat.{_+_, _*_, _≤_};
 ghost use mathlib.Core.Path.{_≡_};
 ghost use mathlib.Core.List.{[]};
@@ -20,13 +25,16 @@ ghost use Rattle.rules.specs.Floats as floats;
 ghost use Rattle.rules.specs.Cut.{planeMatches};
 ghost use Rattle.rules.specs.Replies.{dividerOf};
 ghost use Rattle.hypermath.specs.Axes.{axes, AxesOf};
-ghost use Rattle.hypermath.specs.Answers.{distanceTo, unitNormal, distanceKind, vertexNumber, hyperplaneNumber, pointsIn, planesIn, rowHyperplane, Clamped};
+ghost use Rattle.hypermath.specs.Answers.{distanceTo, unitNormal, distanceKind, vertexNumber, hyperplaneNumber, pointsIn, planesIn, rowHyperplane, SidesOf, Clamped};
 
 // How many floats a point has.
 const AXES: usize = 4;
 
 // T, exactly 2^-20.
 const TOLERANCE: f64 = 0.00000095367431640625;
+
+// 16 T: how near to the plane is a close call.
+const CLOSE_BOUND: f64 = 0.0000152587890625;
 
 // 1 - T and 1 + T.
 const UNIT_LOW: f64 = 0.99999904632568359375;
@@ -93,17 +101,27 @@ pub fn signed_distance(d: usize, h: Hyperplane, p: [f64; 4]) -> f64
     dot(d, normal, p) - h.distance
 }
 
-// Which side a signed distance is on.
-pub fn side_of(s: f64) -> Side
-    ensures { λ r. ⌜ r ≡ floats.sideOf s ⌝ }
+// Which side a signed distance is on, and whether it was a close call.
+pub fn side_of(s: f64) -> SideTest
+    ensures { λ r. ⌜ r ≡ floats.sideTest s ⌝ }
 {
     if is_within(TOLERANCE, s) {
-        return Side::On;
+        return SideTest {
+            side: Side::On,
+            warning: false,
+        };
     }
+    let warning = is_within(CLOSE_BOUND, s);
     if s < -TOLERANCE {
-        return Side::Inside;
+        return SideTest {
+            side: Side::Inside,
+            warning,
+        };
     }
-    Side::Outside
+    SideTest {
+        side: Side::Outside,
+        warning,
+    }
 }
 
 // Every component of the dimension lies from -1 to 1.
@@ -166,37 +184,32 @@ pub fn distance_kind(x: f64) -> DistanceKind
     DistanceKind::Unfit
 }
 
-// One end is inside and the other outside.
-fn opposed(a: Side, b: Side) -> bool
-    ensures { λ r. ⌜ r ≡ floats.opposite a b ⌝ }
+// No crossing, or a crossing with its t, by the two ends' sides.
+fn crossing_of(sa: f64, a: Side, sb: f64, b: Side) -> Crossing
+    requires { ⌜ SidesOf sa a sb b ⌝ }
+    ensures { λ r. ⌜ r ≡ floats.crossingOf sa sb ⌝ }
 {
-    match a {
-        Side::Inside => match b {
-            Side::Inside => false,
-            Side::On => false,
-            Side::Outside => true,
-        },
-        Side::On => false,
-        Side::Outside => match b {
-            Side::Inside => true,
-            Side::On => false,
-            Side::Outside => false,
-        },
+    if opposed(a, b) {
+        return Crossing::At(sa / (sa - sb));
     }
+    Crossing::None
 }
 
-// No crossing of an edge, its lower-numbered end first, or a crossing with its t.
-pub fn edge_test(d: usize, h: Hyperplane, ends: [[f64; 4]; 2]) -> Crossing
+// The crossing of an edge, its lower-numbered end first, and whether an end was a close call.
+pub fn edge_test(d: usize, h: Hyperplane, ends: [[f64; 4]; 2]) -> EdgeTest
     ensures { λ r. ⌜ r ≡ floats.edgeTest (distanceTo d h (getD ends 0 [])) (distanceTo d h (getD ends 1 [])) ⌝ }
 {
     let a = ends[0];
     let b = ends[1];
     let sa = signed_distance(d, h, a);
     let sb = signed_distance(d, h, b);
-    if opposed(side_of(sa), side_of(sb)) {
-        return Crossing::At(sa / (sa - sb));
-    }
-    Crossing::None
+    let first = side_of(sa);
+    let second = side_of(sb);
+    let side_a = first.side;
+    let side_b = second.side;
+    let crossing = crossing_of(sa, side_a, sb, side_b);
+    let warning = either(first.warning, second.warning);
+    EdgeTest { crossing, warning }
 }
 
 // x, brought back between the ends a and b.

@@ -3,6 +3,7 @@
 mod print;
 
 use elements::questions;
+use rules::CutParams;
 use rules::ElementId;
 use rules::Hyperplane;
 use rules::PolytopeFate;
@@ -40,9 +41,7 @@ fn start(
 // What an example cuts: a cube of so many dimensions, by a divider, at a root.
 struct Given {
     dimension: u64,
-    divider: Hyperplane,
-    inside: PolytopeFate,
-    outside: PolytopeFate,
+    params: CutParams,
     root: usize,
 }
 
@@ -53,11 +52,14 @@ fn cut_of(
     outside: PolytopeFate,
     root: usize,
 ) -> Given {
-    Given {
-        dimension,
+    let params = CutParams {
         divider,
         inside,
         outside,
+    };
+    Given {
+        dimension,
+        params,
         root,
     }
 }
@@ -70,11 +72,9 @@ fn cut_line(
     planes: &mut [f64],
     elements: &mut [u16],
 ) {
-    let h = g.divider;
-    let i = g.inside;
-    let o = g.outside;
+    let params = g.params;
     let root = ElementId(g.root);
-    print::reply(cut::cut(counts, points, planes, elements, h, i, o, root));
+    print::reply(cut::cut(counts, points, planes, elements, params, root));
     print::counts(counts);
 }
 

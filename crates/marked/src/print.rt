@@ -4,6 +4,7 @@ use rules::ElementCutOutput;
 use rules::ElementOrNone;
 use rules::ListReply;
 use rules::Side;
+use rules::SideTest;
 use space::words::wide;
 ghost use Prim.Native.Nat.{_≤_};
 ghost use lib.ListN.{length};
@@ -60,11 +61,17 @@ pub fn reply(r: CutReply) {
             text(b"refused");
             number(no as u64);
         }
-        CutReply::Answered(a) => output(a),
+        CutReply::Answered { output: a, warning } => {
+            output(a);
+            if warning {
+                text(b" close");
+            }
+        }
     }
 }
 
-pub fn side(s: Side) {
+pub fn side(t: SideTest) {
+    let s = t.side;
     match s {
         Side::Inside => text(b" inside"),
         Side::On => text(b" on"),

@@ -3,7 +3,7 @@
 use mathlib.Core.Path.{_≡_, refl}
 use mathlib.Core.List.{List, map}
 use lib.Ieee.{ofBits, toBits, neg, add, sub, mul, div, lt, eq, le, isNan}
-use Rattle.rules.specs.Floats.{within, dotFrom, dot, signedDistance, sideOf, unit, edgeTest, clamp, crossingPoint, matches, pointMatches}
+use Rattle.rules.specs.Floats.{within, dotFrom, dot, signedDistance, sideOf, closeCall, unit, crossingOf, clamp, crossingPoint, matches, pointMatches}
 use Rattle.rules.specs.Table.{sameElement}
 use Rattle.rules.specs.Sound.{sound, roomFits, soundPoint, soundPlane, cornersInOrder, soundBoundary, soundFacet}
 use Rattle.rules.specs.Memory.{elementRow, planeRow, encode, readElement, readPlane, decode, rightSize, sameMemory, soundMemory}
@@ -16,7 +16,7 @@ use Rattle.rules.specs.Bytes.{decimal}
 use Rattle.rules.specs.Files.{header, pointRecord, planeRecord, elementRecord, fileOf, afterMark, number, float, pointIn, planeIn, elementIn, layout, tableIn, saveReply, openReply}
 use Rattle.rules.specs.Session.{blank, turn, cutlist}
 use Rattle.rules.specs.Marked.{Shown}
-use Rattle.rules.specs.Examples.{smallQ, zigzag, pinched, square, triangles, besideTriangle, tetrahedra, doubled, triangle, line, bent, soundness, choices, refusals}
+use Rattle.rules.specs.Examples.{smallQ, closeCalls, zigzag, pinched, square, triangles, besideTriangle, tetrahedra, doubled, triangle, line, bent, soundness, choices, refusals}
 use Rattle.rules.specs.Sessions.{sessions}
 use Rattle.rules.specs.FileExamples.{files}
 
@@ -25,7 +25,7 @@ abbrev pub Agree : List (Shown × Shown) → Type 0
 Agree rows = map (λ (r : Shown × Shown). r .0) rows ≡ map (λ (r : Shown × Shown). r .1) rows
 
 pub soundness-holds : Agree soundness
-unfolding neg add sub mul div lt eq le isNan ofBits within dotFrom dot signedDistance sideOf unit edgeTest clamp crossingPoint matches pointMatches
+unfolding neg add sub mul div lt eq le isNan ofBits within dotFrom dot signedDistance sideOf closeCall unit crossingOf clamp crossingPoint matches pointMatches
     sameElement sound roomFits soundPoint soundPlane cornersInOrder soundBoundary soundFacet elementRow planeRow encode readElement readPlane decode
     rightSize sameMemory soundMemory cube cubeElement cubePoint facetNormal facetPlane radiusFits addElement addPolytope addVertex planeMatches
     addPlane cutCorner rule7 rule6 cutEnds cutEdge cutHigher cutElement cut reaches subElements withRank vertexSet commonWithRank greatestFrom
@@ -34,7 +34,7 @@ unfolding neg add sub mul div lt eq le isNan ofBits within dotFrom dot signedDis
 soundness-holds = refl
 
 pub choices-hold : Agree choices
-unfolding neg add sub mul div lt eq le isNan ofBits within dotFrom dot signedDistance sideOf unit edgeTest clamp crossingPoint matches pointMatches
+unfolding neg add sub mul div lt eq le isNan ofBits within dotFrom dot signedDistance sideOf closeCall unit crossingOf clamp crossingPoint matches pointMatches
     sameElement sound roomFits soundPoint soundPlane cornersInOrder soundBoundary soundFacet elementRow planeRow encode readElement readPlane decode
     rightSize sameMemory soundMemory cube cubeElement cubePoint facetNormal facetPlane radiusFits addElement addPolytope addVertex planeMatches
     addPlane cutCorner rule7 rule6 cutEnds cutEdge cutHigher cutElement cut reaches subElements withRank vertexSet commonWithRank greatestFrom
@@ -42,8 +42,17 @@ unfolding neg add sub mul div lt eq le isNan ofBits within dotFrom dot signedDis
     greatestCommonReply edgesInOrderReply primordialFacetReply smallQ square doubled triangle line bent choices
 choices-hold = refl
 
+pub close-calls-hold : Agree closeCalls
+unfolding neg add sub mul div lt eq le isNan ofBits within dotFrom dot signedDistance sideOf closeCall unit crossingOf clamp crossingPoint matches pointMatches
+    sameElement sound roomFits soundPoint soundPlane cornersInOrder soundBoundary soundFacet elementRow planeRow encode readElement readPlane decode
+    rightSize sameMemory soundMemory cube cubeElement cubePoint facetNormal facetPlane radiusFits addElement addPolytope addVertex planeMatches
+    addPlane cutCorner rule7 rule6 cutEnds cutEdge cutHigher cutElement cut reaches subElements withRank vertexSet commonWithRank greatestFrom
+    greatestCommon walk edgesInOrder primordialFacet isSoundReply cubeReply dividerFits cutReply subElementsReply withRankReply vertexSetReply
+    greatestCommonReply edgesInOrderReply primordialFacetReply smallQ bent closeCalls
+close-calls-hold = refl
+
 pub refusals-hold : Agree refusals
-unfolding neg add sub mul div lt eq le isNan ofBits within dotFrom dot signedDistance sideOf unit edgeTest clamp crossingPoint matches pointMatches
+unfolding neg add sub mul div lt eq le isNan ofBits within dotFrom dot signedDistance sideOf closeCall unit crossingOf clamp crossingPoint matches pointMatches
     sameElement sound roomFits soundPoint soundPlane cornersInOrder soundBoundary soundFacet elementRow planeRow encode readElement readPlane decode
     rightSize sameMemory soundMemory cube cubeElement cubePoint facetNormal facetPlane radiusFits addElement addPolytope addVertex planeMatches
     addPlane cutCorner rule7 rule6 cutEnds cutEdge cutHigher cutElement cut reaches subElements withRank vertexSet commonWithRank greatestFrom
@@ -52,7 +61,7 @@ unfolding neg add sub mul div lt eq le isNan ofBits within dotFrom dot signedDis
 refusals-hold = refl
 
 pub sessions-hold : Agree sessions
-unfolding neg add sub mul div lt eq le isNan ofBits within dotFrom dot signedDistance sideOf unit edgeTest clamp crossingPoint matches pointMatches
+unfolding neg add sub mul div lt eq le isNan ofBits within dotFrom dot signedDistance sideOf closeCall unit crossingOf clamp crossingPoint matches pointMatches
     sameElement sound roomFits soundPoint soundPlane cornersInOrder soundBoundary soundFacet elementRow planeRow encode readElement readPlane decode
     rightSize sameMemory soundMemory cube cubeElement cubePoint facetNormal facetPlane radiusFits addElement addPolytope addVertex planeMatches
     addPlane cutCorner rule7 rule6 cutEnds cutEdge cutHigher cutElement cut reaches subElements withRank vertexSet commonWithRank greatestFrom

@@ -10,16 +10,16 @@ use lib.Ieee.{Float, fin, inf, nan}
 use lib.ListN.{length, drop, getD}
 use Rattle.rules.specs.Limits.{Limits}
 use Rattle.rules.specs.Lists.{find, member, findFrom}
-use Rattle.rules.specs.Floats.{pointMatches, crossingPoint, edgeTest}
+use Rattle.rules.specs.Floats.{pointMatches, crossingPoint, crossingOf}
 use Rattle.rules.specs.Table.{Table, element, Element, Plane, elementCount, sameElement, polytope, boundary, corner, primordials, rank, rankOf, planeOf, isPrimordial, boundaryOf, pointAt}
 use Rattle.rules.specs.Sound.{closed}
 use Rattle.rules.specs.Cut.{withElement, withPoint, withPlane, cut, Outcome, refused, done, Step, next, shareElement, addElement, addPolytope, addVertex, shareVertex, sharePlane}
-use Rattle.rules.specs.Cut.{addPlane, planeMatches, Cutting, sideOfCut, including, rule7, Gathered, rule6, newIntersection, planeOfIntersection, given, crossEdge, cutEdge, cutEnds}
+use Rattle.rules.specs.Cut.{addPlane, planeMatches, Cutting, Params, sideOfCut, including, rule7, Gathered, rule6, newIntersection, planeOfIntersection, given, crossEdge, cutEdge, cutEnds}
 use Rattle.rules.specs.Cut.{distanceOf, cutBoundary, gathering, cutElement, cutCorner, cutHigher, nothingYet, cutFinite, cutAtDistance}
 use Rattle.rules.specs.Held.{Extends}
 use Rattle.rules.specs.declared.Crossing.{Crossing}
 use Rattle.rules.specs.declared.Crossing.the-variants.{None as NoCrossing, At}
-use Rattle.rules.specs.declared.ElementCutOutput.{ElementCutOutput}
+use Rattle.rules.specs.declared.ElementAnswer.{ElementAnswer}
 use Rattle.rules.specs.declared.ElementOrNone.{ElementOrNone}
 use Rattle.rules.proofs.Extends.{extends-refl, extends-trans, grown-element, grown-point, grown-plane}
 use Rattle.rules.proofs.Laws.{either}
@@ -114,8 +114,8 @@ module _ (L : Limits) (c : Cutting) where
   pub rule7-builds : (e : Element) (g : Gathered) (x : ElementOrNone) → Builds (rule7 L c e g x)
   unfolding rule7
   rule7-builds e g x t =
-      after-next t (sideOfCut L (c .keepInside) e x (g .inside) t) _ (side-builds (c .keepInside) e x (g .inside) t) (λ i t₁.
-      after-next t₁ (sideOfCut L (c .keepOutside) e x (g .outside) t₁) _ (side-builds (c .keepOutside) e x (g .outside) t₁) (λ o t₂. unchanged))
+      after-next t (sideOfCut L (c .params .keepInside) e x (g .inside) t) _ (side-builds (c .params .keepInside) e x (g .inside) t) (λ i t₁.
+      after-next t₁ (sideOfCut L (c .params .keepOutside) e x (g .outside) t₁) _ (side-builds (c .params .keepOutside) e x (g .outside) t₁) (λ o t₂. unchanged))
 
   pub rule6-builds : (e : Element) (g : Gathered) (fs : List ℕ) → Builds (rule6 L c e g fs)
   unfolding rule6
@@ -136,10 +136,10 @@ module _ (L : Limits) (c : Cutting) where
       let a = getD (boundaryOf e) 0 0 in
       let b = getD (boundaryOf e) 1 0 in
       after-next t (cutEnds L c a b (pointAt t a) (pointAt t b) t) _
-      (cross-edge (pointAt t a) (pointAt t b) (edgeTest (distanceOf c (pointAt t a)) (distanceOf c (pointAt t b))) _ t)
+      (cross-edge (pointAt t a) (pointAt t b) (crossingOf (distanceOf c (pointAt t a)) (distanceOf c (pointAt t b))) _ t)
       (λ g. rule6-builds e g (g .flush))
 
-  pub cut-boundary : (ask : ℕ → Step ElementCutOutput) → ((b : ℕ) → Builds (ask b)) → (bs : List ℕ) (g : Gathered) → Builds (cutBoundary ask bs g)
+  pub cut-boundary : (ask : ℕ → Step ElementAnswer) → ((b : ℕ) → Builds (ask b)) → (bs : List ℕ) (g : Gathered) → Builds (cutBoundary ask bs g)
   cut-boundary ask h [] g t = unchanged
   cut-boundary ask h (b ∷ bs) g t = after-next t (ask b t) _ (h b t) (λ a. cut-boundary ask h bs (gathering b a g))
 
@@ -153,25 +153,25 @@ module _ (L : Limits) (c : Cutting) where
 
 -- ---- the whole cut
 
-cut-finite : (L : Limits) (h : Plane) (i o : Bool) (root : ℕ) → Builds (cutFinite L h i o root)
-cut-finite L h i o root t =
-    after-next t (addPlane L h t) _ (add-plane L h t)
-    (λ n t′. cut-element L (record { divider = h; number = n; keepInside = i; keepOutside = o }) (rank t′ root) root t′)
+cut-finite : (L : Limits) (p : Params) (root : ℕ) → Builds (cutFinite L p root)
+cut-finite L p root t =
+    after-next t (addPlane L (p .divider) t) _ (add-plane L (p .divider) t)
+    (λ n t′. cut-element L (record { params = p; number = n }) (rank t′ root) root t′)
 
-cut-at-distance : (L : Limits) (h : Plane) (d : Float) (i o : Bool) (root : ℕ) → Builds (cutAtDistance L h d i o root)
-cut-at-distance L h (inf false) i o root t = unchanged
-cut-at-distance L h (inf true) i o root t = unchanged
-cut-at-distance L h nan i o root t = cut-finite L h i o root t
-cut-at-distance L h (fin s m e) i o root t = cut-finite L h i o root t
+cut-at-distance : (L : Limits) (p : Params) (d : Float) (root : ℕ) → Builds (cutAtDistance L p d root)
+cut-at-distance L p (inf false) root t = unchanged
+cut-at-distance L p (inf true) root t = unchanged
+cut-at-distance L p nan root t = cut-finite L p root t
+cut-at-distance L p (fin s m e) root t = cut-finite L p root t
 
-pub cut-builds : (L : Limits) (h : Plane) (i o : Bool) (root : ℕ) → Builds (cut L h i o root)
+pub cut-builds : (L : Limits) (p : Params) (root : ℕ) → Builds (cut L p root)
 unfolding cut
-cut-builds L h i o root t = cut-at-distance L h (h .distance) i o root t
+cut-builds L p root t = cut-at-distance L p (p .divider .distance) root t
 
 -- an unrefused cut's table is built on the table that it was made on
-pub done-built : (L : Limits) (h : Plane) (i o : Bool) (root : ℕ) (t t′ : Table) (a : ElementCutOutput) → cut L h i o root t ≡ done a t′ → Built t t′
-done-built L h i o root t t′ a e = subst (After t) e (cut-builds L h i o root t)
+pub done-built : (L : Limits) (p : Params) (root : ℕ) (t t′ : Table) (a : ElementAnswer) → cut L p root t ≡ done a t′ → Built t t′
+done-built L p root t t′ a e = subst (After t) e (cut-builds L p root t)
 
 -- a cut that is refused is refused with one of the numbers of the rules
-pub refused-number : (L : Limits) (h : Plane) (i o : Bool) (root : ℕ) (t : Table) (n : ℕ) → cut L h i o root t ≡ refused n → RuleNumber n
-refused-number L h i o root t n e = subst (After t) e (cut-builds L h i o root t)
+pub refused-number : (L : Limits) (p : Params) (root : ℕ) (t : Table) (n : ℕ) → cut L p root t ≡ refused n → RuleNumber n
+refused-number L p root t n e = subst (After t) e (cut-builds L p root t)

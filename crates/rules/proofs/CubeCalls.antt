@@ -80,7 +80,7 @@ module _ (L : Limits) (R : Readable L) (H : HasCubes L) where
   after-file P bs m = after-call P (openReply L bs m) m (refused-open-leaves L bs m)
 
   call-sound : (c : Call) (m : Memory) → soundMemory L m ≡ true → soundMemory L (after L c m) ≡ true
-  call-sound (cutting h i o root) m s = call-follows L R (cutting h i o root) m s tt .sound-after
+  call-sound (cutting p root) m s = call-follows L R (cutting p root) m s tt .sound-after
   call-sound asking m s = s
   call-sound (cubing d radius) m s = after-cube (λ (x : Memory). soundMemory L x ≡ true) d radius m (cube-is-sound d radius m) s
   call-sound (opening bs) m s = after-file (λ (x : Memory). soundMemory L x ≡ true) bs m (open-is-sound L R bs m) s
@@ -93,7 +93,7 @@ module _ (L : Limits) (R : Readable L) (H : HasCubes L) where
   enough-boundary cs m s = sound-bordered L _ (sound-table L (afterCalls L cs m) (stays-sound cs m s))
 
   call-unmatched : (c : Call) (m : Memory) → Unmatched (decode L m) → OpensUnmatched L c m → Unmatched (decode L (after L c m))
-  call-unmatched (cutting h i o root) m u f = cut-unmatched L R h i o root m u
+  call-unmatched (cutting p root) m u f = cut-unmatched L R p root m u
   call-unmatched asking m u f = u
   call-unmatched (opening bs) m u f = after-file (λ (x : Memory). Unmatched (decode L x)) bs m f u
   call-unmatched (cubing d radius) m u f = after-cube (λ (x : Memory). Unmatched (decode L x)) d radius m (unmatched-cube d radius m) u

@@ -1,6 +1,7 @@
 -- What the repeat needs of a table, far less than soundness: an element names what is in use, and the cube's planes are there.
 -- Every number that a step handles is in use.
 use Prim.Native.Nat.{ℕ, _<_, _≤_, suc, zero, suc-le-suc}
+use mathlib.Core.Bool.{Bool, _||_}
 use mathlib.Core.List.{List, [], _++_, _∷_}
 use mathlib.Core.Path.{_≡_, ap, _∙_, refl, subst, sym}
 use native.Mathlib.Nat.{le-trans, le-of-lt, not-suc-le-zero, le-of-suc-le-suc, zero-lt-suc}
@@ -8,10 +9,11 @@ use lib.Ieee.{Float}
 use lib.ListN.{length, getD, List·getD-append}
 use lib.Seq.{getD-append-seam}
 use Rattle.rules.specs.Table.{Element, corner, polytope, Table, elementCount, element, primordials, pointOf, pointAt, boundary, boundaryOf, Plane}
-use Rattle.rules.specs.Cut.{Gathered, including, gathering, cornerAnswer, withElement, withPoint, withPlane}
+use Rattle.rules.specs.Cut.{Gathered, including, gathering, gatheringOutput, cornerOutput, withElement, withPoint, withPlane}
 use Rattle.rules.specs.Held.{Begins, Extends}
 use Rattle.rules.specs.declared.ElementCutOutput.{ElementCutOutput}
 use Rattle.rules.specs.declared.ElementCutOutput.the-variants.{Flush, NonFlush}
+use Rattle.rules.specs.declared.ElementAnswer.{ElementAnswer}
 use Rattle.rules.specs.declared.ElementOrNone.{ElementOrNone}
 use Rattle.rules.specs.declared.ElementOrNone.the-variants.{Some, None}
 use Rattle.rules.specs.declared.Side.{Side}
@@ -29,6 +31,9 @@ abbrev pub OutputIn : ElementCutOutput → ℕ → Type 0
 OutputIn Flush n = Unit {0}
 OutputIn (NonFlush i o x) n = SomeIn i n × SomeIn o n × SomeIn x n
 
+abbrev pub AnswerIn : ElementAnswer → ℕ → Type 0
+AnswerIn a n = OutputIn (a .output) n
+
 pub record GatheredIn (g : Gathered) (n : ℕ) : Type 0 where
   pub flush : Below n (g .flush)
   pub inside : Below n (g .inside)
@@ -43,14 +48,17 @@ pub below-including : (n : ℕ) (p : ElementOrNone) (s : List ℕ) → SomeIn p 
 below-including n None s h b = b
 below-including n (Some e) s h b = below-with n (e .0) s h b
 
-pub gathering-in : (n b : ℕ) (a : ElementCutOutput) (g : Gathered) → b < n → OutputIn a n → GatheredIn g n → GatheredIn (gathering b a g) n
-gathering-in n b Flush g l h k = record { flush = (l, k .flush); inside = k .inside; outside = k .outside; intersections = k .intersections }
-gathering-in n b (NonFlush i o x) g l h k = record {
-  flush = k .flush;
-  inside = below-including n i (g .inside) (h .0) (k .inside);
-  outside = below-including n o (g .outside) (h .1) (k .outside);
-  intersections = below-including n x (g .intersections) (h .2) (k .intersections);
-}
+pub gathering-in : (n b : ℕ) (a : ElementAnswer) (g : Gathered) → b < n → AnswerIn a n → GatheredIn g n → GatheredIn (gathering b a g) n
+gathering-in n b a g l h k = go (a .output) (g .warning || a .warning) h
+  where
+    go : (out : ElementCutOutput) (w : Bool) → OutputIn out n → GatheredIn (gatheringOutput b out w g) n
+    go Flush w h = record { flush = (l, k .flush); inside = k .inside; outside = k .outside; intersections = k .intersections }
+    go (NonFlush i o x) w h = record {
+      flush = k .flush;
+      inside = below-including n i (g .inside) (h .0) (k .inside);
+      outside = below-including n o (g .outside) (h .1) (k .outside);
+      intersections = below-including n x (g .intersections) (h .2) (k .intersections);
+    }
 
 pub gathered-more : {n m : ℕ} (g : Gathered) → n ≤ m → GatheredIn g n → GatheredIn g m
 gathered-more g l k = record {
@@ -60,7 +68,7 @@ gathered-more g l k = record {
   intersections = below-more (g .intersections) l (k .intersections);
 }
 
-pub corner-in : (n e : ℕ) (s : Side) → e < n → OutputIn (cornerAnswer e s) n
+pub corner-in : (n e : ℕ) (s : Side) → e < n → OutputIn (cornerOutput e s) n
 corner-in n e Inside l = (l, tt, tt)
 corner-in n e On l = tt
 corner-in n e Outside l = (tt, l, tt)

@@ -84,6 +84,14 @@ pub or-false : (a b : Bool) → (a || b) ≡ false → (a ≡ false) × (b ≡ f
 or-false true b h = absurd (true≢false h)
 or-false false b h = (refl, h)
 
+pub or-none : (a : Bool) → (a || false) ≡ a
+or-none true = refl
+or-none false = refl
+
+pub or-shift : (a b c : Bool) → ((a || b) || c) ≡ (a || (b || c))
+or-shift true b c = refl
+or-shift false b c = refl
+
 pub beq-self : (b : Bool) → Bool·beq b b ≡ true
 beq-self true = refl
 beq-self false = refl

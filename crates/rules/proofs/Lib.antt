@@ -6,6 +6,7 @@ pub mod Built
 pub mod ByteLaws
 pub mod Calls
 pub mod Clamp
+pub mod CloseBelow
 pub mod Comparisons
 pub mod Corners
 pub mod CornersApart
@@ -53,3 +54,4 @@ pub mod Stays
 pub mod StaysCut
 pub mod VertexSet
 pub mod WalkRound
+pub mod Warned

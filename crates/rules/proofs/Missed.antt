@@ -12,21 +12,23 @@ use lib.Ieee.{fin, Float, below, inf, nan}
 use lib.ListN.{length, getD, drop}
 use Rattle.rules.specs.Limits.{Limits}
 use Rattle.rules.specs.Lists.{find, any, distinct, findFrom, if_then_else_, all, rises, withMember}
-use Rattle.rules.specs.Floats.{opposite, sideOf, signedDistance, edgeTest}
+use Rattle.rules.specs.Floats.{opposite, sideOf, signedDistance, crossingOf}
 use Rattle.rules.specs.Table.{corner, element, Element, Table, Plane, rank, pointAt, elementCount, polytope, rankOf, planeOf, isPrimordial, sameElement, boundaryOf, primordials, pointOf}
 use Rattle.rules.specs.Sound.{closed, soundPlane}
-use Rattle.rules.specs.Cut.{next, Cutting, Gathered, nothingYet, gathering, cornerAnswer, Step, done, cutBoundary, cut, Outcome, give, addPolytope, sideOfCut, given, addElement, shareElement}
+use Rattle.rules.specs.Cut.{next, Cutting, Params, Gathered, nothingYet, gathering, cornerOutput, Step, done, cutBoundary, cut, Outcome, give, addPolytope, sideOfCut, given, addElement, shareElement}
 use Rattle.rules.specs.Cut.{rule7, rule6, planeOfIntersection, cutEdge, cutHigher, cutElement, cutEnds, cutCorner, distanceOf, refused, addPlane, planeMatches, sharePlane, cutAtDistance}
 use Rattle.rules.specs.Questions.{reaches}
 use Rattle.rules.specs.Held.{AllOf, Ranked}
 use Rattle.rules.specs.declared.Crossing.the-variants.{None as NoCrossing}
-use Rattle.rules.specs.declared.ElementCutOutput.{ElementCutOutput}
+use Rattle.rules.specs.declared.ElementAnswer.{ElementAnswer}
 use Rattle.rules.specs.declared.ElementOrNone.the-variants.{None}
 use Rattle.rules.specs.declared.Side.{Side}
 use Rattle.rules.specs.declared.Side.the-variants.{Inside, Outside}
+use Rattle.rules.proofs.CloseBelow.{closeBelow, close-later}
+use Rattle.rules.proofs.Corners.{good-fine}
 use Rattle.rules.proofs.Good.{Good, whole-at}
 use Rattle.rules.proofs.Growing.{all-get}
-use Rattle.rules.proofs.Laws.{or-false, if-true, if-false, not-true, and-left, and-right, le-test, test-above, not-eq, or-left, or-right, eqb-self, eq-test, either}
+use Rattle.rules.proofs.Laws.{or-false, or-none, or-shift, if-true, if-false, not-true, and-left, and-right, le-test, test-above, not-eq, or-left, or-right, eqb-self, eq-test, either}
 use Rattle.rules.proofs.Ranked.{ranked-all}
 use Rattle.rules.proofs.Repeat.{NotInfinite}
 use Rattle.rules.proofs.Selves.{element-self}
@@ -76,34 +78,38 @@ same-side true = refl
 same-side false = refl
 
 abbrev keeps : Cutting → Bool → Bool
-keeps c inside = if inside then c .keepInside else c .keepOutside
+keeps c inside = if inside then c .params .keepInside else c .params .keepOutside
 
 -- only that side's set has members
-abbrev gatheredBy : Bool → List ℕ → Gathered
-gatheredBy inside s = record { flush = []; inside = if inside then s else []; outside = if inside then [] else s; intersections = [] }
+abbrev gatheredBy : Bool → List ℕ → Bool → Gathered
+gatheredBy inside s w = record { flush = []; inside = if inside then s else []; outside = if inside then [] else s; intersections = []; warning = w }
 
-gathered-none : (inside : Bool) → nothingYet ≡ gatheredBy inside []
+gathered-none : (inside : Bool) → nothingYet ≡ gatheredBy inside [] false
 gathered-none true = refl
 gathered-none false = refl
 
-gathered-more : (inside : Bool) (b : ℕ) (s : List ℕ) → gathering b (cornerAnswer b (sideBy inside)) (gatheredBy inside s) ≡ gatheredBy inside (withMember b s)
-gathered-more true b s = refl
-gathered-more false b s = refl
+-- the element itself on that side, as a corner is, with a warning
+abbrev pub givenBack : Bool → ℕ → Bool → ElementAnswer
+givenBack inside e w = record { output = cornerOutput e (sideBy inside); warning = w }
 
--- the element answers itself on that side, as a corner does, and leaves the table
-abbrev Itself : Bool → (ℕ → Step ElementCutOutput) → Table → ℕ → Type 0
-Itself inside ask t e = ask e t ≡ done (cornerAnswer e (sideBy inside)) t
+gathered-more : (inside : Bool) (b : ℕ) (s : List ℕ) (v w : Bool) → gathering b (givenBack inside b v) (gatheredBy inside s w) ≡ gatheredBy inside (withMember b s) (w || v)
+gathered-more true b s v w = refl
+gathered-more false b s v w = refl
+
+-- the element answers itself, and leaves the table
+abbrev Itself : Bool → (ℕ → Bool) → (ℕ → Step ElementAnswer) → Table → ℕ → Type 0
+Itself inside W ask t e = ask e t ≡ done (givenBack inside e (W e)) t
 
 -- a boundary whose elements answer themselves gathers itself
-boundary-gathers : (inside : Bool) (ask : ℕ → Step ElementCutOutput) (t : Table) (s bs : List ℕ) → AllOf (Itself inside ask t) bs → rises (s ++ bs) ≡ true
-    → cutBoundary ask bs (gatheredBy inside s) t ≡ done (gatheredBy inside (s ++ bs)) t
-boundary-gathers inside ask t s [] h r = ap (λ (l : List ℕ). done (gatheredBy inside l) t) (sym (append-nil s))
-boundary-gathers inside ask t s (b ∷ bs) h r =
+boundary-gathers : (inside : Bool) (W : ℕ → Bool) (ask : ℕ → Step ElementAnswer) (t : Table) (s bs : List ℕ) (w : Bool) → AllOf (Itself inside W ask t) bs → rises (s ++ bs) ≡ true
+    → cutBoundary ask bs (gatheredBy inside s w) t ≡ done (gatheredBy inside (s ++ bs) (w || any W bs)) t
+boundary-gathers inside W ask t s [] w h r = λ j. done (gatheredBy inside (sym (append-nil s) j) (sym (or-none w) j)) t
+boundary-gathers inside W ask t s (b ∷ bs) w h r =
     let e = append-assoc s (b ∷ []) bs in
-    ap (λ (o : Outcome ElementCutOutput). next o (λ a. cutBoundary ask bs (gathering b a (gatheredBy inside s)))) (h .0)
-    ∙ ap (λ (g : Gathered). cutBoundary ask bs g t) (gathered-more inside b s ∙ ap (gatheredBy inside) (with-last s b bs r))
-    ∙ boundary-gathers inside ask t (s ++ b ∷ []) bs (h .1) (ap rises e ∙ r)
-    ∙ ap (λ (l : List ℕ). done (gatheredBy inside l) t) e
+    ap (λ (o : Outcome ElementAnswer). next o (λ a. cutBoundary ask bs (gathering b a (gatheredBy inside s w)))) (h .0)
+    ∙ ap (λ (g : Gathered). cutBoundary ask bs g t) (gathered-more inside b s (W b) w ∙ ap (λ (l : List ℕ). gatheredBy inside l (w || W b)) (with-last s b bs r))
+    ∙ boundary-gathers inside W ask t (s ++ b ∷ []) bs (w || W b) (h .1) (ap rises e ∙ r)
+    ∙ (λ j. done (gatheredBy inside (e j) (or-shift w (W b) (any W bs) j)) t)
 
 -- ---- corners on one side
 
@@ -164,21 +170,27 @@ module _ (L : Limits) (t : Table) (good : Good L t) (c : Cutting) where
     own-side true z = own-polytope L t good e r b h m used own
     own-side false z = absurd (false≢true z)
 
-    own-rule7 : (inside : Bool) → keeps c inside ≡ true → rule7 L c (polytope r b h m) (gatheredBy inside b) None t ≡ done (cornerAnswer e (sideBy inside)) t
+    own-rule7 : (inside w : Bool) → keeps c inside ≡ true → rule7 L c (polytope r b h m) (gatheredBy inside b w) None t ≡ done (givenBack inside e w) t
     unfolding rule7
-    own-rule7 true k = rw (own-side (c .keepInside) k, empty-side (c .keepOutside) (polytope r b h m))
-    own-rule7 false k = rw (empty-side (c .keepInside) (polytope r b h m), own-side (c .keepOutside) k)
+    own-rule7 true w k = rw (own-side (c .params .keepInside) k, empty-side (c .params .keepOutside) (polytope r b h m))
+    own-rule7 false w k = rw (empty-side (c .params .keepInside) (polytope r b h m), own-side (c .params .keepOutside) k)
 
-    own-rule6 : (inside : Bool) → keeps c inside ≡ true → rule6 L c (polytope r b h m) (gatheredBy inside b) [] t ≡ done (cornerAnswer e (sideBy inside)) t
+    own-rule6 : (inside w : Bool) → keeps c inside ≡ true → rule6 L c (polytope r b h m) (gatheredBy inside b w) [] t ≡ done (givenBack inside e w) t
     unfolding rule6
-    own-rule6 inside k = rw (empty-polytope (r - 1) (planeOfIntersection t c r) false) (own-rule7 inside k)
+    own-rule6 inside w k = rw (empty-polytope (r - 1) (planeOfIntersection t c r) false) (own-rule7 inside w k)
 
   module _ (inside : Bool) (kept : keeps c inside ≡ true) where
     abbrev ClearOf : ℕ → ℕ → Type 0
-    ClearOf r e = Clear t (c .divider) (sideBy inside) r e
+    ClearOf r e = Clear t (c .params .divider) (sideBy inside) r e
 
-    no-crossing : (sa sb : Float) → sideOf sa ≡ sideBy inside → sideOf sb ≡ sideBy inside → edgeTest sa sb ≡ NoCrossing
-    unfolding edgeTest
+    abbrev close : ℕ → ℕ → Bool
+    close r e = closeBelow (c .params .divider) t r e
+
+    abbrev Missed : ℕ → ℕ → Type 0
+    Missed r e = Itself inside (close r) (cutElement L c r) t e
+
+    no-crossing : (sa sb : Float) → sideOf sa ≡ sideBy inside → sideOf sb ≡ sideBy inside → crossingOf sa sb ≡ NoCrossing
+    unfolding crossingOf
     no-crossing sa sb p q = if-false (opposite (sideOf sa) (sideOf sb)) _ _ (ap₂ opposite p q ∙ same-side inside)
 
     -- an edge that is not crossed asks its two ends, as a higher element asks its boundary
@@ -200,28 +212,29 @@ module _ (L : Limits) (t : Table) (good : Good L t) (c : Cutting) where
     asks (suc r) e b h m q z k = ap (λ (y : Element). cutHigher L c (cutElement L c (suc r)) y t) q
 
     -- from the boundary to the element
-    missed-up : (r e : ℕ) → ((x : ℕ) → ClearOf r x → Itself inside (cutElement L c r) t x) → ClearOf (suc r) e → Itself inside (cutElement L c (suc r)) t e
-    unfolding cutHigher reaches
+    missed-up : (r e : ℕ) → ((x : ℕ) → ClearOf r x → Missed r x) → ClearOf (suc r) e → Missed (suc r) e
+    unfolding cutHigher reaches closeBelow
     missed-up r e below k = go (element t e) refl (k .ranked)
       where
-        go : (y : Element) → element t e ≡ y → rankOf y ≡ suc r → Itself inside (cutElement L c (suc r)) t e
+        go : (y : Element) → element t e ≡ y → rankOf y ≡ suc r → Missed (suc r) e
         go (corner v) q z = absurd (suc-ne-zero r (sym z))
         go (polytope s b h m) q z =
             let own : element t e ≡ polytope (suc r) b h m = q ∙ ap (λ (n : ℕ). polytope n b h m) z in
             let w = whole-at L t e (suc r) b h m good (k .used) own .bound in
-            let on : (x : ℕ) → any (λ d. reaches t r d x) b ≡ true → CornerOn t (c .divider) (sideBy inside) x =
+            let on : (x : ℕ) → any (λ d. reaches t r d x) b ≡ true → CornerOn t (c .params .divider) (sideBy inside) x =
             (λ x a. k .on x (or-right (eqb e x) _ (ap (λ (y : Element). any (λ d. reaches t r d x) (boundaryOf y)) q ∙ a))) in
-            let clear = clear-all t (c .divider) (sideBy inside) r b (ranked-all t e (suc r) b (le-of-lt (k .used)) (w .under) (w .ranks)) on in
-            let rest : Gathered → Step ElementCutOutput = λ g. rule6 L c (polytope (suc r) b h m) g (g .flush) in
+            let clear = clear-all t (c .params .divider) (sideBy inside) r b (ranked-all t e (suc r) b (le-of-lt (k .used)) (w .under) (w .ranks)) on in
+            let rest : Gathered → Step ElementAnswer = λ g. rule6 L c (polytope (suc r) b h m) g (g .flush) in
             asks r e b h m own (w .tight) clear
             ∙ ap (λ (g : Gathered). next (cutBoundary (cutElement L c r) b g t) rest) (gathered-none inside)
             ∙ ap (λ (o : Outcome Gathered). next o rest)
-            (boundary-gathers inside (cutElement L c r) t [] b (allOf-map (ClearOf r) (Itself inside (cutElement L c r) t) below b clear) (w .rising))
-            ∙ own-rule6 e (suc r) b h m (k .used) own inside kept
+            (boundary-gathers inside (close r) (cutElement L c r) t [] b false (allOf-map (ClearOf r) (Missed r) below b clear) (w .rising))
+            ∙ own-rule6 e (suc r) b h m (k .used) own inside (any (close r) b) kept
+            ∙ ap (λ (y : Element). done (givenBack inside e (any (close r) (boundaryOf y))) t) (sym q)
 
-    missed : (r e : ℕ) → ClearOf r e → Itself inside (cutElement L c r) t e
-    unfolding cutElement cutCorner reaches
-    missed zero e k = ap (λ (s : Side). done (cornerAnswer e s) t) (k .on e (eqb-self e) (k .ranked))
+    missed : (r e : ℕ) → ClearOf r e → Missed r e
+    unfolding cutElement cutCorner reaches closeBelow
+    missed zero e k = ap (λ (s : Side). done (record { output = cornerOutput e s; warning = close 0 e }) t) (k .on e (eqb-self e) (k .ranked))
     missed (suc r) e k = missed-up r e (missed r) k
 
 -- ---- the whole cut
@@ -258,25 +271,32 @@ clear-same t s h side r e q p k = record {
     ranks : (x : ℕ) → rank s x ≡ rank t x
     ranks x = ap (λ (es : List Element). rankOf (getD es x (corner 0))) q
 
-module _ (L : Limits) (t : Table) (good : Good L t) (h : Plane) (fits : soundPlane (t .dimension) h ≡ true) (finite : NotInfinite (h .distance))
-    (i o : Bool) (root : ℕ) (used : root < elementCount t) where
+module _ (L : Limits) (t : Table) (good : Good L t) (p : Params) (fits : soundPlane (t .dimension) (p .divider) ≡ true) (finite : NotInfinite (p .divider .distance))
+    (root : ℕ) (used : root < elementCount t) where
+  abbrev h : Plane
+  h = p .divider
+
   -- a cut that misses the root gives it back on its side, and adds at most the divider's hyperplane
-  pub missed-cut : (inside : Bool) → (if inside then i else o) ≡ true → CornersOn t h (sideBy inside) (rank t root) root
-      → cut L h i o root t ≡ next (addPlane L h t) (λ n. give (cornerAnswer root (sideBy inside)))
+  pub missed-cut : (inside : Bool) → (if inside then p .keepInside else p .keepOutside) ≡ true → CornersOn t h (sideBy inside) (rank t root) root
+      → cut L p root t ≡ next (addPlane L h t) (λ n. give (givenBack inside root (closeBelow h t (rank t root) root)))
   unfolding cut
   missed-cut inside kept on = at (h .distance) finite
     where
       cutting : ℕ → Cutting
-      cutting n = record { divider = h; number = n; keepInside = i; keepOutside = o }
+      cutting n = record { params = p; number = n }
+
+      answer : ElementAnswer
+      answer = givenBack inside root (closeBelow h t (rank t root) root)
 
       go : (a : Outcome ℕ) → Stays L (λ (n : ℕ) (s : Table). n < length (s .planes)) t a → Unmoved t a
-          → next a (λ n s. cutElement L (cutting n) (rank s root) root s) ≡ next a (λ n. give (cornerAnswer root (sideBy inside)))
+          → next a (λ n s. cutElement L (cutting n) (rank s root) root s) ≡ next a (λ n. give answer)
       go (refused n) k m = refl
       go (done n s) k m =
           let clear = clear-same t s h (sideBy inside) (rank t root) root (m .0) (m .1) (record { used = used; ranked = refl; on = on }) in
           ap (λ (r : ℕ). cutElement L (cutting n) r root s) (clear .ranked) ∙ missed L s (k .good) (cutting n) inside kept (rank t root) root clear
+          ∙ ap (λ (w : Bool). done (givenBack inside root w) s) (close-later h t s (good-fine L t good) (k .extends) (rank t root) root used)
 
-      at : (d : Float) → NotInfinite d → cutAtDistance L h d i o root t ≡ next (addPlane L h t) (λ n. give (cornerAnswer root (sideBy inside)))
+      at : (d : Float) → NotInfinite d → cutAtDistance L p d root t ≡ next (addPlane L h t) (λ n. give answer)
       at (inf false) z = absurd z
       at (inf true) z = absurd z
       at nan z = go (addPlane L h t) (plane-stays L t good h fits) (plane-unmoved L h t)

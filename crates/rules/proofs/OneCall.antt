@@ -14,11 +14,12 @@ use Rattle.rules.specs.Table.{Table, elementCount}
 use Rattle.rules.specs.Sound.{sound, soundPlane}
 use Rattle.rules.specs.Memory.{Memory, soundMemory, decode, rightSize, sameMemory, encode}
 use Rattle.rules.specs.Cut.{refused, cut, done, Outcome}
-use Rattle.rules.specs.Replies.{dividerFits, dividerOf, distanceFits, written, cutReply}
+use Rattle.rules.specs.Replies.{dividerFits, dividerOf, paramsOf, distanceFits, asReply, written, cutReply}
 use Rattle.rules.specs.Promises.{Passes, NamesBelow}
 use Rattle.rules.specs.declared.CutReply.{CutReply}
 use Rattle.rules.specs.declared.CutReply.the-variants.{Answered, Refused}
-use Rattle.rules.specs.declared.ElementCutOutput.{ElementCutOutput}
+use Rattle.rules.specs.declared.CutParams.{CutParams}
+use Rattle.rules.specs.declared.ElementAnswer.{ElementAnswer}
 use Rattle.rules.specs.declared.Hyperplane.{Hyperplane}
 use Rattle.rules.proofs.Built.{Built, done-built}
 use Rattle.rules.proofs.Good.{Good, sound-good, good-sound}
@@ -66,39 +67,39 @@ sound-table L m s = and-right (rightSize L m && sameMemory (encode L (decode L m
 
 abbrev IsAnswered : CutReply → Type 0
 IsAnswered (Refused n) = ⊥
-IsAnswered (Answered a) = Unit {0}
+IsAnswered (Answered a w) = Unit {0}
 
 -- what it answers, with some answer where it is refused
-abbrev answerOr : ElementCutOutput → CutReply → ElementCutOutput
+abbrev answerOr : ElementAnswer → CutReply → ElementAnswer
 answerOr b (Refused n) = b
-answerOr b (Answered a) = a
+answerOr b (Answered a w) = record { output = a; warning = w }
 
-pub record Did (L : Limits) (h : Hyperplane) (i o : Bool) (root : ℕ) (m : Memory) (a : ElementCutOutput) (m′ : Memory) : Type 0 where
-  pub passes : Passes L h root m
+pub record Did (L : Limits) (p : CutParams) (root : ℕ) (m : Memory) (a : ElementAnswer) (m′ : Memory) : Type 0 where
+  pub passes : Passes L (p .divider) root m
   pub table-after : Table
-  pub cuts : cut L (dividerOf (decode L m .dimension) h) i o root (decode L m) ≡ done a table-after
+  pub cuts : cut L (paramsOf (decode L m .dimension) p) root (decode L m) ≡ done a table-after
   pub writes : m′ ≡ encode L table-after
 
-module _ (L : Limits) (h : Hyperplane) (i o : Bool) (root : ℕ) (m : Memory) where
-  abbrev made : Outcome ElementCutOutput
-  made = cut L (dividerOf (decode L m .dimension) h) i o root (decode L m)
+module _ (L : Limits) (p : CutParams) (root : ℕ) (m : Memory) where
+  abbrev made : Outcome ElementAnswer
+  made = cut L (paramsOf (decode L m .dimension) p) root (decode L m)
 
   -- the reply, with its tests as arguments
-  abbrev pub replyBy : Bool → Bool → Bool → Outcome ElementCutOutput → CutReply × Memory
+  abbrev pub replyBy : Bool → Bool → Bool → Outcome ElementAnswer → CutReply × Memory
   replyBy s u f r = if not s then (Refused 3, m) else if not u then (Refused 4, m) else if not f then (Refused 5, m) else written L m r
 
-  pub reply-by : cutReply L h i o root m ≡ replyBy (soundMemory L m) (ltb root (elementCount (decode L m))) (dividerFits L (decode L m .dimension) h) made
+  pub reply-by : cutReply L p root m ≡ replyBy (soundMemory L m) (ltb root (elementCount (decode L m))) (dividerFits L (decode L m .dimension) (p .divider)) made
   unfolding cutReply
   reply-by = refl
 
-  pub did : (a : ElementCutOutput) (m′ : Memory) → cutReply L h i o root m ≡ (Answered a, m′) → Did L h i o root m a m′
-  did a m′ e = go (soundMemory L m) (ltb root (elementCount (decode L m))) (dividerFits L (decode L m .dimension) h) made refl refl refl refl (sym reply-by ∙ e)
+  pub did : (a : ElementAnswer) (m′ : Memory) → cutReply L p root m ≡ (asReply a, m′) → Did L p root m a m′
+  did a m′ e = go (soundMemory L m) (ltb root (elementCount (decode L m))) (dividerFits L (decode L m .dimension) (p .divider)) made refl refl refl refl (sym reply-by ∙ e)
     where
-      no : {A : Type 0} (n : ℕ) → _≡_ {A = CutReply × Memory} (Refused n, m) (Answered a, m′) → A
+      no : {A : Type 0} (n : ℕ) → _≡_ {A = CutReply × Memory} (Refused n, m) (asReply a, m′) → A
       no n q = absurd (subst IsAnswered (sym (ap (λ (r : CutReply × Memory). r .0) q)) tt)
 
-      go : (s u f : Bool) (r : Outcome ElementCutOutput) → soundMemory L m ≡ s → ltb root (elementCount (decode L m)) ≡ u
-          → dividerFits L (decode L m .dimension) h ≡ f → made ≡ r → replyBy s u f r ≡ (Answered a, m′) → Did L h i o root m a m′
+      go : (s u f : Bool) (r : Outcome ElementAnswer) → soundMemory L m ≡ s → ltb root (elementCount (decode L m)) ≡ u
+          → dividerFits L (decode L m .dimension) (p .divider) ≡ f → made ≡ r → replyBy s u f r ≡ (asReply a, m′) → Did L p root m a m′
       go false u f r p₁ p₂ p₃ p₄ q = no 3 q
       go true false f r p₁ p₂ p₃ p₄ q = no 4 q
       go true true false r p₁ p₂ p₃ p₄ q = no 5 q
@@ -106,45 +107,45 @@ module _ (L : Limits) (h : Hyperplane) (i o : Bool) (root : ℕ) (m : Memory) wh
       go true true true (done b t) p₁ p₂ p₃ p₄ q = record {
         passes = record { sound = p₁; used = le-test (suc root) (elementCount (decode L m)) p₂; fits = p₃ };
         table-after = t;
-        cuts = p₄ ∙ ap (λ (x : ElementCutOutput). done x t) (ap (λ (x : CutReply × Memory). answerOr b (x .0)) q);
+        cuts = p₄ ∙ ap (λ (x : ElementAnswer). done x t) (ap (λ (x : CutReply × Memory). answerOr b (x .0)) q);
         writes = sym (ap (λ (x : CutReply × Memory). x .1) q);
       }
 
   -- a call that 3, 4 and 5 let pass
-  pub passed : Passes L h root m → cutReply L h i o root m ≡ written L m made
-  passed p =
+  pub passed : Passes L (p .divider) root m → cutReply L p root m ≡ written L m made
+  passed g =
       reply-by
-      ∙ ap (λ (s : Bool). replyBy s (ltb root (elementCount (decode L m))) (dividerFits L (decode L m .dimension) h) made) (p .sound)
-      ∙ ap (λ (u : Bool). replyBy true u (dividerFits L (decode L m .dimension) h) made) (test-le (suc root) (elementCount (decode L m)) (p .used))
-      ∙ ap (λ (f : Bool). replyBy true true f made) (p .fits)
+      ∙ ap (λ (s : Bool). replyBy s (ltb root (elementCount (decode L m))) (dividerFits L (decode L m .dimension) (p .divider)) made) (g .sound)
+      ∙ ap (λ (u : Bool). replyBy true u (dividerFits L (decode L m .dimension) (p .divider)) made) (test-le (suc root) (elementCount (decode L m)) (g .used))
+      ∙ ap (λ (f : Bool). replyBy true true f made) (g .fits)
 
 -- ---- after an answer
 
-module _ (L : Limits) (R : Readable L) (h : Hyperplane) (i o : Bool) (root : ℕ) (m : Memory) (a : ElementCutOutput) (m′ : Memory)
-    (e : cutReply L h i o root m ≡ (Answered a, m′)) where
-  pub it : Did L h i o root m a m′
-  it = did L h i o root m a m′ e
+module _ (L : Limits) (R : Readable L) (p : CutParams) (root : ℕ) (m : Memory) (a : ElementAnswer) (m′ : Memory)
+    (e : cutReply L p root m ≡ (asReply a, m′)) where
+  pub it : Did L p root m a m′
+  it = did L p root m a m′ e
 
   pub good-before : Good L (decode L m)
   good-before = sound-good L (decode L m) (sound-table L m (it .passes .sound))
 
   pub after-built : Built (decode L m) (it .table-after)
-  after-built = done-built L (dividerOf (decode L m .dimension) h) i o root (decode L m) (it .table-after) a (it .cuts)
+  after-built = done-built L (paramsOf (decode L m .dimension) p) root (decode L m) (it .table-after) a (it .cuts)
 
   after-stays : Kept L NamesInUse (decode L m) a (it .table-after)
   after-stays =
       subst (Stays L NamesInUse (decode L m)) (it .cuts)
-      (cut-stays L (dividerOf (decode L m .dimension) h) i o root (decode L m) good-before (it .passes .used)
-      (divider-sound L (decode L m .dimension) h (le-test (decode L m .dimension) (L .dimensions) (good-before .high)) (it .passes .fits)))
+      (cut-stays L (paramsOf (decode L m .dimension) p) root (decode L m) good-before (it .passes .used)
+      (divider-sound L (decode L m .dimension) (p .divider) (le-test (decode L m .dimension) (L .dimensions) (good-before .high)) (it .passes .fits)))
 
   -- the table left is sound
   pub after-sound : sound L (it .table-after) ≡ true
   after-sound = good-sound L (it .table-after) (after-stays .good)
 
   -- what is answered is in use
-  pub names-in-use : NamesBelow (getD (m′ .counts) 1 0) a
+  pub names-in-use : NamesBelow (getD (m′ .counts) 1 0) (a .output)
   unfolding encode
-  names-in-use = subst (λ (x : Memory). NamesBelow (getD (x .counts) 1 0) a) (sym (it .writes)) (after-stays .value)
+  names-in-use = subst (λ (x : Memory). NamesBelow (getD (x .counts) 1 0) (a .output)) (sym (it .writes)) (after-stays .value)
 
   pub memory-sound : soundMemory L m′ ≡ true
   memory-sound = subst (λ (x : Memory). soundMemory L x ≡ true) (sym (it .writes)) (written-sound L R (it .table-after) after-sound)

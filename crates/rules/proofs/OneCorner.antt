@@ -15,7 +15,7 @@ use Rattle.rules.specs.Replies.{cutReply}
 use Rattle.rules.specs.Promises.{Unmatched}
 use Rattle.rules.specs.declared.CutReply.{CutReply}
 use Rattle.rules.specs.declared.CutReply.the-variants.{Refused, Answered}
-use Rattle.rules.specs.declared.Hyperplane.{Hyperplane}
+use Rattle.rules.specs.declared.CutParams.{CutParams}
 use Rattle.rules.proofs.Built.{Built, unchanged, element-more, point-more, plane-more}
 use Rattle.rules.proofs.Growing.{apart-snoc}
 use Rattle.rules.proofs.Laws.{not-true, and-left, or-false, and-right, and-true, neither}
@@ -59,10 +59,10 @@ built-apart (plane-more t g q) h = built-apart q h
 pub built-unmatched : {a b : Table} → Built a b → Unmatched a → Unmatched b
 built-unmatched {a} {b} q u = apart-at (b .points) (built-apart q (at-apart (a .points) u))
 
-pub cut-unmatched : (L : Limits) → Readable L → (h : Hyperplane) (i o : Bool) (root : ℕ) (m : Memory)
-    → Unmatched (decode L m) → Unmatched (decode L (cutReply L h i o root m .1))
-cut-unmatched L R h i o root m u = go (cutReply L h i o root m .0) (cutReply L h i o root m .1) refl
+pub cut-unmatched : (L : Limits) → Readable L → (p : CutParams) (root : ℕ) (m : Memory)
+    → Unmatched (decode L m) → Unmatched (decode L (cutReply L p root m .1))
+cut-unmatched L R p root m u = go (cutReply L p root m .0) (cutReply L p root m .1) refl
   where
-    go : (r : CutReply) (m′ : Memory) → cutReply L h i o root m ≡ (r, m′) → Unmatched (decode L m′)
-    go (Refused n) m′ e = subst (λ (x : Memory). Unmatched (decode L x)) (sym (refused-leaves L h i o root m m′ n e)) u
-    go (Answered a) m′ e = built-unmatched (memory-built L R h i o root m a m′ e) u
+    go : (r : CutReply) (m′ : Memory) → cutReply L p root m ≡ (r, m′) → Unmatched (decode L m′)
+    go (Refused n) m′ e = subst (λ (x : Memory). Unmatched (decode L x)) (sym (refused-leaves L p root m m′ n e)) u
+    go (Answered a w) m′ e = built-unmatched (memory-built L R p root m (record { output = a; warning = w }) m′ e) u

@@ -8,23 +8,25 @@ use lib.ListN.{getD}
 use Rattle.rules.specs.Limits.{Limits, HasCubes, Readable, Fileable, desk, large, Roomier}
 use Rattle.rules.specs.Lists.{if_then_else_}
 use Rattle.rules.specs.Memory.{Memory, decode}
-use Rattle.rules.specs.Cut.{Outcome, refused, done, next, give, addPlane, cornerAnswer}
-use Rattle.rules.specs.Replies.{cutNumber, cutValues, outputValues, elementValue, written, cutReply}
-use Rattle.rules.specs.Promises.{AnswersAreInUse, NamesBelow, OneBelow, Passes, Finite, AllOn, OnlyPlane, dividerIn, Promises}
+use Rattle.rules.specs.Cut.{Outcome, refused, done, next, give, addPlane, cornerOutput}
+use Rattle.rules.specs.Replies.{cutNumber, cutValues, outputValues, elementValue, isKept, cutBy, paramsOf, written, cutReply}
+use Rattle.rules.specs.Promises.{AnswersAreInUse, NamesBelow, OneBelow, Passes, Finite, AllOn, OnlyPlane, dividerIn, someCloseCall, Promises}
 use Rattle.rules.specs.declared.CutReply.{CutReply}
 use Rattle.rules.specs.declared.CutReply.the-variants.{Refused, Answered}
 use Rattle.rules.specs.declared.ElementOrNone.{ElementOrNone}
 use Rattle.rules.specs.declared.ElementOrNone.the-variants.{None, Some}
 use Rattle.rules.specs.declared.ElementCutOutput.{ElementCutOutput}
 use Rattle.rules.specs.declared.ElementCutOutput.the-variants.{Flush, NonFlush}
-use Rattle.rules.specs.declared.Hyperplane.{Hyperplane}
+use Rattle.rules.specs.declared.PolytopeFate.the-variants.{Keep}
+use Rattle.rules.specs.declared.CutParams.{CutParams}
 use Rattle.rules.proofs.Boxes.{in-the-box}
 use Rattle.rules.proofs.Calls.{not-infinite, gives, again-later, one-side-later, flush-later, infinite-distance}
+use Rattle.rules.proofs.CloseBelow.{close-vertices}
 use Rattle.rules.proofs.CubeCalls.{cube-is-sound, stays-sound, enough-boundary, stays-unmatched, one-crossing-one-corner}
 use Rattle.rules.proofs.FileReplies.{refused-open-leaves, open-numbers, open-is-sound, saved-opens, opened-saves, table-of-file, file-of-table, opens-roomier, layout-alone}
 use Rattle.rules.proofs.Good.{sound-good}
 use Rattle.rules.proofs.Laws.{le-test, none-some}
-use Rattle.rules.proofs.Missed.{sideBy, missed-cut}
+use Rattle.rules.proofs.Missed.{sideBy, givenBack, missed-cut}
 use Rattle.rules.proofs.OldRows.{old-entries-stay}
 use Rattle.rules.proofs.OneCall.{sound-table, passed, divider-sound, names-in-use}
 use Rattle.rules.proofs.Reach.{is-below}
@@ -35,29 +37,38 @@ use Rattle.rules.proofs.RoomierReplies.{roomier-alike}
 use Rattle.rules.proofs.RoundTrip.{written-sound, table-back, memory-back}
 use Rattle.rules.proofs.VertexSet.{vertex-set-rises, no-facet-in-one-dimension}
 use Rattle.rules.proofs.WalkRound.{walk-goes-round}
+use Rattle.rules.proofs.Warned.{warns-of-close-calls}
 
 module _ (L : Limits) (R : Readable L) (H : HasCubes L) (F : Fileable L) where
   -- ---- a missed piece, for both sides at once
 
-  missed-side : (h : Hyperplane) (root : ℕ) (m : Memory) → Passes L h root m → Finite (h .distance) → (inside i o : Bool) → (if inside then i else o) ≡ true
-      → AllOn (sideBy inside) (dividerIn L m h) (decode L m) root
-      → OnlyPlane L m (outputValues (cornerAnswer root (sideBy inside))) (cutReply L h i o root m) (addPlane L (dividerIn L m h) (decode L m))
-  missed-side h root m p f inside i o kept on =
-      let g = sound-good L (decode L m) (sound-table L m (p .sound)) in
-      let z = not-infinite (h .distance) f in
-      go (addPlane L (dividerIn L m h) (decode L m)) (passed L h i o root m p
-      ∙ ap (written L m) (missed-cut L (decode L m) g (dividerIn L m h)
-      (divider-sound L (decode L m .dimension) h (le-test (decode L m .dimension) (L .dimensions) (g .high)) (p .fits) z) z i o root (p .used) inside kept on))
+  missed-side : (p : CutParams) (root : ℕ) (m : Memory) → Passes L (p .divider) root m → Finite (p .divider .distance)
+      → (inside : Bool) → (if inside then isKept (p .inside) else isKept (p .outside)) ≡ true
+      → AllOn (sideBy inside) (dividerIn L m (p .divider)) (decode L m) root
+      → OnlyPlane L m (outputValues (cornerOutput root (sideBy inside))) (someCloseCall (dividerIn L m (p .divider)) (decode L m) root)
+      (cutReply L p root m) (addPlane L (dividerIn L m (p .divider)) (decode L m))
+  missed-side p root m a f inside kept on =
+      let s = sound-table L m (a .sound) in
+      let g = sound-good L (decode L m) s in
+      let z = not-infinite (p .divider .distance) f in
+      go (addPlane L (dividerIn L m (p .divider)) (decode L m)) (passed L p root m a
+      ∙ ap (written L m) (missed-cut L (decode L m) g (paramsOf (decode L m .dimension) p)
+      (divider-sound L (decode L m .dimension) (p .divider) (le-test (decode L m .dimension) (L .dimensions) (g .high)) (a .fits) z) z root (a .used) inside kept on
+      ∙ ap (λ (w : Bool). next (addPlane L (dividerIn L m (p .divider)) (decode L m)) (λ n. give (givenBack inside root w)))
+      (close-vertices L (decode L m) s (dividerIn L m (p .divider)) root (a .used))))
     where
-      go : (x : Outcome ℕ) → cutReply L h i o root m ≡ written L m (next x (λ n. give (cornerAnswer root (sideBy inside))))
-          → OnlyPlane L m (outputValues (cornerAnswer root (sideBy inside))) (cutReply L h i o root m) x
+      warning : Bool
+      warning = someCloseCall (dividerIn L m (p .divider)) (decode L m) root
+
+      go : (x : Outcome ℕ) → cutReply L p root m ≡ written L m (next x (λ n. give (givenBack inside root warning)))
+          → OnlyPlane L m (outputValues (cornerOutput root (sideBy inside))) warning (cutReply L p root m) x
       go (refused n) e = (ap (λ (r : CutReply × Memory). cutNumber (r .0)) e, ap (λ (r : CutReply × Memory). r .1) e)
       go (done n t) e = gives e refl
 
   -- ---- what is answered is in use
 
   in-use : AnswersAreInUse L
-  in-use h i o root m = go (cutReply L h i o root m .0) refl
+  in-use p root m = go (cutReply L p root m .0) refl
     where
       one : (n : ℕ) (x : ElementOrNone) (e : ℕ) → OneBelow n x → elementValue x ≡ some e → e < n
       one n None e b q = none-some e q
@@ -70,9 +81,10 @@ module _ (L : Limits) (R : Readable L) (H : HasCubes L) (F : Fileable L) where
       places n (NonFlush x y z) b (suc (suc zero)) e q = one n z e (b .2) q
       places n (NonFlush x y z) b (suc (suc (suc k))) e q = none-some e q
 
-      go : (r : CutReply) → cutReply L h i o root m .0 ≡ r → (k e : ℕ) → getD (cutValues r) k none ≡ some e → e < getD (cutReply L h i o root m .1 .counts) 1 0
+      go : (r : CutReply) → cutReply L p root m .0 ≡ r → (k e : ℕ) → getD (cutValues r) k none ≡ some e → e < getD (cutReply L p root m .1 .counts) 1 0
       go (Refused n) w k e q = none-some e q
-      go (Answered a) w k e q = places _ a (names-in-use L R h i o root m a (cutReply L h i o root m .1) (λ j. (w j, cutReply L h i o root m .1))) k e q
+      go (Answered a v) w k e q =
+          places _ a (names-in-use L R p root m (record { output = a; warning = v }) (cutReply L p root m .1) (λ j. (w j, cutReply L p root m .1))) k e q
 
   -- ---- all of them
 
@@ -96,8 +108,12 @@ module _ (L : Limits) (R : Readable L) (H : HasCubes L) (F : Fileable L) where
     cube-is-sound = cube-is-sound L R H;
     one-crossing-one-corner = one-crossing-one-corner L R H;
     stays-unmatched = stays-unmatched L R H;
-    missed-piece = λ h root m p f. (λ on o. missed-side h root m p f true true o refl on, λ on i. missed-side h root m p f false i true refl on);
+    missed-piece = λ h root m p f. (
+      λ on o. missed-side (cutBy h Keep o) root m p f true refl on,
+      λ on i. missed-side (cutBy h i Keep) root m p f false refl on,
+    );
     infinite-distance = infinite-distance L R;
+    warns-of-close-calls = warns-of-close-calls L;
     read-back = (λ t s. (written-sound L R t s, table-back L R t s), memory-back L);
     roomier-alike = roomier-alike L R H;
     refused-open-leaves = refused-open-leaves L;

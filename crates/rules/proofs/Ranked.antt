@@ -1,6 +1,6 @@
 -- Sets of elements in use, each of one rank: what rules 4 and 5 gather. A set with a member more is still one, and stays one in a later table.
 use Prim.Native.Nat.{ℕ, suc, _<_, _≤_}
-use mathlib.Core.Bool.{Bool, true, false, _&&_, false≢true}
+use mathlib.Core.Bool.{Bool, true, false, _&&_, _||_, false≢true}
 use mathlib.Core.List.{List, [], _∷_}
 use mathlib.Core.Path.{ap, _∙_, _≡_, refl, sym}
 use native.Mathlib.Nat.{le-trans, le-of-lt, le-refl, le-of-suc-le-suc}
@@ -8,10 +8,11 @@ use native.Mathlib.Omega.{arith}
 use lib.Dec.{ltb, eqb}
 use Rattle.rules.specs.Lists.{all, if_then_else_, withMember, rises}
 use Rattle.rules.specs.Table.{rank, Table, elementCount}
-use Rattle.rules.specs.Cut.{including, nothingYet, Gathered, gathering, cornerAnswer}
-use Rattle.rules.specs.Held.{Extends, Ranked, AllOf, SetOf, SomeOf, Sets, OutputOf}
+use Rattle.rules.specs.Cut.{including, nothingYet, Gathered, gathering, gatheringOutput, cornerOutput}
+use Rattle.rules.specs.Held.{Extends, Ranked, AllOf, SetOf, SomeOf, Sets, OutputOf, AnswerOf}
 use Rattle.rules.specs.declared.ElementCutOutput.{ElementCutOutput}
 use Rattle.rules.specs.declared.ElementCutOutput.the-variants.{Flush, NonFlush}
+use Rattle.rules.specs.declared.ElementAnswer.{ElementAnswer}
 use Rattle.rules.specs.declared.ElementOrNone.{ElementOrNone}
 use Rattle.rules.specs.declared.ElementOrNone.the-variants.{None, Some}
 use Rattle.rules.specs.declared.Side.{Side}
@@ -110,21 +111,24 @@ sets-later r g e h = record {
   intersections = set-later (g .intersections) e (h .intersections);
 }
 
-pub sets-gathering : (r b : ℕ) (a : ElementCutOutput) (g : Gathered) (t : Table) → Ranked t (suc r) b → OutputOf r a t → Sets r g t → Sets r (gathering b a g) t
-sets-gathering r b Flush g t hb ha h = record {
-  flush = (hb, h .flush);
-  inside = h .inside;
-  outside = h .outside;
-  intersections = h .intersections;
-}
-sets-gathering r b (NonFlush i o x) g t hb ha h = record {
-  flush = h .flush;
-  inside = set-including t (suc r) i (g .inside) (ha .0) (h .inside);
-  outside = set-including t (suc r) o (g .outside) (ha .1) (h .outside);
-  intersections = set-including t r x (g .intersections) (ha .2) (h .intersections);
-}
+pub sets-gathering : (r b : ℕ) (a : ElementAnswer) (g : Gathered) (t : Table) → Ranked t (suc r) b → AnswerOf r a t → Sets r g t → Sets r (gathering b a g) t
+sets-gathering r b a g t hb ha h = go (a .output) (g .warning || a .warning) ha
+  where
+    go : (out : ElementCutOutput) (w : Bool) → OutputOf r out t → Sets r (gatheringOutput b out w g) t
+    go Flush w ho = record {
+      flush = (hb, h .flush);
+      inside = h .inside;
+      outside = h .outside;
+      intersections = h .intersections;
+    }
+    go (NonFlush i o x) w ho = record {
+      flush = h .flush;
+      inside = set-including t (suc r) i (g .inside) (ho .0) (h .inside);
+      outside = set-including t (suc r) o (g .outside) (ho .1) (h .outside);
+      intersections = set-including t r x (g .intersections) (ho .2) (h .intersections);
+    }
 
-pub corner-answer : (t : Table) (e : ℕ) (s : Side) → Ranked t 1 e → OutputOf 0 (cornerAnswer e s) t
+pub corner-answer : (t : Table) (e : ℕ) (s : Side) → Ranked t 1 e → OutputOf 0 (cornerOutput e s) t
 corner-answer t e Inside h = (h, tt, tt)
 corner-answer t e On h = tt
 corner-answer t e Outside h = (tt, h, tt)

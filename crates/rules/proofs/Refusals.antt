@@ -17,7 +17,7 @@ use Rattle.rules.specs.Memory.{Memory, soundMemory, decode, encode, righ
 use Rattle.rules.specs.Cube.{cube, radiusFits}
 use Rattle.rules.specs.Cut.{cut, refused, Outcome, done}
 use Rattle.rules.specs.Questions.{Asked, no-answer, answer, subElements, withRank, vertexSet, greatestCommon, edgesInOrder, primordialFacet}
-use Rattle.rules.specs.Replies.{cutReply, dividerFits, dividerOf, cutNumber, cubeReply, listed, listNumber, listSize, asked, inNumbers, facetAnswer, isSoundReply}
+use Rattle.rules.specs.Replies.{cutReply, dividerFits, paramsOf, cutNumber, cubeReply, listed, listNumber, listSize, asked, inNumbers, facetAnswer, isSoundReply}
 use Rattle.rules.specs.Replies.{subElementsReply, withRankReply, vertexSetReply, greatestCommonReply, edgesInOrderReply, primordialFacetReply}
 use Rattle.rules.specs.Files.{fileOf, saveReply}
 use Rattle.rules.specs.Calls.{ListQuestion, subElementsOf, subElementsWithRank, vertexSetOf, greatestCommonOf, edgesInOrderOf, fileOfTable, listReply, listRefusals}
@@ -25,8 +25,8 @@ use Rattle.rules.specs.Calls.{Filled, CutNumbered, ListNumbered, FacetNu
 use Rattle.rules.specs.Promises.{RefusedCutLeaves, RefusedCubeLeaves, RefusedListLeaves, ListFillsFront, CutNumbers, CubeNumbers, ListNumbers, FacetNumbers, SoundNumbers}
 use Rattle.rules.specs.declared.CutReply.{CutReply}
 use Rattle.rules.specs.declared.CutReply.the-variants.{Refused, Answered}
-use Rattle.rules.specs.declared.ElementCutOutput.{ElementCutOutput}
-use Rattle.rules.specs.declared.Hyperplane.{Hyperplane}
+use Rattle.rules.specs.declared.ElementAnswer.{ElementAnswer}
+use Rattle.rules.specs.declared.CutParams.{CutParams}
 use Rattle.rules.specs.declared.ListReply.{ListReply}
 use Rattle.rules.specs.declared.ListReply.the-variants.{Listed, Refused as ListRefused}
 use Rattle.rules.proofs.Built.{RuleNumber, refused-number}
@@ -36,32 +36,32 @@ use Rattle.rules.proofs.RingWalked.{face-is-walked}
 
 -- ---- the cut
 
-module _ (L : Limits) (h : Hyperplane) (i o : Bool) (root : ℕ) (m : Memory) where
-  pub refused-leaves : (m′ : Memory) (n : ℕ) → cutReply L h i o root m ≡ (Refused n, m′) → m′ ≡ m
+module _ (L : Limits) (p : CutParams) (root : ℕ) (m : Memory) where
+  pub refused-leaves : (m′ : Memory) (n : ℕ) → cutReply L p root m ≡ (Refused n, m′) → m′ ≡ m
   refused-leaves m′ n e =
-      go (soundMemory L m) (ltb root (elementCount (decode L m))) (dividerFits L (decode L m .dimension) h)
-      (cut L (dividerOf (decode L m .dimension) h) i o root (decode L m)) (sym (reply-by L h i o root m) ∙ e)
+      go (soundMemory L m) (ltb root (elementCount (decode L m))) (dividerFits L (decode L m .dimension) (p .divider))
+      (cut L (paramsOf (decode L m .dimension) p) root (decode L m)) (sym (reply-by L p root m) ∙ e)
     where
-      go : (s u f : Bool) (r : Outcome ElementCutOutput) → replyBy L h i o root m s u f r ≡ (Refused n, m′) → m′ ≡ m
+      go : (s u f : Bool) (r : Outcome ElementAnswer) → replyBy L p root m s u f r ≡ (Refused n, m′) → m′ ≡ m
       go false u f r q = sym (ap (λ (x : CutReply × Memory). x .1) q)
       go true false f r q = sym (ap (λ (x : CutReply × Memory). x .1) q)
       go true true false r q = sym (ap (λ (x : CutReply × Memory). x .1) q)
       go true true true (refused k) q = sym (ap (λ (x : CutReply × Memory). x .1) q)
-      go true true true (done b t) q = let p : Answered b ≡ Refused n = ap (λ (x : CutReply × Memory). x .0) q in let z : _≡_ {A = ℕ} 0 1 = cc in absurd (suc-ne-zero 0 (sym z))
+      go true true true (done b t) q = let z₀ : Answered (b .output) (b .warning) ≡ Refused n = ap (λ (x : CutReply × Memory). x .0) q in let z : _≡_ {A = ℕ} 0 1 = cc in absurd (suc-ne-zero 0 (sym z))
 
 pub refused-cut-leaves : (L : Limits) → RefusedCutLeaves L
-refused-cut-leaves L h i o root m = go (cutReply L h i o root m .0) (cutReply L h i o root m .1) refl
+refused-cut-leaves L p root m = go (cutReply L p root m .0) (cutReply L p root m .1) refl
   where
-    go : (r : CutReply) (m′ : Memory) → cutReply L h i o root m ≡ (r, m′) → 0 < cutNumber r → m′ ≡ m
-    go (Refused n) m′ e k = refused-leaves L h i o root m m′ n e
-    go (Answered a) m′ e k = absurd (lt-irrefl 0 k)
+    go : (r : CutReply) (m′ : Memory) → cutReply L p root m ≡ (r, m′) → 0 < cutNumber r → m′ ≡ m
+    go (Refused n) m′ e k = refused-leaves L p root m m′ n e
+    go (Answered a w) m′ e k = absurd (lt-irrefl 0 k)
 
 -- a refusal's number
-pub refusal-number : (L : Limits) (h : Hyperplane) (i o : Bool) (root : ℕ) (m : Memory) (n : ℕ)
-    → cutReply L h i o root m .0 ≡ Refused n → member n (3 ∷ 4 ∷ 5 ∷ 7 ∷ 8 ∷ 9 ∷ 10 ∷ 11 ∷ []) ≡ true
-refusal-number L h i o root m n e =
-    go (soundMemory L m) (ltb root (elementCount (decode L m))) (dividerFits L (decode L m .dimension) h)
-    (cut L (dividerOf (decode L m .dimension) h) i o root (decode L m)) refl (ap (λ (x : CutReply × Memory). x .0) (sym (reply-by L h i o root m)) ∙ e)
+pub refusal-number : (L : Limits) (p : CutParams) (root : ℕ) (m : Memory) (n : ℕ)
+    → cutReply L p root m .0 ≡ Refused n → member n (3 ∷ 4 ∷ 5 ∷ 7 ∷ 8 ∷ 9 ∷ 10 ∷ 11 ∷ []) ≡ true
+refusal-number L p root m n e =
+    go (soundMemory L m) (ltb root (elementCount (decode L m))) (dividerFits L (decode L m .dimension) (p .divider))
+    (cut L (paramsOf (decode L m .dimension) p) root (decode L m)) refl (ap (λ (x : CutReply × Memory). x .0) (sym (reply-by L p root m)) ∙ e)
   where
     numbers : List ℕ
     numbers = 3 ∷ 4 ∷ 5 ∷ 7 ∷ 8 ∷ 9 ∷ 10 ∷ 11 ∷ []
@@ -75,30 +75,30 @@ refusal-number L h i o root m n e =
     rule false false true k h = refl
     rule false false false k h = holds (member k (7 ∷ 8 ∷ 9 ∷ 10 ∷ 11 ∷ [])) h
 
-    go : (s u f : Bool) (r : Outcome ElementCutOutput) → cut L (dividerOf (decode L m .dimension) h) i o root (decode L m) ≡ r
-        → replyBy L h i o root m s u f r .0 ≡ Refused n → member n numbers ≡ true
-    go false u f r p q = is 3 refl q
-    go true false f r p q = is 4 refl q
-    go true true false r p q = is 5 refl q
-    go true true true (refused k) p q =
-        is k (rule (eqb k 3) (eqb k 4) (eqb k 5) k (refused-number L (dividerOf (decode L m .dimension) h) i o root (decode L m) k p)) q
-    go true true true (done b t) p q = let z : _≡_ {A = ℕ} 0 1 = cc in absurd (suc-ne-zero 0 (sym z))
+    go : (s u f : Bool) (r : Outcome ElementAnswer) → cut L (paramsOf (decode L m .dimension) p) root (decode L m) ≡ r
+        → replyBy L p root m s u f r .0 ≡ Refused n → member n numbers ≡ true
+    go false u f r c q = is 3 refl q
+    go true false f r c q = is 4 refl q
+    go true true false r c q = is 5 refl q
+    go true true true (refused k) c q =
+        is k (rule (eqb k 3) (eqb k 4) (eqb k 5) k (refused-number L (paramsOf (decode L m .dimension) p) root (decode L m) k c)) q
+    go true true true (done b t) c q = let z : _≡_ {A = ℕ} 0 1 = cc in absurd (suc-ne-zero 0 (sym z))
 
 -- a number of a list without 0 is not 0
 not-none : (ns : List ℕ) (n : ℕ) → member 0 ns ≡ false → member n ns ≡ true → n ≡ 0 → ⊥
 not-none ns n h k z = true≢false (sym (subst (λ (j : ℕ). member j ns ≡ true) z k) ∙ h)
 
 pub cut-numbers : (L : Limits) → CutNumbers L
-cut-numbers L h i o root m = go (cutReply L h i o root m .0) refl
+cut-numbers L p root m = go (cutReply L p root m .0) refl
   where
     numbers : List ℕ
     numbers = 3 ∷ 4 ∷ 5 ∷ 7 ∷ 8 ∷ 9 ∷ 10 ∷ 11 ∷ []
 
-    go : (r : CutReply) → cutReply L h i o root m .0 ≡ r → CutNumbered numbers r
+    go : (r : CutReply) → cutReply L p root m .0 ≡ r → CutNumbered numbers r
     go (Refused n) e =
-        let k = refusal-number L h i o root m n e in
-        record { number = or-right (eqb n 0) (member n numbers) k; answered = λ z. absurd (not-none numbers n refl k z); refused = λ l. refl }
-    go (Answered a) e = record { number = refl; answered = λ z. (a, refl); refused = λ l. absurd (lt-irrefl 0 l) }
+        let k = refusal-number L p root m n e in
+        record { number = or-right (eqb n 0) (member n numbers) k; answered = λ z. absurd (not-none numbers n refl k z); refused = λ l. (refl, refl) }
+    go (Answered a w) e = record { number = refl; answered = λ z. (record { output = a; warning = w }, refl); refused = λ l. absurd (lt-irrefl 0 l) }
 
 -- ---- the cube
 

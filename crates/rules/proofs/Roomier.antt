@@ -12,15 +12,15 @@ use lib.Ieee.{fin, Float, inf, nan}
 use lib.ListN.{length, drop, getD}
 use Rattle.rules.specs.Limits.{Limits, Roomier}
 use Rattle.rules.specs.Lists.{if_then_else_, find, findFrom, all}
-use Rattle.rules.specs.Floats.{pointMatches, crossingPoint, edgeTest}
+use Rattle.rules.specs.Floats.{pointMatches, crossingPoint, crossingOf}
 use Rattle.rules.specs.Table.{Table, element, Element, elementCount, sameElement, polytope, corner, Plane, primordials, rank, rankOf, planeOf, isPrimordial, boundaryOf, pointAt}
 use Rattle.rules.specs.Sound.{closed, sound}
 use Rattle.rules.specs.Cut.{Outcome, refused, done, next, Step, shareElement, addElement, addPolytope, shareVertex, withPoint, addVertex, sharePlane, addPlane, planeMatches}
-use Rattle.rules.specs.Cut.{sideOfCut, including, rule7, Cutting, Gathered, rule6, newIntersection, planeOfIntersection, given, crossEdge, cutEdge, cut, cutEnds, distanceOf}
+use Rattle.rules.specs.Cut.{sideOfCut, including, rule7, Cutting, Params, Gathered, rule6, newIntersection, planeOfIntersection, given, crossEdge, cutEdge, cut, cutEnds, distanceOf}
 use Rattle.rules.specs.Cut.{cutBoundary, gathering, cutElement, cutCorner, cutHigher, nothingYet, cutFinite, cutAtDistance}
 use Rattle.rules.specs.declared.Crossing.{Crossing}
 use Rattle.rules.specs.declared.Crossing.the-variants.{None as NoCrossing, At}
-use Rattle.rules.specs.declared.ElementCutOutput.{ElementCutOutput}
+use Rattle.rules.specs.declared.ElementAnswer.{ElementAnswer}
 use Rattle.rules.specs.declared.ElementOrNone.{ElementOrNone}
 use Rattle.rules.proofs.Good.{sound-good, good-sound}
 use Rattle.rules.proofs.Laws.{test-le, le-test, not-le, and-true, and-left, and-right, unlike-eq}
@@ -98,8 +98,8 @@ module _ (L M : Limits) (R : Roomier L M) where
   rule7-alike : (c : Cutting) (e : Element) (g : Gathered) (x : ElementOrNone) (t : Table) → Alike (rule7 L c e g x t) (rule7 M c e g x t)
   unfolding rule7
   rule7-alike c e g x t =
-      next-alike (sideOfCut L (c .keepInside) e x (g .inside) t) (sideOfCut M (c .keepInside) e x (g .inside) t) _ _ (side-alike (c .keepInside) e x (g .inside) t) (λ i t₁.
-      next-alike (sideOfCut L (c .keepOutside) e x (g .outside) t₁) (sideOfCut M (c .keepOutside) e x (g .outside) t₁) _ _ (side-alike (c .keepOutside) e x (g .outside) t₁) (λ o t₂. refl))
+      next-alike (sideOfCut L (c .params .keepInside) e x (g .inside) t) (sideOfCut M (c .params .keepInside) e x (g .inside) t) _ _ (side-alike (c .params .keepInside) e x (g .inside) t) (λ i t₁.
+      next-alike (sideOfCut L (c .params .keepOutside) e x (g .outside) t₁) (sideOfCut M (c .params .keepOutside) e x (g .outside) t₁) _ _ (side-alike (c .params .keepOutside) e x (g .outside) t₁) (λ o t₂. refl))
 
   rule6-alike : (c : Cutting) (e : Element) (g : Gathered) (fs : List ℕ) (t : Table) → Alike (rule6 L c e g fs t) (rule6 M c e g fs t)
   unfolding rule6
@@ -119,9 +119,9 @@ module _ (L M : Limits) (R : Roomier L M) where
       let a = getD (boundaryOf e) 0 0 in
       let b = getD (boundaryOf e) 1 0 in
       next-alike (cutEnds L c a b (pointAt t a) (pointAt t b) t) (cutEnds M c a b (pointAt t a) (pointAt t b) t) _ _
-      (cross-alike (pointAt t a) (pointAt t b) (edgeTest (distanceOf c (pointAt t a)) (distanceOf c (pointAt t b))) _ t) (λ g u. rule6-alike c e g (g .flush) u)
+      (cross-alike (pointAt t a) (pointAt t b) (crossingOf (distanceOf c (pointAt t a)) (distanceOf c (pointAt t b))) _ t) (λ g u. rule6-alike c e g (g .flush) u)
 
-  boundary-alike : (ask again : ℕ → Step ElementCutOutput) → ((b : ℕ) (t : Table) → Alike (ask b t) (again b t)) → (bs : List ℕ) (g : Gathered) (t : Table) → Alike (cutBoundary ask bs g t) (cutBoundary again bs g t)
+  boundary-alike : (ask again : ℕ → Step ElementAnswer) → ((b : ℕ) (t : Table) → Alike (ask b t) (again b t)) → (bs : List ℕ) (g : Gathered) (t : Table) → Alike (cutBoundary ask bs g t) (cutBoundary again bs g t)
   boundary-alike ask again h [] g t = refl
   boundary-alike ask again h (b ∷ bs) g t = next-alike (ask b t) (again b t) _ _ (h b t) (λ a u. boundary-alike ask again h bs (gathering b a g) u)
 
@@ -133,18 +133,18 @@ module _ (L M : Limits) (R : Roomier L M) where
       next-alike (cutBoundary (cutElement L c (suc r)) (boundaryOf (element t e)) nothingYet t) (cutBoundary (cutElement M c (suc r)) (boundaryOf (element t e)) nothingYet t) _ _
       (boundary-alike (cutElement L c (suc r)) (cutElement M c (suc r)) (element-alike c (suc r)) (boundaryOf (element t e)) nothingYet t) (λ g u. rule6-alike c (element t e) g (g .flush) u)
 
-  finite-alike : (h : Plane) (i o : Bool) (root : ℕ) (t : Table) → Alike (cutFinite L h i o root t) (cutFinite M h i o root t)
-  finite-alike h i o root t = next-alike (addPlane L h t) (addPlane M h t) _ _ (add-plane h t) (λ n u. element-alike (record { divider = h; number = n; keepInside = i; keepOutside = o }) (rank u root) root u)
+  finite-alike : (p : Params) (root : ℕ) (t : Table) → Alike (cutFinite L p root t) (cutFinite M p root t)
+  finite-alike p root t = next-alike (addPlane L (p .divider) t) (addPlane M (p .divider) t) _ _ (add-plane (p .divider) t) (λ n u. element-alike (record { params = p; number = n }) (rank u root) root u)
 
-  distance-alike : (h : Plane) (d : Float) (i o : Bool) (root : ℕ) (t : Table) → Alike (cutAtDistance L h d i o root t) (cutAtDistance M h d i o root t)
-  distance-alike h (inf false) i o root t = refl
-  distance-alike h (inf true) i o root t = refl
-  distance-alike h nan i o root t = finite-alike h i o root t
-  distance-alike h (fin s m e) i o root t = finite-alike h i o root t
+  distance-alike : (p : Params) (d : Float) (root : ℕ) (t : Table) → Alike (cutAtDistance L p d root t) (cutAtDistance M p d root t)
+  distance-alike p (inf false) root t = refl
+  distance-alike p (inf true) root t = refl
+  distance-alike p nan root t = finite-alike p root t
+  distance-alike p (fin s m e) root t = finite-alike p root t
 
-  pub cut-alike : (h : Plane) (i o : Bool) (root : ℕ) (t : Table) → Alike (cut L h i o root t) (cut M h i o root t)
+  pub cut-alike : (p : Params) (root : ℕ) (t : Table) → Alike (cut L p root t) (cut M p root t)
   unfolding cut
-  cut-alike h i o root t = distance-alike h (h .distance) i o root t
+  cut-alike p root t = distance-alike p (p .divider .distance) root t
 
   -- a table sound in the one room is sound in the other
   pub sound-alike : (t : Table) → sound L t ≡ true → sound M t ≡ true

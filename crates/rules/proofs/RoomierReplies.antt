@@ -11,19 +11,19 @@ use lib.Seq.{take-append-le, drop-append-le}
 use Rattle.rules.specs.Limits.{Limits, Readable, HasCubes, Roomier}
 use Rattle.rules.specs.Lists.{if_then_else_, all, member}
 use Rattle.rules.specs.Floats.{plusZero, sameBits, unit}
-use Rattle.rules.specs.Table.{Table, elementCount}
+use Rattle.rules.specs.Table.{Plane, Table, elementCount}
 use Rattle.rules.specs.Memory.{Memory, encode, decode, rightSize, soundMemory}
 use Rattle.rules.specs.Cube.{cube, radiusFits}
 use Rattle.rules.specs.Cut.{Outcome, refused, done, cut}
 use Rattle.rules.specs.Questions.{Asked, no-answer, answer, subElements, withRank, vertexSet, greatestCommon, edgesInOrder, primordialFacet}
-use Rattle.rules.specs.Replies.{cutNumber, isSoundReply, cubeReply, dividerFits, distanceFits, dividerOf, cutReply, asked, listed, inNumbers, facetAnswer}
+use Rattle.rules.specs.Replies.{cutNumber, isSoundReply, cubeReply, dividerFits, distanceFits, dividerOf, isKept, paramsOf, asReply, cutReply, asked, listed, inNumbers, facetAnswer}
 use Rattle.rules.specs.Replies.{subElementsReply, withRankReply, vertexSetReply, greatestCommonReply, edgesInOrderReply, primordialFacetReply}
 use Rattle.rules.specs.Files.{fileOf, saveReply, openReply}
 use Rattle.rules.specs.Calls.{ListQuestion, subElementsOf, subElementsWithRank, vertexSetOf, greatestCommonOf, edgesInOrderOf, fileOfTable, listReply}
-use Rattle.rules.specs.Rooms.{TablesAlike, RepliesAlike, RoomierAlike, moved, widened}
+use Rattle.rules.specs.Rooms.{TablesAlike, RepliesAlike, RoomierAlike, moved, widened, widenedParams}
 use Rattle.rules.specs.declared.CutReply.{CutReply}
-use Rattle.rules.specs.declared.CutReply.the-variants.{Answered}
-use Rattle.rules.specs.declared.ElementCutOutput.{ElementCutOutput}
+use Rattle.rules.specs.declared.CutParams.{CutParams}
+use Rattle.rules.specs.declared.ElementAnswer.{ElementAnswer}
 use Rattle.rules.specs.declared.Hyperplane.{Hyperplane}
 use Rattle.rules.proofs.Built.{RuleNumber, refused-number}
 use Rattle.rules.proofs.CubeCalls.{cube-done}
@@ -133,54 +133,58 @@ module _ (L M : Limits) (O : Roomier L M) (R : Readable L) (H : HasCubes L) (W :
 
   -- ---- a cut
 
-  module _ (h : Hyperplane) (i o : Bool) (root : ℕ) (m : Memory) (long : length (h .normal) ≡ L .dimensions) where
+  module _ (p : CutParams) (root : ℕ) (m : Memory) (long : length (p .divider .normal) ≡ L .dimensions) where
     abbrev t : Table
     t = decode L m
 
     abbrev n : Memory
     n = moved L M m
 
-    abbrev answers : Limits → Outcome ElementCutOutput
-    answers K = cut K (dividerOf (t .dimension) h) i o root t
+    abbrev answers : Limits → Outcome ElementAnswer
+    answers K = cut K (paramsOf (t .dimension) p) root t
+
+    params-same : t .dimension ≤ L .dimensions → paramsOf (t .dimension) (widenedParams M p) ≡ paramsOf (t .dimension) p
+    params-same low = ap (λ (h : Plane). record { divider = h; keepInside = isKept (p .inside); keepOutside = isKept (p .outside) }) (divider-same L M O (p .divider) long (t .dimension) low)
 
     -- the reply there, by the tests here
-    there : soundMemory L m ≡ true → cutReply M (widened M h) i o root n
-        ≡ replyBy M (widened M h) i o root n true (ltb root (elementCount t)) (dividerFits L (t .dimension) h) (answers M)
+    there : soundMemory L m ≡ true → cutReply M (widenedParams M p) root n
+        ≡ replyBy M (widenedParams M p) root n true (ltb root (elementCount t)) (dividerFits L (t .dimension) (p .divider)) (answers M)
     there s =
-        reply-by M (widened M h) i o root n
-        ∙ (λ j. let u = table-there m s j in replyBy M (widened M h) i o root n (sound-there m s j) (ltb root (elementCount u)) (dividerFits M (u .dimension) (widened M h)) (cut M (dividerOf (u .dimension) (widened M h)) i o root u))
-        ∙ (λ j. replyBy M (widened M h) i o root n true (ltb root (elementCount t)) (fits-same L M O h long (t .dimension) low j) (cut M (divider-same L M O h long (t .dimension) low j) i o root t))
+        reply-by M (widenedParams M p) root n
+        ∙ (λ j. let u = table-there m s j in
+        replyBy M (widenedParams M p) root n (sound-there m s j) (ltb root (elementCount u)) (dividerFits M (u .dimension) (widened M (p .divider))) (cut M (paramsOf (u .dimension) (widenedParams M p)) root u))
+        ∙ (λ j. replyBy M (widenedParams M p) root n true (ltb root (elementCount t)) (fits-same L M O (p .divider) long (t .dimension) low j) (cut M (params-same low j) root t))
       where
         low : t .dimension ≤ L .dimensions
         low = le-test (t .dimension) (L .dimensions) (sound-good L t (sound-table L m s) .high)
 
-    go : (s u f : Bool) (r : Outcome ElementCutOutput) → soundMemory L m ≡ s → ltb root (elementCount t) ≡ u → dividerFits L (t .dimension) h ≡ f → answers L ≡ r
-        → member (cutNumber (replyBy L h i o root m s u f r .0)) (0 ∷ 4 ∷ 5 ∷ 7 ∷ []) ≡ true
-        → cutReply M (widened M h) i o root n ≡ (replyBy L h i o root m s u f r .0, moved L M (replyBy L h i o root m s u f r .1))
+    go : (s u f : Bool) (r : Outcome ElementAnswer) → soundMemory L m ≡ s → ltb root (elementCount t) ≡ u → dividerFits L (t .dimension) (p .divider) ≡ f → answers L ≡ r
+        → member (cutNumber (replyBy L p root m s u f r .0)) (0 ∷ 4 ∷ 5 ∷ 7 ∷ []) ≡ true
+        → cutReply M (widenedParams M p) root n ≡ (replyBy L p root m s u f r .0, moved L M (replyBy L p root m s u f r .1))
     go false u f r p₁ p₂ p₃ p₄ k = absurd (false≢true k)
-    go true false f r p₁ p₂ p₃ p₄ k = there p₁ ∙ (λ j. replyBy M (widened M h) i o root n true (p₂ j) (dividerFits L (t .dimension) h) (answers M))
-    go true true false r p₁ p₂ p₃ p₄ k = there p₁ ∙ (λ j. replyBy M (widened M h) i o root n true (p₂ j) (p₃ j) (answers M))
+    go true false f r p₁ p₂ p₃ p₄ k = there p₁ ∙ (λ j. replyBy M (widenedParams M p) root n true (p₂ j) (dividerFits L (t .dimension) (p .divider)) (answers M))
+    go true true false r p₁ p₂ p₃ p₄ k = there p₁ ∙ (λ j. replyBy M (widenedParams M p) root n true (p₂ j) (p₃ j) (answers M))
     go true true true (refused q) p₁ p₂ p₃ p₄ k =
-        let e = seven q (refused-number L (dividerOf (t .dimension) h) i o root t q p₄) k in
-        let a : Alike (refused q) (answers M) = subst (λ (x : Outcome ElementCutOutput). Alike x (answers M)) p₄ (cut-alike L M O (dividerOf (t .dimension) h) i o root t) in
-        there p₁ ∙ (λ j. replyBy M (widened M h) i o root n true (p₂ j) (p₃ j) (a e j))
+        let e = seven q (refused-number L (paramsOf (t .dimension) p) root t q p₄) k in
+        let a : Alike (refused q) (answers M) = subst (λ (x : Outcome ElementAnswer). Alike x (answers M)) p₄ (cut-alike L M O (paramsOf (t .dimension) p) root t) in
+        there p₁ ∙ (λ j. replyBy M (widenedParams M p) root n true (p₂ j) (p₃ j) (a e j))
     go true true true (done b v) p₁ p₂ p₃ p₄ k =
-        let a : Alike (done b v) (answers M) = subst (λ (x : Outcome ElementCutOutput). Alike x (answers M)) p₄ (cut-alike L M O (dividerOf (t .dimension) h) i o root t) in
-        let e : cutReply L h i o root m ≡ (Answered b, encode L v) = reply-by L h i o root m ∙ (λ j. replyBy L h i o root m (p₁ j) (p₂ j) (p₃ j) (p₄ j)) in
-        let w = it L R h i o root m b (encode L v) e in
+        let a : Alike (done b v) (answers M) = subst (λ (x : Outcome ElementAnswer). Alike x (answers M)) p₄ (cut-alike L M O (paramsOf (t .dimension) p) root t) in
+        let e : cutReply L p root m ≡ (asReply b, encode L v) = reply-by L p root m ∙ (λ j. replyBy L p root m (p₁ j) (p₂ j) (p₃ j) (p₄ j)) in
+        let w = it L R p root m b (encode L v) e in
         let same : done b v ≡ done b (w .table-after) = sym p₄ ∙ w .cuts in
-        let back : decode L (encode L v) ≡ v = memory-table L R h i o root m b (encode L v) e ∙ sym (ap (λ (x : Outcome ElementCutOutput). tableOr v x) same) in
-        there p₁ ∙ (λ j. replyBy M (widened M h) i o root n true (p₂ j) (p₃ j) (a j)) ∙ (λ j. (Answered b, encode M (sym back j)))
+        let back : decode L (encode L v) ≡ v = memory-table L R p root m b (encode L v) e ∙ sym (ap (λ (x : Outcome ElementAnswer). tableOr v x) same) in
+        there p₁ ∙ (λ j. replyBy M (widenedParams M p) root n true (p₂ j) (p₃ j) (a j)) ∙ (λ j. (asReply b, encode M (sym back j)))
       where
-        tableOr : Table → Outcome ElementCutOutput → Table
+        tableOr : Table → Outcome ElementAnswer → Table
         tableOr x (refused q) = x
         tableOr x (done c y) = y
 
-    cut-there : member (cutNumber (cutReply L h i o root m .0)) (0 ∷ 4 ∷ 5 ∷ 7 ∷ []) ≡ true
-        → cutReply M (widened M h) i o root n ≡ (cutReply L h i o root m .0, moved L M (cutReply L h i o root m .1))
+    cut-there : member (cutNumber (cutReply L p root m .0)) (0 ∷ 4 ∷ 5 ∷ 7 ∷ []) ≡ true
+        → cutReply M (widenedParams M p) root n ≡ (cutReply L p root m .0, moved L M (cutReply L p root m .1))
     cut-there =
-        subst (λ (x : CutReply × Memory). member (cutNumber (x .0)) (0 ∷ 4 ∷ 5 ∷ 7 ∷ []) ≡ true → cutReply M (widened M h) i o root n ≡ (x .0, moved L M (x .1)))
-        (sym (reply-by L h i o root m)) (go (soundMemory L m) (ltb root (elementCount t)) (dividerFits L (t .dimension) h) (answers L) refl refl refl refl)
+        subst (λ (x : CutReply × Memory). member (cutNumber (x .0)) (0 ∷ 4 ∷ 5 ∷ 7 ∷ []) ≡ true → cutReply M (widenedParams M p) root n ≡ (x .0, moved L M (x .1)))
+        (sym (reply-by L p root m)) (go (soundMemory L m) (ltb root (elementCount t)) (dividerFits L (t .dimension) (p .divider)) (answers L) refl refl refl refl)
 
   -- ---- the questions
 
@@ -218,8 +222,8 @@ module _ (L M : Limits) (O : Roomier L M) (R : Readable L) (H : HasCubes L) (W :
 
 tables-alike : (L M : Limits) → Roomier L M → TablesAlike L M
 tables-alike L M O = record {
-  cuts = λ h i o root t t′ a e. subst (λ (p : Outcome ElementCutOutput). Alike p (cut M h i o root t)) e (cut-alike L M O h i o root t);
-  refuses = λ h i o root t e. subst (λ (p : Outcome ElementCutOutput). Alike p (cut M h i o root t)) e (cut-alike L M O h i o root t) refl;
+  cuts = λ p root t t′ a e. subst (λ (q : Outcome ElementAnswer). Alike q (cut M p root t)) e (cut-alike L M O p root t);
+  refuses = λ p root t e. subst (λ (q : Outcome ElementAnswer). Alike q (cut M p root t)) e (cut-alike L M O p root t) refl;
   stays-sound = sound-alike L M O;
 }
 

@@ -12,17 +12,18 @@ use lib.IntN.{pos}
 use lib.ListN.{length, getD}
 use Rattle.rules.specs.Limits.{Limits}
 use Rattle.rules.specs.Lists.{all, if_then_else_}
-use Rattle.rules.specs.Floats.{crossingPoint, within, farthest, sideOf, edgeTest}
-use Rattle.rules.specs.Table.{element, rank, Table, Element, rankOf, planeOf, isPrimordial, Plane, corner, pointAt, pointOf, polytope, boundaryOf, elementCount}
+use Rattle.rules.specs.Floats.{crossingPoint, within, farthest, sideOf, sideTest, crossingOf}
+use Rattle.rules.specs.Table.{element, rank, Table, Element, rankOf, planeOf, isPrimordial, corner, pointAt, pointOf, polytope, boundaryOf, elementCount}
 use Rattle.rules.specs.Sound.{soundPoint, soundFacet, namesPlane, namesNone, soundElement, soundPlane}
-use Rattle.rules.specs.Cut.{Cutting, cut, planeOfIntersection, newIntersection, addPolytope, sideOfCut, including, Gathered, rule7, rule6, given, crossEdge, addVertex, cutEnds, distanceOf}
-use Rattle.rules.specs.Cut.{gathering, cornerAnswer, nothingYet, cutEdge, Step, cutBoundary, cutHigher, cutElement, Outcome, refused, done, cutCorner, cutFinite, addPlane, cutAtDistance}
+use Rattle.rules.specs.Cut.{Cutting, Params, cut, planeOfIntersection, newIntersection, addPolytope, sideOfCut, including, Gathered, rule7, rule6, given, crossEdge, addVertex, cutEnds, distanceOf}
+use Rattle.rules.specs.Cut.{gathering, cornerOutput, cornerAnswer, nothingYet, cutEdge, Step, cutBoundary, cutHigher, cutElement, Outcome, refused, done, cutCorner, cutFinite, addPlane, cutAtDistance}
 use Rattle.rules.specs.Promises.{OneBelow, NamesBelow}
-use Rattle.rules.specs.Held.{Extends, SetOf, SomeOf, Sets, OutputOf, AllOf, Ranked}
+use Rattle.rules.specs.Held.{Extends, SetOf, SomeOf, Sets, OutputOf, AnswerOf, AllOf, Ranked}
 use Rattle.rules.specs.declared.Crossing.{Crossing}
 use Rattle.rules.specs.declared.Crossing.the-variants.{None as NoCrossing, At}
 use Rattle.rules.specs.declared.ElementCutOutput.{ElementCutOutput}
 use Rattle.rules.specs.declared.ElementCutOutput.the-variants.{NonFlush, Flush}
+use Rattle.rules.specs.declared.ElementAnswer.{ElementAnswer}
 use Rattle.rules.specs.declared.ElementOrNone.{ElementOrNone}
 use Rattle.rules.specs.declared.ElementOrNone.the-variants.{None, Some}
 use Rattle.rules.proofs.Clamp.{clamp-within}
@@ -110,25 +111,25 @@ module _ (L : Limits) (c : Cutting) where
     planes-more : {t l : Table} → Extends t l → c .number < length (t .planes) → c .number < length (l .planes)
     planes-more {t} {l} x n = le-trans n (begins-length (t .planes) (l .planes) (x .planes))
 
-    rule7-stays : (x : ElementOrNone) (t : Table) → Good L t → Owner t r e → SomeOf (suc r) x t → Sets r g t → Stays L (OutputOf (suc r)) t (rule7 L c e g x t)
+    rule7-stays : (x : ElementOrNone) (t : Table) → Good L t → Owner t r e → SomeOf (suc r) x t → Sets r g t → Stays L (AnswerOf (suc r)) t (rule7 L c e g x t)
     unfolding rule7
     rule7-stays x t k o hx h =
-        stays-next L (SomeOf (suc (suc r))) (OutputOf (suc r)) t (sideOfCut L (c .keepInside) e x (g .inside) t) _
-        (side-stays t r (c .keepInside) e x (g .inside) k o hx (h .inside)) (λ i t₁ e₁ k₁ hi.
-        stays-next L (SomeOf (suc (suc r))) (OutputOf (suc r)) t₁ (sideOfCut L (c .keepOutside) e x (g .outside) t₁) _
-        (side-stays t₁ r (c .keepOutside) e x (g .outside) k₁ (owner-later r e e₁ o) (some-later (suc r) x e₁ hx) (set-later (g .outside) e₁ (h .outside))) (λ y t₂ e₂ k₂ hy.
-        stays-here L (OutputOf (suc r)) t₂ (NonFlush i y x) k₂ (some-later (suc (suc r)) i e₂ hi, hy, some-later (suc r) x (extends-trans e₁ e₂) hx)))
+        stays-next L (SomeOf (suc (suc r))) (AnswerOf (suc r)) t (sideOfCut L (c .params .keepInside) e x (g .inside) t) _
+        (side-stays t r (c .params .keepInside) e x (g .inside) k o hx (h .inside)) (λ i t₁ e₁ k₁ hi.
+        stays-next L (SomeOf (suc (suc r))) (AnswerOf (suc r)) t₁ (sideOfCut L (c .params .keepOutside) e x (g .outside) t₁) _
+        (side-stays t₁ r (c .params .keepOutside) e x (g .outside) k₁ (owner-later r e e₁ o) (some-later (suc r) x e₁ hx) (set-later (g .outside) e₁ (h .outside))) (λ y t₂ e₂ k₂ hy.
+        stays-here L (AnswerOf (suc r)) t₂ (record { output = NonFlush i y x; warning = g .warning }) k₂ (some-later (suc (suc r)) i e₂ hi, hy, some-later (suc r) x (extends-trans e₁ e₂) hx)))
 
     rule6-stays : (fs : List ℕ) (t : Table) → Good L t → c .number < length (t .planes) → Owner t r e → AllOf (Ranked t (suc r)) fs → Sets r g t
-        → Stays L (OutputOf (suc r)) t (rule6 L c e g fs t)
+        → Stays L (AnswerOf (suc r)) t (rule6 L c e g fs t)
     unfolding rule6
     rule6-stays [] t k n o hf h =
-        stays-next L (SomeOf (suc r)) (OutputOf (suc r)) t (newIntersection L c (rankOf e) (g .intersections) t) _
+        stays-next L (SomeOf (suc r)) (AnswerOf (suc r)) t (newIntersection L c (rankOf e) (g .intersections) t) _
         (subst (λ (q : ℕ). Stays L (SomeOf (suc r)) t (newIntersection L c q (g .intersections) t)) (sym (o .ranked))
         (new-intersection-stays t r (g .intersections) k n (subst (λ (q : ℕ). leb q (t .dimension) ≡ true) (o .ranked) (o .low)) (h .intersections)))
         (λ x t₁ e₁ k₁ hx. rule7-stays x t₁ k₁ (owner-later r e e₁ o) hx (sets-later r g e₁ h))
     rule6-stays (f ∷ []) t k n o hf h = rule7-stays (given f) t k o (hf .0) h
-    rule6-stays (f ∷ f′ ∷ fs) t k n o hf h = stays-here L (OutputOf (suc r)) t Flush k tt
+    rule6-stays (f ∷ f′ ∷ fs) t k n o hf h = stays-here L (AnswerOf (suc r)) t (record { output = Flush; warning = g .warning }) k tt
 
   -- ---- an edge
 
@@ -148,9 +149,9 @@ module _ (L : Limits) (c : Cutting) where
   pub ends-stays : (a b : ℕ) (t : Table) → Good L t → Ranked t 1 a → Ranked t 1 b → Stays L (Sets 0) t (cutEnds L c a b (pointAt t a) (pointAt t b) t)
   unfolding cutEnds
   ends-stays a b t k ha hb =
-      cross-stays (pointAt t a) (pointAt t b) (edgeTest (distanceOf c (pointAt t a)) (distanceOf c (pointAt t b))) _ t k (point-at-sound L t a k ha) (point-at-sound L t b k hb)
-      (sets-gathering 0 b (cornerAnswer b (sideOf (distanceOf c (pointAt t b)))) _ t hb (corner-answer t b (sideOf (distanceOf c (pointAt t b))) hb)
-      (sets-gathering 0 a (cornerAnswer a (sideOf (distanceOf c (pointAt t a)))) nothingYet t ha (corner-answer t a (sideOf (distanceOf c (pointAt t a))) ha) (sets-none 0 t)))
+      cross-stays (pointAt t a) (pointAt t b) (crossingOf (distanceOf c (pointAt t a)) (distanceOf c (pointAt t b))) _ t k (point-at-sound L t a k ha) (point-at-sound L t b k hb)
+      (sets-gathering 0 b (cornerAnswer b (sideTest (distanceOf c (pointAt t b)))) _ t hb (corner-answer t b (sideOf (distanceOf c (pointAt t b))) hb)
+      (sets-gathering 0 a (cornerAnswer a (sideTest (distanceOf c (pointAt t a)))) nothingYet t ha (corner-answer t a (sideOf (distanceOf c (pointAt t a))) ha) (sets-none 0 t)))
 
   pub ranked-get : (t : Table) (q : ℕ) (b : List ℕ) (i : ℕ) → i < length b → AllOf (Ranked t q) b → Ranked t q (getD b i 0)
   ranked-get t q [] i l h = absurd (not-suc-le-zero l)
@@ -158,31 +159,31 @@ module _ (L : Limits) (c : Cutting) where
   ranked-get t q (x ∷ xs) (suc i) l h = ranked-get t q xs i (le-of-suc-le-suc l) (h .1)
 
   pub edge-stays : (e : Element) (t : Table) → Good L t → c .number < length (t .planes) → Owner t 0 e → AllOf (Ranked t 1) (boundaryOf e) → 1 < length (boundaryOf e)
-      → Stays L (OutputOf 1) t (cutEdge L c e t)
+      → Stays L (AnswerOf 1) t (cutEdge L c e t)
   unfolding cutEdge
   edge-stays e t k n o h two =
       let a = getD (boundaryOf e) 0 0 in
       let b = getD (boundaryOf e) 1 0 in
-      stays-next L (Sets 0) (OutputOf 1) t (cutEnds L c a b (pointAt t a) (pointAt t b) t) _
+      stays-next L (Sets 0) (AnswerOf 1) t (cutEnds L c a b (pointAt t a) (pointAt t b) t) _
       (ends-stays a b t k (ranked-get t 1 (boundaryOf e) 0 (le-of-lt two) h) (ranked-get t 1 (boundaryOf e) 1 two h)) (λ g t₁ e₁ k₁ hg.
       rule6-stays 0 e g (g .flush) t₁ k₁ (planes-more 0 e g e₁ n) (owner-later 0 e e₁ o) (hg .flush) hg)
 
   -- ---- higher ranks
 
-  module _ (r : ℕ) (ask : ℕ → Step ElementCutOutput)
-      (h : (b : ℕ) (t : Table) → Good L t → c .number < length (t .planes) → b < elementCount t → rank t b ≡ r → Stays L (OutputOf r) t (ask b t)) where
+  module _ (r : ℕ) (ask : ℕ → Step ElementAnswer)
+      (h : (b : ℕ) (t : Table) → Good L t → c .number < length (t .planes) → b < elementCount t → rank t b ≡ r → Stays L (AnswerOf r) t (ask b t)) where
     pub boundary-stays : (bs : List ℕ) (g : Gathered) (t : Table) → Good L t → c .number < length (t .planes) → AllOf (Ranked t (suc r)) bs → Sets r g t → Stays L (Sets r) t (cutBoundary ask bs g t)
     boundary-stays [] g t k n hb hg = stays-here L (Sets r) t g k hg
     boundary-stays (b ∷ bs) g t k n hb hg =
-        stays-next L (OutputOf r) (Sets r) t (ask b t) _ (h b t k n (hb .0 .0) (suc-inj (hb .0 .1))) (λ a t₁ e₁ k₁ ha.
+        stays-next L (AnswerOf r) (Sets r) t (ask b t) _ (h b t k n (hb .0 .0) (suc-inj (hb .0 .1))) (λ a t₁ e₁ k₁ ha.
         boundary-stays bs (gathering b a g) t₁ k₁ (planes-more r (corner 0) g e₁ n) (all-later (suc r) bs e₁ (hb .1))
         (sets-gathering r b a g t₁ (ranked-later b e₁ (hb .0)) ha (sets-later r g e₁ hg)))
 
     higher-stays : (e : Element) (t : Table) → Good L t → c .number < length (t .planes) → Owner t r e → AllOf (Ranked t (suc r)) (boundaryOf e)
-        → Stays L (OutputOf (suc r)) t (cutHigher L c ask e t)
+        → Stays L (AnswerOf (suc r)) t (cutHigher L c ask e t)
     unfolding cutHigher
     higher-stays e t k n o hb =
-        stays-next L (Sets r) (OutputOf (suc r)) t (cutBoundary ask (boundaryOf e) nothingYet t) _ (boundary-stays (boundaryOf e) nothingYet t k n hb (sets-none r t)) (λ g t₁ e₁ k₁ hg.
+        stays-next L (Sets r) (AnswerOf (suc r)) t (cutBoundary ask (boundaryOf e) nothingYet t) _ (boundary-stays (boundaryOf e) nothingYet t k n hb (sets-none r t)) (λ g t₁ e₁ k₁ hg.
         rule6-stays r e g (g .flush) t₁ k₁ (planes-more r e g e₁ n) (owner-later r e e₁ o) (hg .flush) hg)
 
 -- ---- an element of any rank
@@ -207,7 +208,7 @@ facts L t e r k l q = go (element t e) q (sound-at L t e k l)
           two = omega (arith, long, z);
         }
 
-pub element-stays : (L : Limits) (c : Cutting) (r e : ℕ) (t : Table) → Good L t → c .number < length (t .planes) → e < elementCount t → rank t e ≡ suc r → Stays L (OutputOf (suc r)) t (cutElement L c (suc r) e t)
+pub element-stays : (L : Limits) (c : Cutting) (r e : ℕ) (t : Table) → Good L t → c .number < length (t .planes) → e < elementCount t → rank t e ≡ suc r → Stays L (AnswerOf (suc r)) t (cutElement L c (suc r) e t)
 unfolding cutElement
 element-stays L c zero e t k n l q = let f = facts L t e 0 k l q in edge-stays L c (element t e) t k n (f .owner) (f .bounds) (f .two)
 element-stays L c (suc r) e t k n l q =
@@ -215,41 +216,41 @@ element-stays L c (suc r) e t k n l q =
     higher-stays L c (suc r) (cutElement L c (suc r)) (λ b s g m u z. element-stays L c r b s g m u z) (element t e) t k n (f .owner) (f .bounds)
 
 -- what an answer names is in use
-abbrev pub NamesInUse : ElementCutOutput → Table → Type 0
-NamesInUse a t = NamesBelow (elementCount t) a
+abbrev pub NamesInUse : ElementAnswer → Table → Type 0
+NamesInUse a t = NamesBelow (elementCount t) (a .output)
 
 some-in-use : (q : ℕ) (t : Table) (x : ElementOrNone) → SomeOf q x t → OneBelow (elementCount t) x
 some-in-use q t None h = tt
 some-in-use q t (Some e) h = h .0
 
-output-in-use : (r : ℕ) (t : Table) (a : ElementCutOutput) → OutputOf r a t → NamesInUse a t
+output-in-use : (r : ℕ) (t : Table) (a : ElementCutOutput) → OutputOf r a t → NamesBelow (elementCount t) a
 output-in-use r t Flush h = tt
 output-in-use r t (NonFlush i o x) h = (some-in-use (suc r) t i (h .0), some-in-use (suc r) t o (h .1), some-in-use r t x (h .2))
 
-stays-in-use : (L : Limits) (r : ℕ) (t : Table) (o : Outcome ElementCutOutput) → Stays L (OutputOf r) t o → Stays L NamesInUse t o
+stays-in-use : (L : Limits) (r : ℕ) (t : Table) (o : Outcome ElementAnswer) → Stays L (AnswerOf r) t o → Stays L NamesInUse t o
 stays-in-use L r t (refused n) h = tt
-stays-in-use L r t (done a s) h = record { extends = h .extends; good = h .good; value = output-in-use r s a (h .value) }
+stays-in-use L r t (done a s) h = record { extends = h .extends; good = h .good; value = output-in-use r s (a .output) (h .value) }
 
 pub any-stays : (L : Limits) (c : Cutting) (r e : ℕ) (t : Table) → Good L t → c .number < length (t .planes) → e < elementCount t → rank t e ≡ r → Stays L NamesInUse t (cutElement L c r e t)
 unfolding cutElement cutCorner
-any-stays L c zero e t k n l q = stays-here L NamesInUse t _ k (output-in-use 0 t (cornerAnswer e (sideOf (distanceOf c (pointAt t e)))) (corner-answer t e (sideOf (distanceOf c (pointAt t e))) (l, ap suc q)))
+any-stays L c zero e t k n l q = stays-here L NamesInUse t _ k (output-in-use 0 t (cornerOutput e (sideOf (distanceOf c (pointAt t e)))) (corner-answer t e (sideOf (distanceOf c (pointAt t e))) (l, ap suc q)))
 any-stays L c (suc r) e t k n l q = stays-in-use L (suc r) t (cutElement L c (suc r) e t) (element-stays L c r e t k n l q)
 
 -- ---- the whole cut
 
-module _ (L : Limits) (h : Plane) (i o : Bool) (root : ℕ) (t : Table) (k : Good L t) (u : root < elementCount t) where
-  pub finite-stays : soundPlane (t .dimension) h ≡ true → Stays L NamesInUse t (cutFinite L h i o root t)
+module _ (L : Limits) (p : Params) (root : ℕ) (t : Table) (k : Good L t) (u : root < elementCount t) where
+  pub finite-stays : soundPlane (t .dimension) (p .divider) ≡ true → Stays L NamesInUse t (cutFinite L p root t)
   finite-stays s =
-      stays-next L (λ (n : ℕ) (v : Table). n < length (v .planes)) NamesInUse t (addPlane L h t) _ (plane-stays L t k h s) (λ n t₁ e₁ k₁ hn.
-      any-stays L (record { divider = h; number = n; keepInside = i; keepOutside = o }) (rank t₁ root) root t₁ k₁ hn (le-trans u (count-more e₁)) refl)
+      stays-next L (λ (n : ℕ) (v : Table). n < length (v .planes)) NamesInUse t (addPlane L (p .divider) t) _ (plane-stays L t k (p .divider) s) (λ n t₁ e₁ k₁ hn.
+      any-stays L (record { params = p; number = n }) (rank t₁ root) root t₁ k₁ hn (le-trans u (count-more e₁)) refl)
 
-  pub distance-stays : (d : Float) → (NotInfinite d → soundPlane (t .dimension) h ≡ true) → Stays L NamesInUse t (cutAtDistance L h d i o root t)
+  pub distance-stays : (d : Float) → (NotInfinite d → soundPlane (t .dimension) (p .divider) ≡ true) → Stays L NamesInUse t (cutAtDistance L p d root t)
   distance-stays (inf false) s = stays-here L NamesInUse t _ k (u, tt, tt)
   distance-stays (inf true) s = stays-here L NamesInUse t _ k (tt, u, tt)
   distance-stays nan s = finite-stays (s tt)
   distance-stays (fin b m e) s = finite-stays (s tt)
 
   -- the table after an unrefused cut is sound
-  pub cut-stays : (NotInfinite (h .distance) → soundPlane (t .dimension) h ≡ true) → Stays L NamesInUse t (cut L h i o root t)
+  pub cut-stays : (NotInfinite (p .divider .distance) → soundPlane (t .dimension) (p .divider) ≡ true) → Stays L NamesInUse t (cut L p root t)
   unfolding cut
-  cut-stays s = distance-stays (h .distance) s
+  cut-stays s = distance-stays (p .divider .distance) s

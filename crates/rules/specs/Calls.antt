@@ -1,7 +1,7 @@
 -- Calls on the table at hand, and what is read off their replies: the words in which the promises speak. Definitions only.
 use Prim.Native.Nat.{ℕ, _<_, _≤_}
 use mathlib.Core.Path.{_≡_}
-use mathlib.Core.Bool.{Bool, true}
+use mathlib.Core.Bool.{Bool, true, false}
 use mathlib.Core.Option.{Option, none, some}
 use mathlib.Core.List.{List, [], _∷_}
 use lib.ListN.{length, drop}
@@ -10,13 +10,12 @@ use Rattle.rules.specs.Limits.{Limits}
 use Rattle.rules.specs.Lists.{member}
 use Rattle.rules.specs.Table.{ElementNumber}
 use Rattle.rules.specs.Memory.{Memory}
-use Rattle.rules.specs.Replies.{cutNumber, cutValues, listNumber, listSize, facetNumber, facetValue, cubeReply, cutReply}
+use Rattle.rules.specs.Replies.{cutNumber, cutValues, cutWarning, listNumber, listSize, facetNumber, facetValue, cubeReply, asReply, cutReply}
 use Rattle.rules.specs.Replies.{subElementsReply, withRankReply, vertexSetReply, greatestCommonReply, edgesInOrderReply}
 use Rattle.rules.specs.Files.{saveReply, openReply}
-use Rattle.rules.specs.declared.Hyperplane.{Hyperplane}
-use Rattle.rules.specs.declared.ElementCutOutput.{ElementCutOutput}
+use Rattle.rules.specs.declared.CutParams.{CutParams}
+use Rattle.rules.specs.declared.ElementAnswer.{ElementAnswer}
 use Rattle.rules.specs.declared.CutReply.{CutReply}
-use Rattle.rules.specs.declared.CutReply.the-variants.{Answered}
 use Rattle.rules.specs.declared.ListReply.{ListReply}
 use Rattle.rules.specs.declared.FacetReply.{FacetReply}
 
@@ -24,13 +23,13 @@ use Rattle.rules.specs.declared.FacetReply.{FacetReply}
 
 -- a cut; a question, which only reads; a cube or a file to open, which replaces the table unless it is refused
 pub data Call : Type 0 where
-  cutting : Hyperplane → Bool → Bool → ElementNumber → Call
+  cutting : CutParams → ElementNumber → Call
   asking : Call
   cubing : ℕ → Float → Call
   opening : List ℕ → Call
 
 abbrev pub after : Limits → Call → Memory → Memory
-after L (cutting h i o root) m = cutReply L h i o root m .1
+after L (cutting p root) m = cutReply L p root m .1
 after L asking m = m
 after L (cubing d radius) m = cubeReply L d radius m .1
 after L (opening bs) m = openReply L bs m .1
@@ -42,7 +41,7 @@ afterCalls L (c ∷ cs) m = afterCalls L cs (after L c m)
 
 -- the table at hand stays: if the call is a cube or a file, it is refused
 abbrev pub LeavesTable : Limits → Call → Memory → Type 0
-LeavesTable L (cutting h i o root) m = Unit {0}
+LeavesTable L (cutting p root) m = Unit {0}
 LeavesTable L asking m = Unit {0}
 LeavesTable L (cubing d radius) m = 0 < cubeReply L d radius m .0
 LeavesTable L (opening bs) m = 0 < openReply L bs m .0
@@ -81,17 +80,18 @@ listRefusals fileOfTable = 3 ∷ 12 ∷ []
 
 -- ---- what a reply says
 
--- a cut is done with these values, and this is the memory after it
-pub record Gives (r : CutReply × Memory) (vs : List (Option ElementNumber)) (m : Memory) : Type 0 where
+-- a cut is done with these values and this warning, and this is the memory after it
+pub record Gives (r : CutReply × Memory) (vs : List (Option ElementNumber)) (w : Bool) (m : Memory) : Type 0 where
   pub number : cutNumber (r .0) ≡ 0
   pub values : cutValues (r .0) ≡ vs
+  pub warning : cutWarning (r .0) ≡ w
   pub memory : r .1 ≡ m
 
--- the number is 0 with an answer, or one of some refusals and no element
+-- the number is 0 with an answer, or one of some refusals, with no element and no warning
 pub record CutNumbered (ns : List ℕ) (r : CutReply) : Type 0 where
   pub number : member (cutNumber r) (0 ∷ ns) ≡ true
-  pub answered : cutNumber r ≡ 0 → (a : ElementCutOutput) × (r ≡ Answered a)
-  pub refused : 0 < cutNumber r → cutValues r ≡ []
+  pub answered : cutNumber r ≡ 0 → (a : ElementAnswer) × (r ≡ asReply a)
+  pub refused : 0 < cutNumber r → (cutValues r ≡ []) × (cutWarning r ≡ false)
 
 pub record ListNumbered (ns : List ℕ) (r : ListReply) : Type 0 where
   pub number : member (listNumber r) (0 ∷ ns) ≡ true

@@ -1,7 +1,7 @@
 -- Document 01, "The cut", rules 1 to 8. Definitions only.
 -- A step works on a table, and gives a value with the table after it, or is refused with a number. A choice on what a search or a test gives is a function of its own, by clauses.
 use Prim.Native.Nat.{ℕ, zero, suc, _-_}
-use mathlib.Core.Bool.{Bool, true, false, not, _&&_}
+use mathlib.Core.Bool.{Bool, true, false, not, _&&_, _||_}
 use mathlib.Core.Option.{Option, none, some}
 use mathlib.Core.List.{List, [], _∷_, _++_}
 use lib.Dec.{leb, ltb, eqb}
@@ -9,17 +9,19 @@ use lib.ListN.{length, getD, drop}
 use lib.Ieee.{Float, nan, inf, fin}
 use Rattle.rules.specs.Limits.{Limits}
 use Rattle.rules.specs.Lists.{if_then_else_, find, findFrom, withMember}
-use Rattle.rules.specs.Floats.{signedDistance, sideOf, edgeTest, crossingPoint, matches, pointMatches}
+use Rattle.rules.specs.Floats.{signedDistance, sideTest, edgeTest, crossingPoint, matches, pointMatches}
 use Rattle.rules.specs.Table.{ElementNumber, HyperplaneNumber, VertexNumber, Element, corner, polytope, Plane, Table, rankOf, boundaryOf, planeOf, isPrimordial, sameElement, element, rank, elementCount, pointAt, primordials}
 use Rattle.rules.specs.Sound.{closed}
 use Rattle.rules.specs.declared.Side.{Side}
 use Rattle.rules.specs.declared.Side.the-variants.{Inside, On, Outside}
+use Rattle.rules.specs.declared.SideTest.{SideTest}
 use Rattle.rules.specs.declared.Crossing.{Crossing}
 use Rattle.rules.specs.declared.Crossing.the-variants.{None as NoCrossing, At}
 use Rattle.rules.specs.declared.ElementOrNone.{ElementOrNone}
 use Rattle.rules.specs.declared.ElementOrNone.the-variants.{None, Some}
 use Rattle.rules.specs.declared.ElementCutOutput.{ElementCutOutput}
 use Rattle.rules.specs.declared.ElementCutOutput.the-variants.{Flush, NonFlush}
+use Rattle.rules.specs.declared.ElementAnswer.{ElementAnswer}
 
 -- ---- steps
 
@@ -103,49 +105,66 @@ addPlane L h = λ t.
 
 -- ---- the cut of one element
 
--- what a cut has at hand: the divider as given, which the side tests use, its hyperplane's number, and which sides are kept
-pub record Cutting : Type 0 where
+-- the parameters of a cut: the divider as given, which the side tests use, and which sides are kept
+pub record Params : Type 0 where
   pub divider : Plane
-  pub number : HyperplaneNumber
   pub keepInside : Bool
   pub keepOutside : Bool
 
--- what rules 4 and 5 gather: flush answers, which are counted, and the sets of inside, outside and intersection answers
+abbrev pub keeping : Plane → Bool → Bool → Params
+keeping h i o = record { divider = h; keepInside = i; keepOutside = o }
+
+-- what a cut has at hand: its parameters, and the number of its divider's hyperplane
+pub record Cutting : Type 0 where
+  pub params : Params
+  pub number : HyperplaneNumber
+
+-- what rules 4 and 5 gather: flush answers, which are counted, the sets of inside, outside and intersection answers, and whether any answer came with a warning
 pub record Gathered : Type 0 where
   pub flush : List ElementNumber
   pub inside : List ElementNumber
   pub outside : List ElementNumber
   pub intersections : List ElementNumber
+  pub warning : Bool
 
 abbrev pub nothingYet : Gathered
-nothingYet = record { flush = []; inside = []; outside = []; intersections = [] }
+nothingYet = record { flush = []; inside = []; outside = []; intersections = []; warning = false }
 
 abbrev pub distanceOf : Cutting → List Float → Float
-distanceOf c p = signedDistance (c .divider .normal) (c .divider .distance) p
+distanceOf c p = signedDistance (c .params .divider .normal) (c .params .divider .distance) p
 
 -- rule 3: On is Flush; else it is given on its side, also when that side is removed
-abbrev pub cornerAnswer : ElementNumber → Side → ElementCutOutput
-cornerAnswer e Inside = NonFlush (given e) None None
-cornerAnswer e On = Flush
-cornerAnswer e Outside = NonFlush None (given e) None
+abbrev pub cornerOutput : ElementNumber → Side → ElementCutOutput
+cornerOutput e Inside = NonFlush (given e) None None
+cornerOutput e On = Flush
+cornerOutput e Outside = NonFlush None (given e) None
 
-unfoldable pub cutCorner : Cutting → ElementNumber → Step ElementCutOutput
-cutCorner c e = λ t. done (cornerAnswer e (sideOf (distanceOf c (pointAt t e)))) t
+-- and the warning is that of its side test
+abbrev pub cornerAnswer : ElementNumber → SideTest → ElementAnswer
+cornerAnswer e s = record { output = cornerOutput e (s .side); warning = s .warning }
+
+unfoldable pub cutCorner : Cutting → ElementNumber → Step ElementAnswer
+cutCorner c e = λ t. done (cornerAnswer e (sideTest (distanceOf c (pointAt t e)))) t
 
 -- a set with an element in it, or as it is
 abbrev pub including : ElementOrNone → List ElementNumber → List ElementNumber
 including None s = s
 including (Some e) s = withMember (e .0) s
 
--- the answer of boundary element b is counted or gathered
-abbrev pub gathering : ElementNumber → ElementCutOutput → Gathered → Gathered
-gathering b Flush g = record { flush = b ∷ g .flush; inside = g .inside; outside = g .outside; intersections = g .intersections }
-gathering b (NonFlush i o x) g = record {
+-- the output of boundary element b is counted or gathered, with this warning
+abbrev pub gatheringOutput : ElementNumber → ElementCutOutput → Bool → Gathered → Gathered
+gatheringOutput b Flush w g = record { flush = b ∷ g .flush; inside = g .inside; outside = g .outside; intersections = g .intersections; warning = w }
+gatheringOutput b (NonFlush i o x) w g = record {
   flush = g .flush;
   inside = including i (g .inside);
   outside = including o (g .outside);
   intersections = including x (g .intersections);
+  warning = w;
 }
+
+-- the answer of boundary element b: one warning is enough
+abbrev pub gathering : ElementNumber → ElementAnswer → Gathered → Gathered
+gathering b a g = gatheringOutput b (a .output) (g .warning || a .warning) g
 
 -- rule 7: that side's set and the intersection, with the old rank, hyperplane and mark; a removed side is none
 abbrev pub sideOfCut : Limits → Bool → Element → ElementOrNone → List ElementNumber → Step ElementOrNone
@@ -153,11 +172,11 @@ sideOfCut L false e x s = give None
 sideOfCut L true e x s = addPolytope L (rankOf e) (including x s) (planeOf e) (isPrimordial e)
 
 -- rule 7: then inside, then outside, if kept
-unfoldable pub rule7 : Limits → Cutting → Element → Gathered → ElementOrNone → Step ElementCutOutput
+unfoldable pub rule7 : Limits → Cutting → Element → Gathered → ElementOrNone → Step ElementAnswer
 rule7 L c e g x = do
-  i ← sideOfCut L (c .keepInside) e x (g .inside)
-  o ← sideOfCut L (c .keepOutside) e x (g .outside)
-  give (NonFlush i o x)
+  i ← sideOfCut L (c .params .keepInside) e x (g .inside)
+  o ← sideOfCut L (c .params .keepOutside) e x (g .outside)
+  give (record { output = NonFlush i o x; warning = g .warning })
 
 -- the divider's hyperplane if the rank is the dimension
 abbrev pub planeOfIntersection : Table → Cutting → ℕ → Option HyperplaneNumber
@@ -168,30 +187,30 @@ abbrev pub newIntersection : Limits → Cutting → ℕ → List ElementNumber �
 newIntersection L c r s = λ t. addPolytope L (r - 1) s (planeOfIntersection t c r) false t
 
 -- rule 6, by the flush answers: none, exactly one, more than one
-unfoldable pub rule6 : Limits → Cutting → Element → Gathered → List ElementNumber → Step ElementCutOutput
+unfoldable pub rule6 : Limits → Cutting → Element → Gathered → List ElementNumber → Step ElementAnswer
 rule6 L c e g [] = do
   x ← newIntersection L c (rankOf e) (g .intersections)
   rule7 L c e g x
 rule6 L c e g (f ∷ []) = rule7 L c e g (given f)
-rule6 L c e g (f ∷ f′ ∷ fs) = give Flush
+rule6 L c e g (f ∷ f′ ∷ fs) = give (record { output = Flush; warning = g .warning })
 
 -- rule 4: a crossing is matched or appended (vertex, then its element) and counts as the flush one
 abbrev pub crossEdge : Limits → List Float → List Float → Crossing → Gathered → Step Gathered
 crossEdge L p q NoCrossing g = give g
 crossEdge L p q (At t) g = do
   v ← addVertex L (crossingPoint t p q)
-  give (record { flush = v ∷ []; inside = g .inside; outside = g .outside; intersections = g .intersections })
+  give (record { flush = v ∷ []; inside = g .inside; outside = g .outside; intersections = g .intersections; warning = g .warning })
 
 -- rule 4: the ends a and b of an edge, at p and q; on the plane they are flush, and other ends go to their side
 unfoldable pub cutEnds : Limits → Cutting → ElementNumber → ElementNumber → List Float → List Float → Step Gathered
 cutEnds L c a b p q =
     let sa = distanceOf c p in
     let sb = distanceOf c q in
-    crossEdge L p q (edgeTest sa sb)
-    (gathering b (cornerAnswer b (sideOf sb)) (gathering a (cornerAnswer a (sideOf sa)) nothingYet))
+    crossEdge L p q (edgeTest sa sb .crossing)
+    (gathering b (cornerAnswer b (sideTest sb)) (gathering a (cornerAnswer a (sideTest sa)) nothingYet))
 
 -- an edge of a sound table has two ends
-unfoldable pub cutEdge : Limits → Cutting → Element → Step ElementCutOutput
+unfoldable pub cutEdge : Limits → Cutting → Element → Step ElementAnswer
 cutEdge L c e = do
   t ← table
   let a = getD (boundaryOf e) 0 0
@@ -200,20 +219,20 @@ cutEdge L c e = do
   rule6 L c e g (g .flush)
 
 -- rule 5: the boundary asks for each element, in rising number
-abbrev pub cutBoundary : (ElementNumber → Step ElementCutOutput) → List ElementNumber → Gathered → Step Gathered
+abbrev pub cutBoundary : (ElementNumber → Step ElementAnswer) → List ElementNumber → Gathered → Step Gathered
 cutBoundary ask [] g = give g
 cutBoundary ask (b ∷ bs) g = do
   a ← ask b
   cutBoundary ask bs (gathering b a g)
 
 -- rule 5: an element asks for its boundary
-unfoldable pub cutHigher : Limits → Cutting → (ElementNumber → Step ElementCutOutput) → Element → Step ElementCutOutput
+unfoldable pub cutHigher : Limits → Cutting → (ElementNumber → Step ElementAnswer) → Element → Step ElementAnswer
 cutHigher L c ask e = do
   g ← cutBoundary ask (boundaryOf e) nothingYet
   rule6 L c e g (g .flush)
 
 -- the element e, of rank r; its boundary elements have the rank below, since the table is sound
-unfoldable pub cutElement : Limits → Cutting → ℕ → ElementNumber → Step ElementCutOutput
+unfoldable pub cutElement : Limits → Cutting → ℕ → ElementNumber → Step ElementAnswer
 cutElement L c zero e = cutCorner c e
 cutElement L c (suc zero) e = λ t. cutEdge L c (element t e) t
 cutElement L c (suc (suc r)) e = λ t. cutHigher L c (cutElement L c (suc r)) (element t e) t
@@ -221,19 +240,19 @@ cutElement L c (suc (suc r)) e = λ t. cutHigher L c (cutElement L c (suc r)) (e
 -- ---- the whole cut
 
 -- rule 2: the divider is matched or appended as a hyperplane, also for a flush or vertex root
-abbrev pub cutFinite : Limits → Plane → Bool → Bool → ElementNumber → Step ElementCutOutput
-cutFinite L h i o root = do
-  n ← addPlane L h
+abbrev pub cutFinite : Limits → Params → ElementNumber → Step ElementAnswer
+cutFinite L p root = do
+  n ← addPlane L (p .divider)
   t ← table
-  cutElement L (record { divider = h; number = n; keepInside = i; keepOutside = o }) (rank t root) root
+  cutElement L (record { params = p; number = n }) (rank t root) root
 
--- rule 1, by the distance: + infinity gives the root as inside, - as outside, whichever sides are kept; nothing is added
-abbrev pub cutAtDistance : Limits → Plane → Float → Bool → Bool → ElementNumber → Step ElementCutOutput
-cutAtDistance L h (inf false) i o root = give (NonFlush (given root) None None)
-cutAtDistance L h (inf true) i o root = give (NonFlush None (given root) None)
-cutAtDistance L h nan i o root = cutFinite L h i o root
-cutAtDistance L h (fin s m e) i o root = cutFinite L h i o root
+-- rule 1, by the distance: + infinity gives the root as inside, - as outside, whichever sides are kept; nothing is added, and no corner is tested
+abbrev pub cutAtDistance : Limits → Params → Float → ElementNumber → Step ElementAnswer
+cutAtDistance L p (inf false) root = give (record { output = NonFlush (given root) None None; warning = false })
+cutAtDistance L p (inf true) root = give (record { output = NonFlush None (given root) None; warning = false })
+cutAtDistance L p nan root = cutFinite L p root
+cutAtDistance L p (fin s m e) root = cutFinite L p root
 
 -- divider, keep or remove for inside, the same for outside, root element
-unfoldable pub cut : Limits → Plane → Bool → Bool → ElementNumber → Step ElementCutOutput
-cut L h i o root = cutAtDistance L h (h .distance) i o root
+unfoldable pub cut : Limits → Params → ElementNumber → Step ElementAnswer
+cut L p root = cutAtDistance L p (p .divider .distance) root

@@ -1,14 +1,14 @@
 -- Examples beside the marked ones, for what those do not tell: each line of soundness broken once, each refusal met once, and choices that a wrong rule would make otherwise.
 -- Each row is what the rules give and what is right; proofs/Answers.antt has the theorems. Definitions only.
 use Prim.Native.Nat.{ℕ}
-use mathlib.Core.Bool.{Bool, true, false}
+use mathlib.Core.Bool.{true, false}
 use mathlib.Core.Option.{Option, none, some}
 use mathlib.Core.List.{List, [], _∷_, _++_, map}
 use lib.IntN.{pos, negsuc}
 use lib.ListN.{set, take, drop, replicate}
 use lib.Ieee.{Float, nan, inf, fin, neg, ofBits, binary64}
 use Rattle.rules.specs.Limits.{Limits}
-use Rattle.rules.specs.Floats.{plusZero, one, tolerance, sideOf, edgeTest, crossingPoint, clamp}
+use Rattle.rules.specs.Floats.{plusZero, one, tolerance, sideOf, closeCall, edgeTest, crossingPoint, clamp}
 use Rattle.rules.specs.Table.{ElementNumber, Element, corner, polytope, Plane, Table}
 use Rattle.rules.specs.Sound.{sound}
 use Rattle.rules.specs.Memory.{Memory, encode, soundMemory}
@@ -17,6 +17,8 @@ use Rattle.rules.specs.Replies.{crossingValue, isSoundReply, cubeReply, 
 use Rattle.rules.specs.Marked.{Shown, cutShown, listShown, sideShown, verdict, numbers, floats, showCut, showList, atX, slanted, room}
 use Rattle.rules.specs.declared.Hyperplane.{Hyperplane}
 use Rattle.rules.specs.declared.Side.the-variants.{Inside, On, Outside}
+use Rattle.rules.specs.declared.PolytopeFate.{PolytopeFate}
+use Rattle.rules.specs.declared.PolytopeFate.the-variants.{Remove, Keep}
 use Rattle.rules.specs.declared.FacetReply.{FacetReply}
 use Rattle.rules.specs.declared.FacetReply.the-variants.{Refused as FacetRefused, Has}
 
@@ -228,9 +230,9 @@ line = made 1 ((plusZero ∷ []) ∷ (ofBits binary64 0x3eaccccccccccccd ∷ [])
 abbrev pub onLine : ℕ → Hyperplane
 onLine bits = atX (ofBits binary64 bits)
 
--- a bent ring of five edges, two of which lie on y = 0 and one of which crosses it
-unfoldable pub bent : Table
-bent = made 2 ((plusZero ∷ plusZero ∷ []) ∷ (one ∷ plusZero ∷ []) ∷ (two ∷ plusZero ∷ []) ∷ (two ∷ one ∷ []) ∷ (one ∷ minusOne ∷ []) ∷ [])
+-- a bent ring of five edges, two of which lie on y = 0 and one of which crosses it, from the corner (2, y)
+unfoldable pub bent : Float → Table
+bent y = made 2 ((plusZero ∷ plusZero ∷ []) ∷ (one ∷ plusZero ∷ []) ∷ (two ∷ plusZero ∷ []) ∷ (two ∷ y ∷ []) ∷ (one ∷ minusOne ∷ []) ∷ [])
     (corners ++ corner 4 ∷ edge 0 1 0 ∷ edge 1 2 0 ∷ edge 2 3 0 ∷ edge 3 4 0 ∷ edge 0 4 0 ∷ face (5 ∷ 6 ∷ 7 ∷ 8 ∷ 9 ∷ []) ∷ []) planes
 
 -- a ring of five edges, four of which cross x = 0
@@ -256,7 +258,7 @@ showFacet (Has b) = verdict b
 
 -- ---- choices
 
-abbrev pub cutSmall : Hyperplane → Bool → Bool → ElementNumber → Shown
+abbrev pub cutSmall : Hyperplane → PolytopeFate → PolytopeFate → ElementNumber → Shown
 cutSmall h i o root = showCut small h i o root smallQ
 
 unfoldable pub choices : List (Shown × Shown)
@@ -266,26 +268,26 @@ choices =
     ∷ (sideShown (sideOf (ofBits binary64 0xbeb0000000000001)), sideShown Inside)
     ∷ (sideShown (sideOf nan), sideShown Outside)
     -- from -1 to 2 the plane is met a third of the way, which is no float; two ends on one side are not crossed
-    ∷ (showCrossing (crossingValue (edgeTest minusOne two)), floats ((ofBits binary64 0x3fd5555555555555 ∷ []) ∷ []))
-    ∷ (showCrossing (crossingValue (edgeTest minusOne minusOne)), floats [])
+    ∷ (showCrossing (crossingValue (edgeTest minusOne two .crossing)), floats ((ofBits binary64 0x3fd5555555555555 ∷ []) ∷ []))
+    ∷ (showCrossing (crossingValue (edgeTest minusOne minusOne .crossing)), floats [])
     -- a third of the way from 1 to 2, with the lower-numbered end first
     ∷ (floats (crossingPoint (ofBits binary64 0x3fd5555555555555) (one ∷ []) (two ∷ []) ∷ []), floats ((ofBits binary64 0x3ff5555555555555 ∷ []) ∷ []))
     ∷ (floats ((clamp one two nan ∷ clamp one two (inf false) ∷ clamp two one plusZero ∷ []) ∷ []), floats ((one ∷ two ∷ one ∷ []) ∷ []))
     -- the square's planes: outward, the highest axis first
     ∷ (floats (map (λ (h : Plane). h .normal) (cube 2 one .planes)), floats ((plusZero ∷ minusOne ∷ []) ∷ (plusZero ∷ one ∷ []) ∷ (minusOne ∷ plusZero ∷ []) ∷ (one ∷ plusZero ∷ []) ∷ []))
     -- M2, M3, M4 and M5, in the small room: the theorem of M1 to M11 is another crate's, and these tell most of what goes wrong in a cut
-    ∷ (cutSmall (atX plusZero) false false 8, cutShown 0 (none ∷ none ∷ some 11 ∷ []) (12 ∷ 6 ∷ 5 ∷ []))
-    ∷ (cutSmall (atX one) true false 8, cutShown 0 (some 8 ∷ none ∷ some 7 ∷ []) (9 ∷ 4 ∷ 5 ∷ []))
-    ∷ (cutSmall (atX (inf false)) false false 8, cutShown 0 (some 8 ∷ none ∷ none ∷ []) (9 ∷ 4 ∷ 4 ∷ []))
-    ∷ (cutSmall (atX plusZero) false true 0, cutShown 0 (some 0 ∷ none ∷ none ∷ []) (9 ∷ 4 ∷ 5 ∷ []))
+    ∷ (cutSmall (atX plusZero) Remove Remove 8, cutShown 0 (none ∷ none ∷ some 11 ∷ []) false (12 ∷ 6 ∷ 5 ∷ []))
+    ∷ (cutSmall (atX one) Keep Remove 8, cutShown 0 (some 8 ∷ none ∷ some 7 ∷ []) false (9 ∷ 4 ∷ 5 ∷ []))
+    ∷ (cutSmall (atX (inf false)) Remove Remove 8, cutShown 0 (some 8 ∷ none ∷ none ∷ []) false (9 ∷ 4 ∷ 4 ∷ []))
+    ∷ (cutSmall (atX plusZero) Remove Keep 0, cutShown 0 (some 0 ∷ none ∷ none ∷ []) false (9 ∷ 4 ∷ 5 ∷ []))
     -- the corner (1, 1) lies at T: the products are added, and the distance is subtracted after them; before them it would lie beyond
-    ∷ (cutSmall (slanted 0x3ff6666566666666) true true 4, cutShown 0 [] (9 ∷ 4 ∷ 5 ∷ []))
+    ∷ (cutSmall (slanted 0x3ff6666566666666) Keep Keep 4, cutShown 0 [] false (9 ∷ 4 ∷ 5 ∷ []))
     -- 0.8 T is nearer to vertex 1 than to vertex 0, which is the lowest match
-    ∷ (showCut small (onLine 0x3ea999999999999a) true true 5 (encode small line), cutShown 0 (some 6 ∷ some 7 ∷ some 0 ∷ []) (8 ∷ 5 ∷ 1 ∷ []))
+    ∷ (showCut small (onLine 0x3ea999999999999a) Keep Keep 5 (encode small line), cutShown 0 (some 6 ∷ some 7 ∷ some 0 ∷ []) false (8 ∷ 5 ∷ 1 ∷ []))
     -- 0.9 T is hyperplane 0, and the corner at 1.5 T is on the divider as given
-    ∷ (showCut small (onLine 0x3eaccccccccccccd) true true 4 (encode small line), cutShown 0 [] (6 ∷ 5 ∷ 1 ∷ []))
+    ∷ (showCut small (onLine 0x3eaccccccccccccd) Keep Keep 4 (encode small line), cutShown 0 [] false (6 ∷ 5 ∷ 1 ∷ []))
     -- two flush edges are a flush face, and the edge crossed on the way keeps its entries
-    ∷ (showCut small flatY true true 10 (encode small bent), cutShown 0 [] (14 ∷ 6 ∷ 5 ∷ []))
+    ∷ (showCut small flatY Keep Keep 10 (encode small (bent one)), cutShown 0 [] false (14 ∷ 6 ∷ 5 ∷ []))
     -- questions: the root and all below it; a rank that nothing has; vertices
     ∷ (showList (subElementsReply small smallQ 7 room), listShown 0 (1 ∷ 4 ∷ 7 ∷ []))
     ∷ (showList (withRankReply small smallQ 1 8 room), listShown 0 (2 ∷ 5 ∷ 6 ∷ 7 ∷ []))
@@ -301,15 +303,44 @@ choices =
     ∷ (showFacet (primordialFacetReply small smallQ 7), listShown 6 [])
     ∷ []
 
+-- ---- close calls (document 02, order 2)
+
+unfoldable pub closeCalls : List (Shown × Shown)
+closeCalls =
+    -- 16 T on both sides, and the next floats beyond; T on both sides, and the next floats; what is not a number
+    (verdict (closeCall (ofBits binary64 0x3ef0000000000000)), verdict true)
+    ∷ (verdict (closeCall (ofBits binary64 0xbef0000000000000)), verdict true)
+    ∷ (verdict (closeCall (ofBits binary64 0x3ef0000000000001)), verdict false)
+    ∷ (verdict (closeCall (ofBits binary64 0xbef0000000000001)), verdict false)
+    ∷ (verdict (closeCall tolerance), verdict false)
+    ∷ (verdict (closeCall (neg tolerance)), verdict false)
+    ∷ (verdict (closeCall (ofBits binary64 0x3eb0000000000001)), verdict true)
+    ∷ (verdict (closeCall (ofBits binary64 0xbeb0000000000001)), verdict true)
+    ∷ (verdict (closeCall nan), verdict false)
+    -- either end of an edge, crossed or not
+    ∷ (verdict (edgeTest minusOne two .warning), verdict false)
+    ∷ (verdict (edgeTest (ofBits binary64 0x3ef0000000000000) minusOne .warning), verdict true)
+    ∷ (verdict (edgeTest two (ofBits binary64 0x3ef0000000000000) .warning), verdict true)
+    -- 8 T from the corners at x = -1, of which the last edge asked has none: the square, an edge of it, a corner that is near and one that is not
+    ∷ (cutSmall (onLine 0xbfeffff000000000) Keep Keep 8, cutShown 0 (some 16 ∷ some 17 ∷ some 15 ∷ []) true (18 ∷ 6 ∷ 5 ∷ []))
+    ∷ (cutSmall (onLine 0xbfeffff000000000) Keep Keep 2, cutShown 0 (some 10 ∷ some 11 ∷ some 9 ∷ []) true (12 ∷ 5 ∷ 5 ∷ []))
+    ∷ (cutSmall (onLine 0xbfeffff000000000) Remove Keep 0, cutShown 0 (some 0 ∷ none ∷ none ∷ []) true (9 ∷ 4 ∷ 5 ∷ []))
+    ∷ (cutSmall (onLine 0xbfeffff000000000) Keep Remove 1, cutShown 0 (none ∷ some 1 ∷ none ∷ []) false (9 ∷ 4 ∷ 5 ∷ []))
+    -- 8 T beyond the corners at x = 1: the square is its old entry
+    ∷ (cutSmall (onLine 0x3ff0000800000000) Keep Keep 8, cutShown 0 (some 8 ∷ none ∷ none ∷ []) true (9 ∷ 4 ∷ 5 ∷ []))
+    -- a flush face, a corner of which is near
+    ∷ (showCut small flatY Keep Keep 10 (encode small (bent (fin false 1 (negsuc 16)))), cutShown 0 [] true (14 ∷ 6 ∷ 5 ∷ []))
+    ∷ []
+
 -- ---- refusals, each met once, and their order
 
 -- a segment in a small room of one dimension
 abbrev pub inRoom : Limits → Table → Float → Shown
-inRoom L t d = showCut L (record { normal = one ∷ []; distance = d }) true true 2 (encode L t)
+inRoom L t d = showCut L (record { normal = one ∷ []; distance = d }) Keep Keep 2 (encode L t)
 
 -- a face in a small room of two, by the normal (0.6, 0.8)
 abbrev pub inPlane : Limits → Table → Float → Shown
-inPlane L t d = showCut L (record { normal = take 2 (slanted 0 .normal); distance = d }) true true 8 (encode L t)
+inPlane L t d = showCut L (record { normal = take 2 (slanted 0 .normal); distance = d }) Keep Keep 8 (encode L t)
 
 -- the normal (1, y), and distance 0
 abbrev pub flat : Float → Hyperplane
@@ -318,26 +349,26 @@ flat y = record { normal = one ∷ y ∷ plusZero ∷ plusZero ∷ []; distance 
 unfoldable pub refusals : List (Shown × Shown)
 refusals =
     -- 3, 4 and 5 before the rules, in this order; 5 also with an infinite distance
-    (showCut small (record { normal = []; distance = nan }) true true 99 (countsChanged (λ ns. ns)), cutShown 3 [] (9 ∷ 4 ∷ 4 ∷ []))
-    ∷ (cutSmall (record { normal = []; distance = nan }) true true 9, cutShown 4 [] (9 ∷ 4 ∷ 4 ∷ []))
-    ∷ (cutSmall (record { normal = plusZero ∷ plusZero ∷ plusZero ∷ plusZero ∷ []; distance = inf false }) true true 8, cutShown 5 [] (9 ∷ 4 ∷ 4 ∷ []))
-    ∷ (cutSmall (record { normal = one ∷ plusZero ∷ plusZero ∷ neg plusZero ∷ []; distance = plusZero }) true true 8, cutShown 5 [] (9 ∷ 4 ∷ 4 ∷ []))
-    ∷ (cutSmall (atX (ofBits binary64 0x4110000000000001)) true true 8, cutShown 5 [] (9 ∷ 4 ∷ 4 ∷ []))
+    (showCut small (record { normal = []; distance = nan }) Keep Keep 99 (countsChanged (λ ns. ns)), cutShown 3 [] false (9 ∷ 4 ∷ 4 ∷ []))
+    ∷ (cutSmall (record { normal = []; distance = nan }) Keep Keep 9, cutShown 4 [] false (9 ∷ 4 ∷ 4 ∷ []))
+    ∷ (cutSmall (record { normal = plusZero ∷ plusZero ∷ plusZero ∷ plusZero ∷ []; distance = inf false }) Keep Keep 8, cutShown 5 [] false (9 ∷ 4 ∷ 4 ∷ []))
+    ∷ (cutSmall (record { normal = one ∷ plusZero ∷ plusZero ∷ neg plusZero ∷ []; distance = plusZero }) Keep Keep 8, cutShown 5 [] false (9 ∷ 4 ∷ 4 ∷ []))
+    ∷ (cutSmall (atX (ofBits binary64 0x4110000000000001)) Keep Keep 8, cutShown 5 [] false (9 ∷ 4 ∷ 4 ∷ []))
     -- squares that add up to 1 + 2^-18, and to 1 + 2^-20
-    ∷ (cutSmall (flat (fin false 1 (negsuc 8))) true true 0, cutShown 5 [] (9 ∷ 4 ∷ 4 ∷ []))
-    ∷ (cutSmall (flat (fin false 1 (negsuc 9))) true true 0, cutShown 0 (some 0 ∷ none ∷ none ∷ []) (9 ∷ 4 ∷ 5 ∷ []))
+    ∷ (cutSmall (flat (fin false 1 (negsuc 8))) Keep Keep 0, cutShown 5 [] false (9 ∷ 4 ∷ 4 ∷ []))
+    ∷ (cutSmall (flat (fin false 1 (negsuc 9))) Keep Keep 0, cutShown 0 (some 0 ∷ none ∷ none ∷ []) false (9 ∷ 4 ∷ 5 ∷ []))
     -- no room: 10 for the hyperplane, then 8 for the vertex, then 9 for its element; a refusal leaves the counts
-    ∷ (inRoom (roomOf 1 2 3 0 2) (cube 1 one) plusZero, cutShown 10 [] (3 ∷ 2 ∷ 0 ∷ []))
-    ∷ (inRoom (roomOf 1 2 3 1 2) (cube 1 one) plusZero, cutShown 8 [] (3 ∷ 2 ∷ 0 ∷ []))
-    ∷ (inRoom (roomOf 1 3 3 1 2) (cube 1 one) plusZero, cutShown 9 [] (3 ∷ 2 ∷ 0 ∷ []))
+    ∷ (inRoom (roomOf 1 2 3 0 2) (cube 1 one) plusZero, cutShown 10 [] false (3 ∷ 2 ∷ 0 ∷ []))
+    ∷ (inRoom (roomOf 1 2 3 1 2) (cube 1 one) plusZero, cutShown 8 [] false (3 ∷ 2 ∷ 0 ∷ []))
+    ∷ (inRoom (roomOf 1 3 3 1 2) (cube 1 one) plusZero, cutShown 9 [] false (3 ∷ 2 ∷ 0 ∷ []))
     -- a corner cut off a square leaves five edges, in a room for four; edges that are no ring are 7, and 11 where there are too many of them
-    ∷ (inPlane (roomOf 2 9 20 9 4) square one, cutShown 11 [] (9 ∷ 4 ∷ 4 ∷ []))
-    ∷ (inPlane (roomOf 2 9 20 9 5) pinched plusZero, cutShown 7 [] (9 ∷ 4 ∷ 4 ∷ []))
-    ∷ (inPlane (roomOf 2 9 20 9 4) pinched plusZero, cutShown 11 [] (9 ∷ 4 ∷ 4 ∷ []))
+    ∷ (inPlane (roomOf 2 9 20 9 4) square one, cutShown 11 [] false (9 ∷ 4 ∷ 4 ∷ []))
+    ∷ (inPlane (roomOf 2 9 20 9 5) pinched plusZero, cutShown 7 [] false (9 ∷ 4 ∷ 4 ∷ []))
+    ∷ (inPlane (roomOf 2 9 20 9 4) pinched plusZero, cutShown 11 [] false (9 ∷ 4 ∷ 4 ∷ []))
     -- a new edge with four ends
-    ∷ (showCut small (atX plusZero) false false 10 (encode small zigzag), cutShown 7 [] (11 ∷ 5 ∷ 4 ∷ []))
+    ∷ (showCut small (atX plusZero) Remove Remove 10 (encode small zigzag), cutShown 7 [] false (11 ∷ 5 ∷ 4 ∷ []))
     -- a new face of two triangles; each tetrahedron's own is taken
-    ∷ (showCut big (atX plusZero) false false 28 (encode big tetrahedra), cutShown 7 [] (29 ∷ 8 ∷ 6 ∷ []))
+    ∷ (showCut big (atX plusZero) Remove Remove 28 (encode big tetrahedra), cutShown 7 [] false (29 ∷ 8 ∷ 6 ∷ []))
     -- a cube: 1, then 2, then 3
     ∷ (
       numbers (cubeReply small 0 nan (encode tight square) .0 ∷ cubeReply small 5 one smallQ .0 ∷ cubeReply small 2 nan (encode tight square) .0

@@ -1,6 +1,6 @@
 -- Document 01, "Floats": tolerance, signed distance, side, unit normal, crossing, match. Definitions only.
 -- A point is the list of its coordinates, one for each dimension.
-use mathlib.Core.Bool.{Bool, true, false, _&&_, _||_, Bool·beq}
+use mathlib.Core.Bool.{Bool, true, false, not, _&&_, _||_, Bool·beq}
 use mathlib.Core.List.{List, [], _∷_}
 use lib.IntN.{ℤ, pos, negsuc}
 use lib.Dec.{eqb}
@@ -8,8 +8,10 @@ use lib.Ieee.{Float, nan, inf, fin, binary64, neg, add, sub, mul, div, lt, le, i
 use Rattle.rules.specs.Lists.{if_then_else_, all, alike}
 use Rattle.rules.specs.declared.Side.{Side}
 use Rattle.rules.specs.declared.Side.the-variants.{Inside, On, Outside}
+use Rattle.rules.specs.declared.SideTest.{SideTest}
 use Rattle.rules.specs.declared.Crossing.{Crossing}
 use Rattle.rules.specs.declared.Crossing.the-variants.{None, At}
+use Rattle.rules.specs.declared.EdgeTest.{EdgeTest}
 
 -- ---- numbers that the rules name
 
@@ -23,6 +25,10 @@ one = fin false 1 (pos 0)
 -- T, exactly 2 ^ -20
 abbrev pub tolerance : Float
 tolerance = fin false 1 (negsuc 19)
+
+-- 16 T, exactly 2 ^ -16: how near to the plane is a close call
+abbrev pub closeBound : Float
+closeBound = fin false 1 (negsuc 15)
 
 -- 65,536: how far a coordinate may lie
 abbrev pub farthest : Float
@@ -76,6 +82,14 @@ signedDistance normal distance point = sub binary64 (dot normal point) distance
 unfoldable pub sideOf : Float → Side
 sideOf s = if within tolerance s then On else if lt s (neg tolerance) then Inside else Outside
 
+-- document 02, order 2: within 16 T, and not on the plane
+unfoldable pub closeCall : Float → Bool
+closeCall s = within closeBound s && not (within tolerance s)
+
+-- the side, and a warning where it was a close call
+abbrev pub sideTest : Float → SideTest
+sideTest s = record { side = sideOf s; warning = closeCall s }
+
 -- components from -1 to 1, and squares added in axis order from 1 - 2^-20 to 1 + 2^-20
 unfoldable pub unit : List Float → Bool
 unit normal =
@@ -94,9 +108,13 @@ opposite Outside Inside = true
 opposite Outside On = false
 opposite Outside Outside = false
 
--- the edge test, from the signed distances of the lower-numbered end and the other: t = sa / (sa - sb)
-unfoldable pub edgeTest : Float → Float → Crossing
-edgeTest sa sb = if opposite (sideOf sa) (sideOf sb) then At (div binary64 sa (sub binary64 sa sb)) else None
+-- from the signed distances of the lower-numbered end and the other: t = sa / (sa - sb)
+unfoldable pub crossingOf : Float → Float → Crossing
+crossingOf sa sb = if opposite (sideOf sa) (sideOf sb) then At (div binary64 sa (sub binary64 sa sb)) else None
+
+-- the edge test: the crossing, and a warning where an end was a close call
+abbrev pub edgeTest : Float → Float → EdgeTest
+edgeTest sa sb = record { crossing = crossingOf sa sb; warning = closeCall sa || closeCall sb }
 
 -- of two ends that are equal, the first
 abbrev pub greater : Float → Float → Float

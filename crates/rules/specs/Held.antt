@@ -18,6 +18,7 @@ use Rattle.rules.specs.declared.ElementOrNone.{ElementOrNone}
 use Rattle.rules.specs.declared.ElementOrNone.the-variants.{None, Some}
 use Rattle.rules.specs.declared.ElementCutOutput.{ElementCutOutput}
 use Rattle.rules.specs.declared.ElementCutOutput.the-variants.{Flush, NonFlush}
+use Rattle.rules.specs.declared.ElementAnswer.{ElementAnswer}
 
 -- ---- one list goes on from another, and one table from another
 
@@ -117,7 +118,11 @@ pub record Sets (r : ℕ) (g : Gathered) (t : Table) : Type 0 where
   pub outside : SetOf t (suc r) (g .outside)
   pub intersections : SetOf t r (g .intersections)
 
--- the answer of an element of rank r: two elements of rank r or none, and one of the rank below or none
+-- the output of an element of rank r: two elements of rank r or none, and one of the rank below or none
 abbrev pub OutputOf : ℕ → ElementCutOutput → Table → Type 0
 OutputOf r Flush t = Unit {0}
 OutputOf r (NonFlush i o x) t = SomeOf (suc r) i t × SomeOf (suc r) o t × SomeOf r x t
+
+-- its answer, whatever the warning
+abbrev pub AnswerOf : ℕ → ElementAnswer → Table → Type 0
+AnswerOf r a t = OutputOf r (a .output) t

@@ -10,14 +10,14 @@ use lib.ListN.{length, getD, take, drop}
 use lib.Ieee.{Float, inf, le, isNan}
 use Rattle.rules.specs.Limits.{Limits}
 use Rattle.rules.specs.Lists.{all, any, member, occurrences, rises}
-use Rattle.rules.specs.Floats.{plusZero, sideOf, signedDistance, clamp, crossingPoint, pointMatches}
+use Rattle.rules.specs.Floats.{plusZero, sideOf, closeCall, signedDistance, clamp, crossingPoint, pointMatches}
 use Rattle.rules.specs.Table.{ElementNumber, VertexNumber, HyperplaneNumber, Plane, Table, vertexOf, element, rank, boundary, elementCount, pointAt}
 use Rattle.rules.specs.Sound.{sound}
 use Rattle.rules.specs.Memory.{Memory, elementWidth, planeWidth, encode, decode, soundMemory}
 use Rattle.rules.specs.Cut.{Outcome, refused, done, addPlane}
 use Rattle.rules.specs.Questions.{answer, isBelow, vertexSet, greatestCommon, edgesInOrder}
 use Rattle.rules.specs.Rings.{RuleIsOneRing, FaceIsOneRing, FaceIsWalked}
-use Rattle.rules.specs.Replies.{cutNumber, cutValues, listNumber, listSize, facetValue, isSoundReply, cubeReply, dividerFits, dividerOf, cutReply, primordialFacetReply}
+use Rattle.rules.specs.Replies.{cutNumber, cutValues, cutWarning, listNumber, listSize, facetValue, isSoundReply, cubeReply, dividerFits, dividerOf, cutBy, cutReply, primordialFacetReply}
 use Rattle.rules.specs.Files.{openReply}
 use Rattle.rules.specs.Saving.{RefusedOpenLeaves, OpenNumbers, OpenIsSound, SavedOpens, OpenedSaves, OneFile, OpensRoomier, LayoutAlone}
 use Rattle.rules.specs.Calls.{Call, cutting, asking, cubing, opening, after, afterCalls, TableStays, ListQuestion, listReply, listRefusals, Gives, CutNumbered, ListNumbered, FacetNumbered, Filled}
@@ -29,14 +29,16 @@ use Rattle.rules.specs.declared.ElementOrNone.{ElementOrNone}
 use Rattle.rules.specs.declared.ElementOrNone.the-variants.{None, Some}
 use Rattle.rules.specs.declared.ElementCutOutput.{ElementCutOutput}
 use Rattle.rules.specs.declared.ElementCutOutput.the-variants.{Flush, NonFlush}
+use Rattle.rules.specs.declared.PolytopeFate.{PolytopeFate}
+use Rattle.rules.specs.declared.PolytopeFate.the-variants.{Remove, Keep}
+use Rattle.rules.specs.declared.CutParams.{CutParams}
 use Rattle.rules.specs.declared.CutReply.{CutReply}
 
 -- ---- demand 1: an answer, or one numbered refusal that leaves everything as it came
 
 -- a refused cut leaves the memory
 abbrev pub RefusedCutLeaves : Limits → Type 0
-RefusedCutLeaves L = (h : Hyperplane) (i o : Bool) (root : ElementNumber) (m : Memory)
-    → 0 < cutNumber (cutReply L h i o root m .0) → cutReply L h i o root m .1 ≡ m
+RefusedCutLeaves L = (p : CutParams) (root : ElementNumber) (m : Memory) → 0 < cutNumber (cutReply L p root m .0) → cutReply L p root m .1 ≡ m
 
 -- a refused cube leaves the memory
 abbrev pub RefusedCubeLeaves : Limits → Type 0
@@ -52,8 +54,7 @@ ListFillsFront L = (q : ListQuestion) (m : Memory) (room : List ℕ) (n : ℕ) �
 
 -- which numbers each public reply can have
 abbrev pub CutNumbers : Limits → Type 0
-CutNumbers L = (h : Hyperplane) (i o : Bool) (root : ElementNumber) (m : Memory)
-    → CutNumbered (3 ∷ 4 ∷ 5 ∷ 7 ∷ 8 ∷ 9 ∷ 10 ∷ 11 ∷ []) (cutReply L h i o root m .0)
+CutNumbers L = (p : CutParams) (root : ElementNumber) (m : Memory) → CutNumbered (3 ∷ 4 ∷ 5 ∷ 7 ∷ 8 ∷ 9 ∷ 10 ∷ 11 ∷ []) (cutReply L p root m .0)
 
 abbrev pub CubeNumbers : Limits → Type 0
 CubeNumbers L = (d : ℕ) (radius : Float) (m : Memory) → member (cubeReply L d radius m .0) (0 ∷ 1 ∷ 2 ∷ 3 ∷ []) ≡ true
@@ -107,29 +108,29 @@ EnoughBoundary L = (cs : List Call) (m : Memory) → soundMemory L m ≡ true �
 
 -- the same cut again, after any further calls of which no cube and no file is taken, gives the same reply and leaves the memory as it is
 abbrev pub AgainLater : Limits → Type 0
-AgainLater L = (h : Hyperplane) (i o : Bool) (root : ElementNumber) (m : Memory) → cutNumber (cutReply L h i o root m .0) ≡ 0
-    → (cs : List Call) → TableStays L cs (cutReply L h i o root m .1) → let later = afterCalls L cs (cutReply L h i o root m .1) in
-    cutReply L h i o root later ≡ (cutReply L h i o root m .0, later)
+AgainLater L = (p : CutParams) (root : ElementNumber) (m : Memory) → cutNumber (cutReply L p root m .0) ≡ 0
+    → (cs : List Call) → TableStays L cs (cutReply L p root m .1) → let later = afterCalls L cs (cutReply L p root m .1) in
+    cutReply L p root later ≡ (cutReply L p root m .0, later)
 
 -- a distance that is no infinity
 abbrev pub Finite : Float → Type 0
 Finite d = (s : Bool) → d ≡ inf s → ⊥
 
--- both sides kept, a finite divider, and a root that is no corner: one side asked later is the same piece with the same face, and nothing is added
+-- both sides kept, a finite divider, and a root that is no corner: one side asked later is the same piece with the same face and the same warning, and nothing is added
 abbrev pub OneSideLater : Limits → Type 0
 OneSideLater L = (h : Hyperplane) (root : ElementNumber) (m : Memory) (in′ out x : Option ElementNumber)
-    → Finite (h .distance) → 0 < rank (decode L m) root → cutValues (cutReply L h true true root m .0) ≡ in′ ∷ out ∷ x ∷ []
-    → (cs : List Call) → TableStays L cs (cutReply L h true true root m .1) → let later = afterCalls L cs (cutReply L h true true root m .1) in
-    Gives (cutReply L h true false root later) (in′ ∷ none ∷ x ∷ []) later
-    × Gives (cutReply L h false true root later) (none ∷ out ∷ x ∷ []) later
+    → let slice = cutReply L (cutBy h Keep Keep) root m in
+    Finite (h .distance) → 0 < rank (decode L m) root → cutValues (slice .0) ≡ in′ ∷ out ∷ x ∷ []
+    → (cs : List Call) → TableStays L cs (slice .1) → let later = afterCalls L cs (slice .1) in
+    Gives (cutReply L (cutBy h Keep Remove) root later) (in′ ∷ none ∷ x ∷ []) (cutWarning (slice .0)) later
+    × Gives (cutReply L (cutBy h Remove Keep) root later) (none ∷ out ∷ x ∷ []) (cutWarning (slice .0)) later
 
--- and what was flush, done and without values, is flush, whichever sides are kept
+-- and what was flush, done and without values, is flush with the same warning, whichever sides are kept
 abbrev pub FlushLater : Limits → Type 0
-FlushLater L = (h : Hyperplane) (root : ElementNumber) (m : Memory) → Finite (h .distance) → 0 < rank (decode L m) root
-    → cutNumber (cutReply L h true true root m .0) ≡ 0 → cutValues (cutReply L h true true root m .0) ≡ []
-    → (i o : Bool) (cs : List Call) → TableStays L cs (cutReply L h true true root m .1)
-    → let later = afterCalls L cs (cutReply L h true true root m .1) in
-    cutReply L h i o root later ≡ (cutReply L h true true root m .0, later)
+FlushLater L = (h : Hyperplane) (root : ElementNumber) (m : Memory) → let slice = cutReply L (cutBy h Keep Keep) root m in
+    Finite (h .distance) → 0 < rank (decode L m) root → cutNumber (slice .0) ≡ 0 → cutValues (slice .0) ≡ []
+    → (i o : PolytopeFate) (cs : List Call) → TableStays L cs (slice .1) → let later = afterCalls L cs (slice .1) in
+    cutReply L (cutBy h i o) root later ≡ (slice .0, later)
 
 -- ---- the cube, and what is reached from it
 
@@ -143,7 +144,7 @@ Unmatched t = (i j : ℕ) → i < j → j < length (t .points) → pointMatches 
 
 -- nothing is asked of a call, but of a file that is taken that its table has no matching vertices
 abbrev pub OpensUnmatched : Limits → Call → Memory → Type 0
-OpensUnmatched L (cutting h i o root) m = Unit {0}
+OpensUnmatched L (cutting p root) m = Unit {0}
 OpensUnmatched L asking m = Unit {0}
 OpensUnmatched L (cubing d radius) m = Unit {0}
 OpensUnmatched L (opening bs) m = openReply L bs m .0 ≡ 0 → Unmatched (decode L (openReply L bs m .1))
@@ -174,28 +175,36 @@ pub record Passes (L : Limits) (h : Hyperplane) (root : ElementNumber) (m : Memo
   pub used : root < elementCount (decode L m)
   pub fits : dividerFits L (decode L m .dimension) h ≡ true
 
--- rule 2 and nothing more: the divider's hyperplane is matched or appended, and these are the values; or 10
-abbrev pub OnlyPlane : Limits → Memory → List (Option ElementNumber) → CutReply × Memory → Outcome HyperplaneNumber → Type 0
-OnlyPlane L m vs r (refused n) = (cutNumber (r .0) ≡ n) × (r .1 ≡ m)
-OnlyPlane L m vs r (done n t) = Gives r vs (encode L t)
+-- rule 2 and nothing more: the divider's hyperplane is matched or appended, and these are the values and the warning; or 10
+abbrev pub OnlyPlane : Limits → Memory → List (Option ElementNumber) → Bool → CutReply × Memory → Outcome HyperplaneNumber → Type 0
+OnlyPlane L m vs w r (refused n) = (cutNumber (r .0) ≡ n) × (r .1 ≡ m)
+OnlyPlane L m vs w r (done n t) = Gives r vs w (encode L t)
 
 -- the divider of a call, as a hyperplane of the table
 abbrev pub dividerIn : Limits → Memory → Hyperplane → Plane
 dividerIn L m h = dividerOf (decode L m .dimension) h
 
+-- some vertex of the root's vertex set is a close call
+abbrev pub someCloseCall : Plane → Table → ElementNumber → Bool
+someCloseCall h t root = any (λ v. closeCall (signedDistance (h .normal) (h .distance) (getD (t .points) v []))) (vertexSet t root)
+
+-- document 02, order 2: of a finite divider and a cut that is not refused, the warning is on exactly where some corner of the root is a close call
+abbrev pub WarnsOfCloseCalls : Limits → Type 0
+WarnsOfCloseCalls L = (p : CutParams) (root : ElementNumber) (m : Memory) → Finite (p .divider .distance) → cutNumber (cutReply L p root m .0) ≡ 0
+    → cutWarning (cutReply L p root m .0) ≡ someCloseCall (dividerIn L m (p .divider)) (decode L m) root
+
 -- a missed piece is its old entry: all corners Inside and inside kept, the values are the root, none, none; the same for Outside
 abbrev pub MissedPiece : Limits → Type 0
 MissedPiece L = (h : Hyperplane) (root : ElementNumber) (m : Memory) → Passes L h root m → Finite (h .distance)
-    → (AllOn Inside (dividerIn L m h) (decode L m) root
-    → (o : Bool) → OnlyPlane L m (some root ∷ none ∷ none ∷ []) (cutReply L h true o root m) (addPlane L (dividerIn L m h) (decode L m)))
-    × (AllOn Outside (dividerIn L m h) (decode L m) root
-    → (i : Bool) → OnlyPlane L m (none ∷ some root ∷ none ∷ []) (cutReply L h i true root m) (addPlane L (dividerIn L m h) (decode L m)))
+    → let divider = dividerIn L m h in let t = decode L m in let warning = someCloseCall divider t root in
+    (AllOn Inside divider t root → (o : PolytopeFate) → OnlyPlane L m (some root ∷ none ∷ none ∷ []) warning (cutReply L (cutBy h Keep o) root m) (addPlane L divider t))
+    × (AllOn Outside divider t root → (i : PolytopeFate) → OnlyPlane L m (none ∷ some root ∷ none ∷ []) warning (cutReply L (cutBy h i Keep) root m) (addPlane L divider t))
 
--- an infinite distance answers the root, as inside for + and as outside for -, and leaves the memory as it is
+-- an infinite distance answers the root, as inside for + and as outside for -, without a warning, and leaves the memory as it is
 abbrev pub InfiniteDistance : Limits → Type 0
-InfiniteDistance L = (h : Hyperplane) (i o : Bool) (root : ElementNumber) (m : Memory) → Passes L h root m
-    → (h .distance ≡ inf false → Gives (cutReply L h i o root m) (some root ∷ none ∷ none ∷ []) m)
-    × (h .distance ≡ inf true → Gives (cutReply L h i o root m) (none ∷ some root ∷ none ∷ []) m)
+InfiniteDistance L = (p : CutParams) (root : ElementNumber) (m : Memory) → Passes L (p .divider) root m
+    → (p .divider .distance ≡ inf false → Gives (cutReply L p root m) (some root ∷ none ∷ none ∷ []) false m)
+    × (p .divider .distance ≡ inf true → Gives (cutReply L p root m) (none ∷ some root ∷ none ∷ []) false m)
 
 -- ---- memory and room
 
@@ -217,8 +226,8 @@ NamesBelow n (NonFlush i o x) = OneBelow n i × OneBelow n o × OneBelow n x
 
 -- the elements that a cut's values name are in use in the memory after it
 abbrev pub AnswersAreInUse : Limits → Type 0
-AnswersAreInUse L = (h : Hyperplane) (i o : Bool) (root : ElementNumber) (m : Memory) (k : ℕ) (e : ElementNumber)
-    → getD (cutValues (cutReply L h i o root m .0)) k none ≡ some e → e < getD (cutReply L h i o root m .1 .counts) 1 0
+AnswersAreInUse L = (p : CutParams) (root : ElementNumber) (m : Memory) (k : ℕ) (e : ElementNumber)
+    → getD (cutValues (cutReply L p root m .0)) k none ≡ some e → e < getD (cutReply L p root m .1 .counts) 1 0
 
 -- x lies from the lesser of a and b to the greater
 pub record Between (a b x : Float) : Type 0 where
@@ -356,6 +365,7 @@ pub record Promises (L : Limits) : Type 0 where
   pub stays-unmatched : StaysUnmatched L
   pub missed-piece : MissedPiece L
   pub infinite-distance : InfiniteDistance L
+  pub warns-of-close-calls : WarnsOfCloseCalls L
   pub read-back : ReadBack L
   pub roomier-alike : RoomierAlike L
   pub refused-open-leaves : RefusedOpenLeaves L

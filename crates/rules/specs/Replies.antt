@@ -12,7 +12,7 @@ use Rattle.rules.specs.Floats.{plusZero, sameBits, within, farthestPlane
 use Rattle.rules.specs.Table.{ElementNumber, VertexNumber, Plane, elementCount}
 use Rattle.rules.specs.Memory.{Memory, encode, decode, rightSize, soundMemory}
 use Rattle.rules.specs.Cube.{cube, radiusFits}
-use Rattle.rules.specs.Cut.{Outcome, refused, done, cut}
+use Rattle.rules.specs.Cut.{Outcome, refused, done, Params, cut}
 use Rattle.rules.specs.Questions.{Asked, no-answer, answer, subElements, withRank, vertexSet, greatestCommon, edgesInOrder, primordialFacet}
 use Rattle.rules.specs.declared.Hyperplane.{Hyperplane}
 use Rattle.rules.specs.declared.Crossing.{Crossing}
@@ -23,6 +23,8 @@ use Rattle.rules.specs.declared.ElementCutOutput.{ElementCutOutput}
 use Rattle.rules.specs.declared.ElementCutOutput.the-variants.{Flush, NonFlush}
 use Rattle.rules.specs.declared.PolytopeFate.{PolytopeFate}
 use Rattle.rules.specs.declared.PolytopeFate.the-variants.{Remove, Keep}
+use Rattle.rules.specs.declared.CutParams.{CutParams}
+use Rattle.rules.specs.declared.ElementAnswer.{ElementAnswer}
 use Rattle.rules.specs.declared.CutReply.{CutReply}
 use Rattle.rules.specs.declared.CutReply.the-variants.{Refused, Answered}
 use Rattle.rules.specs.declared.ListReply.{ListReply}
@@ -35,7 +37,7 @@ use Rattle.rules.specs.declared.FacetReply.the-variants.{Refused as Face
 -- 0, done, carries the answer; a refusal carries its number and no elements
 abbrev pub cutNumber : CutReply → ℕ
 cutNumber (Refused n) = n
-cutNumber (Answered a) = 0
+cutNumber (Answered a w) = 0
 
 abbrev pub listNumber : ListReply → ℕ
 listNumber (ListRefused n) = n
@@ -57,7 +59,12 @@ outputValues (NonFlush i o x) = elementValue i ∷ elementValue o ∷ elementVal
 
 abbrev pub cutValues : CutReply → List (Option ElementNumber)
 cutValues (Refused n) = []
-cutValues (Answered a) = outputValues a
+cutValues (Answered a w) = outputValues a
+
+-- the warning of an answer; a refused cut has none
+abbrev pub cutWarning : CutReply → Bool
+cutWarning (Refused n) = false
+cutWarning (Answered a w) = w
 
 -- how many numbers were written; a refused list has no size
 abbrev pub listSize : ListReply → Option ℕ
@@ -106,22 +113,38 @@ abbrev pub isKept : PolytopeFate → Bool
 isKept Remove = false
 isKept Keep = true
 
+abbrev pub fateOf : Bool → PolytopeFate
+fateOf false = Remove
+fateOf true = Keep
+
 -- the divider with the dimension's components only
 abbrev pub dividerOf : ℕ → Hyperplane → Plane
 dividerOf d h = record { normal = take d (h .normal); distance = h .distance }
 
--- a refusal restores all memory
-abbrev pub written : Limits → Memory → Outcome ElementCutOutput → CutReply × Memory
-written L m (refused n) = (Refused n, m)
-written L m (done a t) = (Answered a, encode L t)
+-- the parameters of a cut by divider h, with what becomes of each side
+abbrev pub cutBy : Hyperplane → PolytopeFate → PolytopeFate → CutParams
+cutBy h i o = record { divider = h; inside = i; outside = o }
 
-unfoldable pub cutReply : Limits → Hyperplane → Bool → Bool → ElementNumber → Memory → CutReply × Memory
-cutReply L h i o root m =
+-- the parameters as the rules have them
+abbrev pub paramsOf : ℕ → CutParams → Params
+paramsOf d p = record { divider = dividerOf d (p .divider); keepInside = isKept (p .inside); keepOutside = isKept (p .outside) }
+
+-- an answer as the public reply has it
+abbrev pub asReply : ElementAnswer → CutReply
+asReply a = Answered (a .output) (a .warning)
+
+-- a refusal restores all memory
+abbrev pub written : Limits → Memory → Outcome ElementAnswer → CutReply × Memory
+written L m (refused n) = (Refused n, m)
+written L m (done a t) = (asReply a, encode L t)
+
+unfoldable pub cutReply : Limits → CutParams → ElementNumber → Memory → CutReply × Memory
+cutReply L p root m =
     let t = decode L m in
     if not (soundMemory L m) then (Refused 3, m)
     else if not (ltb root (elementCount t)) then (Refused 4, m)
-    else if not (dividerFits L (t .dimension) h) then (Refused 5, m)
-    else written L m (cut L (dividerOf (t .dimension) h) i o root t)
+    else if not (dividerFits L (t .dimension) (p .divider)) then (Refused 5, m)
+    else written L m (cut L (paramsOf (t .dimension) p) root t)
 
 -- ---- a question: 3, 4, then its own (6, 7), and 12 last; the table is read only
 

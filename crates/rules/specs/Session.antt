@@ -9,11 +9,13 @@ use Rattle.rules.specs.Lists.{if_then_else_, alike, pad, joined}
 use Rattle.rules.specs.Floats.{plusZero}
 use Rattle.rules.specs.Bytes.{numberAt, floatAt, floatsAt, decimal}
 use Rattle.rules.specs.Memory.{Memory, elementWidth, planeWidth}
-use Rattle.rules.specs.Replies.{cubeReply, cutReply}
+use Rattle.rules.specs.Replies.{cubeReply, fateOf, cutReply}
 use Rattle.rules.specs.declared.Hyperplane.{Hyperplane}
 use Rattle.rules.specs.declared.ElementOrNone.{ElementOrNone}
 use Rattle.rules.specs.declared.ElementOrNone.the-variants.{None, Some}
+use Rattle.rules.specs.declared.ElementCutOutput.{ElementCutOutput}
 use Rattle.rules.specs.declared.ElementCutOutput.the-variants.{Flush, NonFlush}
+use Rattle.rules.specs.declared.CutParams.{CutParams}
 use Rattle.rules.specs.declared.CutReply.{CutReply}
 use Rattle.rules.specs.declared.CutReply.the-variants.{Refused, Answered}
 
@@ -85,20 +87,25 @@ abbrev pub dividerAt : Limits → ℕ → List ℕ → Hyperplane
 dividerAt L d bs = record { normal = pad plusZero (L .dimensions) (floatsAt d 5 bs); distance = floatAt (5 + 8 * d) bs }
 
 -- of the kept sides, 1 is the inside and 2 the outside
+abbrev pub paramsAt : Limits → ℕ → List ℕ → CutParams
+paramsAt L d bs = let kept = numberAt 1 2 bs in record { divider = dividerAt L d bs; inside = fateOf (eqb (kept % 2) 1); outside = fateOf (eqb (kept / 2) 1) }
+
 abbrev pub cutAsked : Limits → Memory → List ℕ → CutReply × Memory
-cutAsked L m bs =
-    let kept = numberAt 1 2 bs in
-    cutReply L (dividerAt L (getD (m .counts) 0 0) bs) (eqb (kept % 2) 1) (eqb (kept / 2) 1) (numberAt 2 3 bs) m
+cutAsked L m bs = cutReply L (paramsAt L (getD (m .counts) 0 0) bs) (numberAt 2 3 bs) m
 
 -- a refused cube leaves the memory, and keeps the table before it
 abbrev pub cubeTurn : Bool → ℕ × Memory → Turn
 cubeTurn stands (zero, m) = taken 11 (cubeLine (tableCounts m)) true m
 cubeTurn stands (suc n, m) = taken 11 (refusedLine (suc n)) stands m
 
+abbrev pub outputText : ElementCutOutput → List ℕ → Line
+outputText Flush ns = flushLine ns
+outputText (NonFlush i o x) ns = cutLine i o x ns
+
+-- a line has no place for the warning
 abbrev pub cutText : CutReply → List ℕ → Line
 cutText (Refused n) ns = refusedLine n
-cutText (Answered Flush) ns = flushLine ns
-cutText (Answered (NonFlush i o x)) ns = cutLine i o x ns
+cutText (Answered a w) ns = outputText a ns
 
 abbrev pub cutTurn : ℕ → CutReply × Memory → Turn
 cutTurn d (r, m) = taken (cutLength d) (cutText r (tableCounts m)) true m

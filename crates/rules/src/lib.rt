@@ -22,10 +22,22 @@ pub enum Side {
     Outside,
 }
 
-// What an edge test answers: no crossing, or a crossing with its t.
+// What the side test of a signed distance says: the side, and a warning where it was a close call.
+pub struct SideTest {
+    pub side: Side,
+    pub warning: bool,
+}
+
+// No crossing of an edge, or a crossing with its t.
 pub enum Crossing {
     None,
     At(f64),
+}
+
+// What an edge test answers: the crossing, and a warning where an end was a close call.
+pub struct EdgeTest {
+    pub crossing: Crossing,
+    pub warning: bool,
 }
 
 // An element or none.
@@ -40,12 +52,17 @@ pub enum PolytopeFate {
     Keep,
 }
 
-// The divider as given, its hyperplane's number, and which sides are kept.
-pub struct Cutter {
+// The parameters of a cut: its divider, and what becomes of each side.
+pub struct CutParams {
     pub divider: Hyperplane,
+    pub inside: PolytopeFate,
+    pub outside: PolytopeFate,
+}
+
+// The parameters of a cut, and the number of its divider's hyperplane.
+pub struct Cutter {
+    pub params: CutParams,
     pub number: HyperplaneId,
-    pub keep_inside: bool,
-    pub keep_outside: bool,
 }
 
 // What a cut of an element gives.
@@ -58,10 +75,19 @@ pub enum ElementCutOutput {
     },
 }
 
+// What the cut of an element hands on: its output, and a warning where a corner that was tested for it was a close call.
+pub struct ElementAnswer {
+    pub output: ElementCutOutput,
+    pub warning: bool,
+}
+
 // The whole public reply of a cut.
 pub enum CutReply {
     Refused(u8),
-    Answered(ElementCutOutput),
+    Answered {
+        output: ElementCutOutput,
+        warning: bool,
+    },
 }
 
 // The whole public reply of a question that gives a list: how many entries it wrote.

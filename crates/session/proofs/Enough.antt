@@ -2,7 +2,7 @@
 use Prim.Native.Nat.{ℕ, _+_, _*_, _%_, _/_, _≤_}
 use mathlib.Core.Bool.{Bool, true, false, _&&_}
 use mathlib.Core.List.{List, [], _∷_}
-use mathlib.Core.Path.{_≡_, refl, sym, ap, ap₂, _∙_}
+use mathlib.Core.Path.{_≡_, refl, sym, ap₂, _∙_}
 use native.Mathlib.Omega.{arith}
 use lib.Dec.{leb, eqb, lit≤}
 use lib.ListN.{length, getD, take, length-take}
@@ -11,8 +11,8 @@ use Rattle.rules.specs.Limits.{desk}
 use Rattle.rules.specs.Lists.{if_then_else_, alike, pad}
 use Rattle.rules.specs.Floats.{plusZero}
 use Rattle.rules.specs.Memory.{Memory}
-use Rattle.rules.specs.Replies.{cubeReply, cutReply}
-use Rattle.rules.specs.Session.{isCube, isCut, cutLength, cubeTurn, cutTurn, dividerAt, bad, turn}
+use Rattle.rules.specs.Replies.{cubeReply, fateOf, cutBy, cutReply}
+use Rattle.rules.specs.Session.{isCube, isCut, cutLength, cubeTurn, cutTurn, dividerAt, paramsAt, bad, turn}
 use Rattle.rules.proofs.Laws.{le-test, test-le, not-le, test-above}
 use Rattle.lent_bytes.proofs.Fronts.{number-front, float-front, floats-front}
 
@@ -38,10 +38,13 @@ module _ (bs : List ℕ) where
     divider-part : dividerAt desk d (take 45 bs) ≡ dividerAt desk d bs
     divider-part = λ i. record { normal = pad plusZero 4 (floats-front d 5 45 bs (omega (arith, h)) i); distance = float-front (5 + 8 * d) 45 bs (omega (arith, h)) i }
 
+    params-part : paramsAt desk d (take 45 bs) ≡ paramsAt desk d bs
+    params-part = λ i. cutBy (divider-part i) (fateOf (eqb (number-front 1 2 45 bs (lit≤ tt) i % 2) 1)) (fateOf (eqb (number-front 1 2 45 bs (lit≤ tt) i / 2) 1))
+
 pub enough : (stands : Bool) (m : Memory) (bs : List ℕ) → getD (m .counts) 0 0 ≤ 4 → turn desk stands m (take 45 bs) ≡ turn desk stands m bs
 unfolding turn
 enough stands m bs h =
     let d = getD (m .counts) 0 0 in
     λ i. if cube-part bs i then cubeTurn stands (cubeReply desk (number-front 1 2 45 bs (lit≤ tt) i) (float-front 3 45 bs (lit≤ tt) i) m)
-    else if stands && cut-part bs d h i then cutTurn d (cutReply desk (divider-part bs d h i) (eqb (number-front 1 2 45 bs (lit≤ tt) i % 2) 1) (eqb (number-front 1 2 45 bs (lit≤ tt) i / 2) 1) (number-front 2 3 45 bs (lit≤ tt) i) m)
+    else if stands && cut-part bs d h i then cutTurn d (cutReply desk (params-part bs d h i) (number-front 2 3 45 bs (lit≤ tt) i) m)
     else bad

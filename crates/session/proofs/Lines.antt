@@ -1,6 +1,6 @@
 -- Every line of a turn has room in 64 bytes: the numbers of a sound memory of the desk, and of a refusal, have five digits at most.
 use Prim.Native.Nat.{ℕ, suc, _*_, _≤_, _<_, zero-le}
-use mathlib.Core.Bool.{Bool, true}
+use mathlib.Core.Bool.{true}
 use mathlib.Core.List.{List, [], _∷_, _++_}
 use mathlib.Core.Path.{_≡_, refl, subst}
 use native.Mathlib.Omega.{arith}
@@ -13,10 +13,10 @@ use Rattle.rules.specs.Table.{elementCount}
 use Rattle.rules.specs.Memory.{Memory, encode, decode, soundMemory}
 use Rattle.rules.specs.Replies.{cutNumber, cubeReply, cutReply}
 use Rattle.rules.specs.Bytes.{decimal}
-use Rattle.rules.specs.Session.{spaced, place, text, cubeLine, refusedLine, cutText, tableCounts}
+use Rattle.rules.specs.Session.{spaced, place, text, cubeLine, refusedLine, outputText, cutText, tableCounts}
 use Rattle.rules.specs.Held.{AllOf}
 use Rattle.rules.specs.Promises.{OneBelow, NamesBelow}
-use Rattle.rules.specs.declared.Hyperplane.{Hyperplane}
+use Rattle.rules.specs.declared.CutParams.{CutParams}
 use Rattle.rules.specs.declared.ElementOrNone.{ElementOrNone}
 use Rattle.rules.specs.declared.ElementOrNone.the-variants.{None, Some}
 use Rattle.rules.specs.declared.ElementCutOutput.{ElementCutOutput}
@@ -102,21 +102,21 @@ module _ (d : ℕ) (radius : Float) (m : Memory) where
 desk-reads : Readable desk
 desk-reads = record { planes = lit≤ tt; boundary = lit≤ tt }
 
-module _ (h : Hyperplane) (i o : Bool) (root : ℕ) (m : Memory) where
-  pub cut-short : length (text (cutText (cutReply desk h i o root m .0) (tableCounts (cutReply desk h i o root m .1)))) ≤ lineRoom
-  cut-short = go (cutReply desk h i o root m .0) (cutReply desk h i o root m .1) refl
+module _ (p : CutParams) (root : ℕ) (m : Memory) where
+  pub cut-short : length (text (cutText (cutReply desk p root m .0) (tableCounts (cutReply desk p root m .1)))) ≤ lineRoom
+  cut-short = go (cutReply desk p root m .0) (cutReply desk p root m .1) refl
     where
       one-low : (n : ℕ) (e : ElementOrNone) → n ≤ 512 → OneBelow n e → OneBelow 512 e
       one-low n None l b = tt
       one-low n (Some e) l b = omega (arith, l, b)
 
       answer-short : (a : ElementCutOutput) (m′ : Memory) → soundMemory desk m′ ≡ true → NamesBelow (getD (m′ .counts) 1 0) a
-          → length (text (cutText (Answered a) (tableCounts m′))) ≤ lineRoom
+          → length (text (outputText a (tableCounts m′))) ≤ lineRoom
       answer-short Flush m′ s b = let l = counts-short m′ s in in-line (102 ∷ 108 ∷ 117 ∷ 115 ∷ 104 ∷ []) (spaced (tableCounts m′)) (lit≤ tt) (omega (arith, l))
       answer-short (NonFlush x y z) m′ s b =
           let k = elements-low m′ s in
           let l = counts-short m′ s in
-          let p = place-short x (one-low (getD (m′ .counts) 1 0) x k (b .0)) in
+          let px = place-short x (one-low (getD (m′ .counts) 1 0) x k (b .0)) in
           let q = place-short y (one-low (getD (m′ .counts) 1 0) y k (b .1)) in
           let r = place-short z (one-low (getD (m′ .counts) 1 0) z k (b .2)) in
           let word : List ℕ = 99 ∷ 117 ∷ 116 ∷ [] in
@@ -125,10 +125,11 @@ module _ (h : Hyperplane) (i o : Bool) (root : ℕ) (m : Memory) where
           let e₃ = length-append (word ++ place x ++ place y) (place z) in
           let e₄ = length-append (word ++ place x ++ place y ++ place z) (spaced (tableCounts m′)) in
           let e₅ = length-append (word ++ place x ++ place y ++ place z ++ spaced (tableCounts m′)) (10 ∷ []) in
-          omega (arith, l, p, q, r, e₁, e₂, e₃, e₄, e₅)
+          omega (arith, l, px, q, r, e₁, e₂, e₃, e₄, e₅)
 
-      go : (r : CutReply) (m′ : Memory) → cutReply desk h i o root m ≡ (r, m′) → length (text (cutText r (tableCounts m′))) ≤ lineRoom
+      go : (r : CutReply) (m′ : Memory) → cutReply desk p root m ≡ (r, m′) → length (text (cutText r (tableCounts m′))) ≤ lineRoom
       go (Refused n) m′ e =
           refused-short n (low-in (0 ∷ 3 ∷ 4 ∷ 5 ∷ 7 ∷ 8 ∷ 9 ∷ 10 ∷ 11 ∷ []) n refl
-          (subst (λ (x : CutReply × Memory). member (cutNumber (x .0)) (0 ∷ 3 ∷ 4 ∷ 5 ∷ 7 ∷ 8 ∷ 9 ∷ 10 ∷ 11 ∷ []) ≡ true) e (desk-keeps .cut-numbers h i o root m .number)))
-      go (Answered a) m′ e = answer-short a m′ (memory-sound desk desk-reads h i o root m a m′ e) (names-in-use desk desk-reads h i o root m a m′ e)
+          (subst (λ (x : CutReply × Memory). member (cutNumber (x .0)) (0 ∷ 3 ∷ 4 ∷ 5 ∷ 7 ∷ 8 ∷ 9 ∷ 10 ∷ 11 ∷ []) ≡ true) e (desk-keeps .cut-numbers p root m .number)))
+      go (Answered a w) m′ e =
+          answer-short a m′ (memory-sound desk desk-reads p root m (record { output = a; warning = w }) m′ e) (names-in-use desk desk-reads p root m (record { output = a; warning = w }) m′ e)

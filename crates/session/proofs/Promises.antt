@@ -1,12 +1,12 @@
 -- The promises of a record's turn, by cases on its tests: too little room, a cube, a cut, a bad record.
-use Prim.Native.Nat.{ℕ, zero, suc, _+_, _/_, _%_, _≤_, _<_}
+use Prim.Native.Nat.{ℕ, zero, suc, _+_, _≤_, _<_}
 use mathlib.Core.Bool.{Bool, true, false, _&&_, false≢true}
 use mathlib.Core.Option.{Option, none, some}
 use mathlib.Core.List.{List, [], _∷_}
 use mathlib.Core.Path.{_≡_, refl, sym, ap, subst, _∙_}
 use native.Mathlib.Nat.{suc-ne-zero, le-trans, le-of-suc-le-suc}
 use native.Mathlib.Omega.{arith}
-use lib.Dec.{ltb, eqb, lit≤}
+use lib.Dec.{ltb, lit≤}
 use lib.ListN.{length, getD, drop, set}
 use lib.Seq.{sets, length-sets, drop-set-lt}
 use Rattle.rules.specs.Limits.{desk}
@@ -14,7 +14,7 @@ use Rattle.rules.specs.Lists.{if_then_else_}
 use Rattle.rules.specs.Memory.{Memory}
 use Rattle.rules.specs.Session.{Line, text, bad, taken, turn, isCube, isCut, cutLength, cubeLine, refusedLine, cutText, tableCounts, cubeAsked, cutAsked, cubeTurn, cutTurn}
 use Rattle.rules.specs.Bytes.{numberAt, floatAt}
-use Rattle.rules.specs.Session.{dividerAt}
+use Rattle.rules.specs.Session.{paramsAt}
 use Rattle.rules.proofs.Laws.{and-right, le-test, test-le, not-le, none-some}
 use Rattle.session.specs.declared.TurnReply.{TurnReply}
 use Rattle.session.specs.declared.TurnReply.the-variants.{NoRoom}
@@ -79,7 +79,7 @@ module _ (stands : Bool) (m : Memory) (bs room : List ℕ) where
         let d = getD (m .counts) 0 0 in
         let x = cutAsked desk m bs in
         of-taken wide (cutLength d) (cutText (x .0) (tableCounts (x .1))) true (x .1) (let q : 0 < cutLength d = omega arith in q) (cut-long bs d e)
-        (cut-short (dividerAt desk d bs) (eqb (numberAt 1 2 bs % 2) 1) (eqb (numberAt 1 2 bs / 2) 1) (numberAt 2 3 bs) m) (λ h. refl)
+        (cut-short (paramsAt desk d bs) (numberAt 2 3 bs) m) (λ h. refl)
 
     of-turn : Kept false (replyOf m room (turn desk stands m bs))
     unfolding turn

@@ -12,10 +12,12 @@ use Rattle.rules.specs.Limits.{desk}
 use Rattle.rules.specs.Lists.{if_then_else_}
 use Rattle.rules.specs.Memory.{Memory, encode, decode, rightSize, soundMemory}
 use Rattle.rules.specs.Cube.{cube, radiusFits}
-use Rattle.rules.specs.Replies.{cubeReply, cutReply}
+use Rattle.rules.specs.Replies.{cubeReply, fateOf, cutBy, cutReply}
 use Rattle.rules.specs.Bytes.{numberAt, floatAt}
 use Rattle.rules.specs.Session.{text, cubeLine, refusedLine, badLine, cutText, cubeAsked, cutAsked, dividerAt, cubeTurn, cutTurn, isCube, isCut, cutLength, turn}
 use Rattle.rules.specs.declared.Hyperplane.{Hyperplane}
+use Rattle.rules.specs.declared.PolytopeFate.{PolytopeFate}
+use Rattle.rules.specs.declared.CutParams.{CutParams}
 use Rattle.rules.specs.declared.CutReply.{CutReply}
 use Rattle.rules.specs.declared.CutReply.the-variants.{Refused, Answered}
 use Rattle.rules.proofs.Laws.{and-left, and-right, le-test, test-le, not-le, test-above, if-true, if-false, refute}
@@ -70,26 +72,27 @@ module _ (bs room room′ : List ℕ) (stands : Bool) (m m′ : Memory) (d n : �
 pub cut-long : (bs : List ℕ) (d : ℕ) → isCut d bs ≡ true → cutLength d ≤ length bs
 cut-long bs d h = le-test (cutLength d) (length bs) (and-right (Marked bs 0x54) (leb (cutLength d) (length bs)) (and-left (Marked bs 0x54 && leb (cutLength d) (length bs)) (leb (numberAt 1 2 bs) 3) h))
 
-pub line-fits : (h : Hyperplane) (i o : Bool) (root : ℕ) (m m′ : Memory) (r : CutReply) → (r, m′) ≡ cutReply desk h i o root m → LineFits r (m′ .counts)
-line-fits h i o root m m′ (Refused n) e = tt
-line-fits h i o root m m′ (Answered a) e = record { names = names-low h i o root m m′ e a refl; counts = four-counts h i o root m m′ e a refl }
+pub line-fits : (p : CutParams) (root : ℕ) (m m′ : Memory) (r : CutReply) → (r, m′) ≡ cutReply desk p root m → LineFits r (m′ .counts)
+line-fits p root m m′ (Refused n) e = tt
+line-fits p root m m′ (Answered a w) e = record { names = names-low p root m m′ e a w refl; counts = four-counts p root m m′ e a w refl }
 
 -- more than four dimensions are refused, whatever the divider
 unsound : (m : Memory) → 4 < getD (m .counts) 0 0 → soundMemory desk m ≡ false
 unfolding decode
 unsound m h = refute (soundMemory desk m) (λ s. let z = le-test (getD (m .counts) 0 0) 4 (sound-good desk (decode desk m) (sound-table desk m s) .high) in omega (arith, z, h))
 
-too-many : (h : Hyperplane) (i o : Bool) (root : ℕ) (m : Memory) → 4 < getD (m .counts) 0 0 → cutReply desk h i o root m ≡ (Refused 3, m)
+too-many : (p : CutParams) (root : ℕ) (m : Memory) → 4 < getD (m .counts) 0 0 → cutReply desk p root m ≡ (Refused 3, m)
 unfolding cutReply
-too-many h i o root m l = if-true _ _ _ (ap not (unsound m l))
+too-many p root m l = if-true _ _ _ (ap not (unsound m l))
 
-same-divider : (h g : Hyperplane) (i o : Bool) (root : ℕ) (m : Memory) (b : Bool) → leb (getD (m .counts) 0 0) 4 ≡ b → (getD (m .counts) 0 0 ≤ 4 → h ≡ g) → cutReply desk h i o root m ≡ cutReply desk g i o root m
-same-divider h g i o root m true t f = ap (λ (x : Hyperplane). cutReply desk x i o root m) (f (le-test (getD (m .counts) 0 0) 4 t))
-same-divider h g i o root m false t f = let l = not-le (getD (m .counts) 0 0) 4 t in too-many h i o root m l ∙ sym (too-many g i o root m l)
+same-divider : (h g : Hyperplane) (i o : PolytopeFate) (root : ℕ) (m : Memory) (b : Bool) → leb (getD (m .counts) 0 0) 4 ≡ b → (getD (m .counts) 0 0 ≤ 4 → h ≡ g)
+    → cutReply desk (cutBy h i o) root m ≡ cutReply desk (cutBy g i o) root m
+same-divider h g i o root m true t f = ap (λ (x : Hyperplane). cutReply desk (cutBy x i o) root m) (f (le-test (getD (m .counts) 0 0) 4 t))
+same-divider h g i o root m false t f = let l = not-le (getD (m .counts) 0 0) 4 t in too-many (cutBy h i o) root m l ∙ sym (too-many (cutBy g i o) root m l)
 
-module _ (bs room room′ : List ℕ) (m m′ : Memory) (r : CutReply) (h : Hyperplane) (i o : Bool) (d root kept line : ℕ) where
-  pub cut-taken : (r, m′) ≡ cutReply desk h i o root m → d ≡ getD (m .counts) 0 0 → (d ≤ 4 → h ≡ dividerAt desk d bs) → kept ≡ numberAt 1 2 bs → i ≡ eqb (kept % 2) 1
-      → o ≡ eqb (kept / 2) 1 → root ≡ numberAt 2 3 bs → Put room 0 (text (cutText r (drop 1 (m′ .counts)))) line room′
+module _ (bs room room′ : List ℕ) (m m′ : Memory) (r : CutReply) (h : Hyperplane) (i o : PolytopeFate) (d root kept line : ℕ) where
+  pub cut-taken : (r, m′) ≡ cutReply desk (cutBy h i o) root m → d ≡ getD (m .counts) 0 0 → (d ≤ 4 → h ≡ dividerAt desk d bs) → kept ≡ numberAt 1 2 bs → i ≡ fateOf (eqb (kept % 2) 1)
+      → o ≡ fateOf (eqb (kept / 2) 1) → root ≡ numberAt 2 3 bs → Put room 0 (text (cutText r (drop 1 (m′ .counts)))) line room′
       → (Taken (13 + 8 * d) line true, m′, room′) ≡ replyOf m room (cutTurn (getD (m .counts) 0 0) (cutAsked desk m bs))
   cut-taken e ed eh ek ei eo er p =
       (λ j. (Taken (long j) (line-length p j) true, m′, p .room j))
@@ -101,8 +104,9 @@ module _ (bs room room′ : List ℕ) (m m′ : Memory) (r : CutReply) (h : Hype
       divider : getD (m .counts) 0 0 ≤ 4 → h ≡ dividerAt desk (getD (m .counts) 0 0) bs
       divider = subst (λ (k : ℕ). k ≤ 4 → h ≡ dividerAt desk k bs) ed eh
 
-      sides : cutReply desk (dividerAt desk (getD (m .counts) 0 0) bs) i o root m ≡ cutAsked desk m bs
-      sides = λ j. cutReply desk (dividerAt desk (getD (m .counts) 0 0) bs) ((ei ∙ ap (λ (k : ℕ). eqb (k % 2) 1) ek) j) ((eo ∙ ap (λ (k : ℕ). eqb (k / 2) 1) ek) j) (er j) m
+      sides : cutReply desk (cutBy (dividerAt desk (getD (m .counts) 0 0) bs) i o) root m ≡ cutAsked desk m bs
+      sides = λ j. cutReply desk
+          (cutBy (dividerAt desk (getD (m .counts) 0 0) bs) ((ei ∙ ap (λ (k : ℕ). fateOf (eqb (k % 2) 1)) ek) j) ((eo ∙ ap (λ (k : ℕ). fateOf (eqb (k / 2) 1)) ek) j)) (er j) m
 
 -- ---- any record
 

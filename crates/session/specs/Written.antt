@@ -29,7 +29,7 @@ pub record AnswerFits (a : ElementCutOutput) (cs : List ℕ) : Type 0 where
 
 abbrev pub LineFits : CutReply → List ℕ → Type 0
 LineFits (Refused n) cs = Unit {0}
-LineFits (Answered a) cs = AnswerFits a cs
+LineFits (Answered a w) cs = AnswerFits a cs
 
 -- the reply, the memory and the room after a turn
 abbrev pub replyOf : Memory → List ℕ → Turn → TurnReply × Memory × List ℕ

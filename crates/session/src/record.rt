@@ -2,6 +2,7 @@
 use crate::TurnReply;
 use crate::line;
 use lent_bytes::read;
+use rules::CutParams;
 use rules::CutReply;
 use rules::ElementCutOutput;
 use rules::ElementId;
@@ -17,9 +18,9 @@ ghost use Rattle.rules.specs.Limits.{desk};
 ghost use Rattle.rules.specs.Lists.{if_then_else_, alike};
 ghost use Rattle.rules.specs.Floats.{plusZero};
 ghost use Rattle.rules.specs.Held.{memoryOf};
-ghost use Rattle.rules.specs.Replies.{isKept};
+ghost use Rattle.rules.specs.Replies.{fateOf};
 ghost use Rattle.rules.specs.Bytes.{floatAt};
-ghost use Rattle.rules.specs.Session.{text, isCube, isCut, cubeAsked, dividerAt, cutAsked, cubeTurn, cutText, cutTurn};
+ghost use Rattle.rules.specs.Session.{text, isCube, isCut, cubeAsked, dividerAt, cutAsked, cubeTurn, outputText, cutText, cutTurn};
 ghost use Rattle.lent_bytes.specs.Lent.{Put};
 ghost use Rattle.space.specs.Numbers.{NumberBelow};
 ghost use Rattle.session.specs.Written.{replyOf};
@@ -69,7 +70,7 @@ pub fn is_cut(counts: &[u16], input: &[u8]) -> bool
 }
 
 fn fate(kept: bool) -> PolytopeFate
-    ensures { λ r. ⌜ isKept r ≡ kept ⌝ }
+    ensures { λ r. ⌜ r ≡ fateOf kept ⌝ }
 {
     if kept {
         return PolytopeFate::Keep;
@@ -137,7 +138,7 @@ pub fn cube_turn(
 
 fn answer_line(answer: ElementCutOutput, counts: &[u16], room: &mut [u8]) -> usize
     requires { ⌜ AnswerLineReady answer (now counts) (now room) ⌝ }
-    ensures { λ r. ⌜ Put (now (room .entry)) 0 (text (cutText (CutReply.Answered answer) (drop 1 (now (counts .entry))))) r (now (room .exit)) ⌝ }
+    ensures { λ r. ⌜ Put (now (room .entry)) 0 (text (outputText answer (drop 1 (now (counts .entry))))) r (now (room .exit)) ⌝ }
 {
     match answer {
         ElementCutOutput::Flush => line::counted(b"flush", counts, room),
@@ -156,7 +157,7 @@ fn cut_line(reply: CutReply, counts: &[u16], room: &mut [u8]) -> usize
 {
     match reply {
         CutReply::Refused(no) => line::numbered(b"refused", no as u64, room),
-        CutReply::Answered(a) => answer_line(a, counts, room),
+        CutReply::Answered { output, warning: _ } => answer_line(output, counts, room),
     }
 }
 
@@ -179,16 +180,12 @@ pub fn cut_turn(
     let inside = fate(kept % 2 == 1);
     let outside = fate(kept / 2 == 1);
     let root = ElementId(read::two(input, 3) as usize);
-    let reply = cut::cut(
-        counts,
-        points,
-        planes,
-        elements,
+    let params = CutParams {
         divider,
         inside,
         outside,
-        root,
-    );
+    };
+    let reply = cut::cut(counts, points, planes, elements, params, root);
     let line = cut_line(reply, counts, room);
     TurnReply::Taken {
         record: 13 + 8 * d,

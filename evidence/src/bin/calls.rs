@@ -5,7 +5,8 @@
 
 use evidence::arguments;
 use evidence::bytes::{self, Calls};
-use evidence::call::{Call, Room};
+use evidence::call::{is_warning, Call, Room};
+use evidence::close_calls::{place, PLACES};
 use evidence::files;
 use evidence::memories;
 use evidence::model::memory::{Lent, Memory};
@@ -31,8 +32,8 @@ const OUTCOMES: [(&str, &[&str]); 11] = [
             "- outside intersection",
             "inside - -",
             "inside - intersection",
-            "inside outside -",
             "inside outside intersection",
+            "inside outside -",
             "refused 3",
             "refused 4",
             "refused 5",
@@ -53,11 +54,21 @@ const OUTCOMES: [(&str, &[&str]); 11] = [
     ("open", &["done", "refused 3", "refused 13"]),
 ];
 
+/// What a cut that is taken gives.
+const CUTS: &[&str] = OUTCOMES[2].1.split_at(9).0;
+
 /// What the edges of the one face make for which a call is refused, which a run has to meet too. A cut seldom meets the
 /// last. Before order 4 two rings, and a pair of edges beside a ring, were taken.
 const FACES: [(&str, &[&str]); 3] =
     [("is_sound", &SHAPES), ("cut", SHAPES.split_at(10).0), (TAKEN_BEFORE, SHAPES.split_at(3).0)];
 const TAKEN_BEFORE: &str = "cut, taken before order 4";
+
+/// What a cut gives with a warning and without, and where its corners lie, which a run has to meet too. With a warning both sides
+/// and no intersection are seldom met.
+const CLOSE_CALLS: [(&str, &[&str]); 3] = [(WARNED, CUTS.split_at(8).0), (NOT_WARNED, CUTS), (CORNER, &PLACES)];
+const WARNED: &str = "cut, with a warning";
+const NOT_WARNED: &str = "cut, without a warning";
+const CORNER: &str = "cut, a corner at";
 
 /// What becomes of a file by what it was made as, which a run has to meet too. A good one is refused for the memory's size.
 const FILES: [(&str, &[&str]); 10] = [
@@ -79,6 +90,7 @@ type Counts = BTreeMap<(&'static str, String), u64>;
 struct Met {
     outcomes: Counts,
     faces: Counts,
+    close_calls: Counts,
     files: Counts,
     written: Option<Calls<BufWriter<Stdout>>>,
 }
@@ -86,7 +98,25 @@ struct Met {
 impl Default for Met {
     fn default() -> Self {
         let written = seeded::is_written().then(|| Calls::new(BufWriter::with_capacity(1 << 20, io::stdout())));
-        Self { outcomes: Counts::new(), faces: Counts::new(), files: Counts::new(), written }
+        Self {
+            outcomes: Counts::new(),
+            faces: Counts::new(),
+            close_calls: Counts::new(),
+            files: Counts::new(),
+            written,
+        }
+    }
+}
+
+impl Met {
+    /// Of a cut that tested corners, if it did.
+    fn close_calls(&mut self, tested: Option<Vec<f64>>, warning: bool, outcome: &str) {
+        let Some(tested) = tested else { return };
+        let given = if warning { WARNED } else { NOT_WARNED };
+        let places = tested.into_iter().filter_map(place).map(|place| (CORNER, place));
+        for (name, met) in places.chain([(given, outcome)]) {
+            *self.close_calls.entry((name, met.into())).or_default() += 1;
+        }
     }
 }
 
@@ -186,6 +216,7 @@ fn compare_call(call: &Call, pair: &mut Pair, room: &Room, met: &mut Met) -> Res
                 *met.faces.entry((TAKEN_BEFORE, shape(&edges))).or_default() += 1;
             }
         }
+        met.close_calls(call.tested(&pair.model, by_model), is_warning(by_model), &outcome);
         let Some(written) = &mut met.written else { return Ok(outcome) };
         let [before, after] =
             [(&before, room), (&pair.engine, &engine_room)].map(|(memory, room)| bytes::Lent { memory, room });
@@ -208,6 +239,7 @@ fn not_written(error: io::Error) -> String {
 fn report(n: u64, met: &Met) -> bool {
     let mut is_whole = are_met(&OUTCOMES, "", &met.outcomes)
         & are_met(&FACES, ", refused for a face of", &met.faces)
+        & are_met(&CLOSE_CALLS, "", &met.close_calls)
         & are_met(&FILES, ", opened", &met.files);
     let named =
         |(name, outcome): &(&str, String)| OUTCOMES.iter().any(|row| row.0 == *name && row.1.contains(&&**outcome));

@@ -17,11 +17,12 @@ const SAME_NUMBERS: &str = "taken, all elements with the same numbers";
 const OTHER_NUMBERS: &str = "taken, some with other numbers";
 const OTHER_ORDER: &str = "taken, some with other numbers, and a boundary in another order";
 const FLUSH: &str = "taken and flush";
+const WARNED: &str = "taken, with a warning";
 const REFUSED_ALIKE: &str = "refused, the carvings by the same number";
 const REFUSED_OTHERWISE: &str = "refused, the carvings by another number";
 
 /// What a run has to meet.
-const OUTCOMES: [&str; 6] = [SAME_NUMBERS, OTHER_NUMBERS, OTHER_ORDER, FLUSH, REFUSED_ALIKE, REFUSED_OTHERWISE];
+const OUTCOMES: [&str; 7] = [SAME_NUMBERS, OTHER_NUMBERS, OTHER_ORDER, FLUSH, WARNED, REFUSED_ALIKE, REFUSED_OTHERWISE];
 
 #[derive(Default)]
 struct Met {
@@ -100,13 +101,16 @@ impl Met {
 
     fn enter(&mut self, outcome: Outcome, before: &Memory) {
         match outcome {
-            Outcome::Taken { is_flush, same_numbers, same_orders } => {
+            Outcome::Taken { is_flush, has_warning, same_numbers, same_orders } => {
                 self.count(if same_numbers { SAME_NUMBERS } else { OTHER_NUMBERS });
                 if !same_orders {
                     self.count(OTHER_ORDER);
                 }
                 if is_flush {
                     self.count(FLUSH);
+                }
+                if has_warning {
+                    self.count(WARNED);
                 }
             }
             Outcome::Refused(refusals) => {

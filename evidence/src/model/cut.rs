@@ -1,17 +1,26 @@
-//! "The cut": rules 1 to 8.
+//! "The cut": rules 1 to 8, and the warning of document 02, order 2.
 
 use super::floats::{
-    crossing, hyperplanes_match, is_distance, is_unit, points_match, side, signed_distance, Hyperplane, Point, Side,
+    crossing, hyperplanes_match, is_close_call, is_distance, is_unit, points_match, side, signed_distance, Hyperplane,
+    Point, Side,
 };
 use super::memory::{write, Lent};
+use super::questions::below;
 use super::table::{Element, Polytope, Table, BOUNDARY_ROOM, ELEMENT_ROOM, HYPERPLANE_ROOM, VERTEX_ROOM};
 use super::Refusal;
 use std::collections::BTreeSet;
 
 #[derive(Clone, Copy, Debug, PartialEq, Eq)]
-pub enum Answer {
+pub enum Output {
     Flush,
     NonFlush { inside: Option<u16>, outside: Option<u16>, intersection: Option<u16> },
+}
+
+/// What a cut gives, and whether a corner that the rules test was a close call.
+#[derive(Clone, Copy, Debug, PartialEq, Eq)]
+pub struct Answer {
+    pub output: Output,
+    pub warning: bool,
 }
 
 /// Which sides are kept.
@@ -29,12 +38,19 @@ pub fn cut(lent: &mut Lent, divider: Hyperplane, kept: Kept, root: u32) -> Resul
         return Err(5);
     }
     if divider.distance.is_infinite() {
-        return Ok(given_on(divider.distance > 0.0, root));
+        return Ok(Answer { output: given_on(divider.distance > 0.0, root), warning: false });
     }
+    let warning = tested(table, &divider, root).into_iter().any(is_close_call);
     let mut cut = Cut::new(table, divider, kept);
-    let answer = cut.root(root)?;
+    let output = cut.root(root)?;
     *lent = Lent::new(write(&cut.table));
-    Ok(answer)
+    Ok(Answer { output, warning })
+}
+
+/// The signed distances of the corners that the rules test at a finite distance: all that the root has.
+pub fn tested(table: &Table, divider: &Hyperplane, root: u16) -> Vec<f64> {
+    let corners = below(table, root).into_iter().filter_map(|element| table.vertex_number(element));
+    corners.map(|vertex| signed_distance(divider, &table.vertices[usize::from(vertex)])).collect()
 }
 
 /// The edges, by their ends, of the face for which such a cut is refused with 7, where it is refused for a face.
@@ -50,8 +66,8 @@ pub fn was_taken(table: &Table, divider: Hyperplane, kept: Kept, root: u32) -> b
     table.in_use(root).is_some_and(|root| cut.root(root).is_ok())
 }
 
-fn given_on(inside: bool, element: u16) -> Answer {
-    Answer::NonFlush { inside: inside.then_some(element), outside: (!inside).then_some(element), intersection: None }
+fn given_on(inside: bool, element: u16) -> Output {
+    Output::NonFlush { inside: inside.then_some(element), outside: (!inside).then_some(element), intersection: None }
 }
 
 struct Cut {
@@ -75,10 +91,10 @@ struct Gathered {
 }
 
 impl Gathered {
-    fn take(&mut self, element: u16, answer: Answer) {
-        match answer {
-            Answer::Flush => self.flush.push(element),
-            Answer::NonFlush { inside, outside, intersection } => {
+    fn take(&mut self, element: u16, output: Output) {
+        match output {
+            Output::Flush => self.flush.push(element),
+            Output::NonFlush { inside, outside, intersection } => {
                 self.inside.extend(inside);
                 self.outside.extend(outside);
                 self.intersections.extend(intersection);
@@ -92,7 +108,7 @@ impl Cut {
         Self { table: table.clone(), divider, hyperplane: 0, kept, is_face: Table::is_one_ring, refused_face: None }
     }
 
-    fn root(&mut self, root: u16) -> Result<Answer, Refusal> {
+    fn root(&mut self, root: u16) -> Result<Output, Refusal> {
         self.hyperplane = self.matched_or_appended_hyperplane()?;
         self.element(root)
     }
@@ -112,7 +128,7 @@ impl Cut {
         Ok(hyperplanes.len() as u16 - 1)
     }
 
-    fn element(&mut self, number: u16) -> Result<Answer, Refusal> {
+    fn element(&mut self, number: u16) -> Result<Output, Refusal> {
         match self.table.elements[usize::from(number)].clone() {
             Element::Vertex(vertex) => Ok(self.vertex(number, vertex)),
             Element::Polytope(old) => {
@@ -126,9 +142,9 @@ impl Cut {
     }
 
     /// Rule 3.
-    fn vertex(&self, number: u16, vertex: u16) -> Answer {
+    fn vertex(&self, number: u16, vertex: u16) -> Output {
         match side(self.distance_of(vertex)) {
-            Side::On => Answer::Flush,
+            Side::On => Output::Flush,
             Side::Inside => given_on(true, number),
             Side::Outside => given_on(false, number),
         }
@@ -142,8 +158,8 @@ impl Cut {
     fn boundary(&mut self, boundary: &[u16]) -> Result<Gathered, Refusal> {
         let mut gathered = Gathered::default();
         for &element in boundary {
-            let answer = self.element(element)?;
-            gathered.take(element, answer);
+            let output = self.element(element)?;
+            gathered.take(element, output);
         }
         Ok(gathered)
     }
@@ -186,15 +202,15 @@ impl Cut {
     }
 
     /// Rules 6 and 7.
-    fn parts(&mut self, old: &Polytope, gathered: &Gathered) -> Result<Answer, Refusal> {
+    fn parts(&mut self, old: &Polytope, gathered: &Gathered) -> Result<Output, Refusal> {
         let intersection = match gathered.flush[..] {
             [] => self.new_intersection(old.rank, &gathered.intersections)?,
             [flush] => Some(flush),
-            _ => return Ok(Answer::Flush),
+            _ => return Ok(Output::Flush),
         };
         let inside = self.part(self.kept.inside, old, &gathered.inside, intersection)?;
         let outside = self.part(self.kept.outside, old, &gathered.outside, intersection)?;
-        Ok(Answer::NonFlush { inside, outside, intersection })
+        Ok(Output::NonFlush { inside, outside, intersection })
     }
 
     fn new_intersection(&mut self, rank: u16, set: &BTreeSet<u16>) -> Result<Option<u16>, Refusal> {

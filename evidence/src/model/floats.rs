@@ -3,6 +3,9 @@
 /// 2^-20 exactly.
 pub const TOLERANCE: f64 = 1.0 / 1_048_576.0;
 
+/// 16 T: a corner that is as near to the plane, and not on it, is a close call.
+pub const CLOSE: f64 = 16.0 * TOLERANCE;
+
 /// A point or a normal; axes past the dimension are zero.
 pub type Point = [f64; 4];
 
@@ -35,6 +38,11 @@ pub fn side(s: f64) -> Side {
     } else {
         Side::Outside
     }
+}
+
+/// Document 02, order 2: within 16 T without being on the plane.
+pub fn is_close_call(s: f64) -> bool {
+    (-CLOSE..=CLOSE).contains(&s) && side(s) != Side::On
 }
 
 pub fn is_unit(normal: &Point, dimension: usize) -> bool {

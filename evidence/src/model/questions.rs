@@ -66,7 +66,7 @@ fn fill(room: &mut [u16], list: &[u16]) -> Result<Size, Refusal> {
 }
 
 /// The root and all below it, rising: a boundary is earlier than what it bounds.
-fn below(table: &Table, root: u16) -> Vec<u16> {
+pub fn below(table: &Table, root: u16) -> Vec<u16> {
     let mut marked = vec![false; usize::from(root) + 1];
     marked[usize::from(root)] = true;
     for element in (0..=root).rev().filter(|&e| table.rank(e) > 0) {

@@ -28,12 +28,9 @@ abbrev sound : tie.After-struct-known → tie.Else1
 sound c = c .before .before .before
 
 abbrev used : tie.After-is-unit → tie.Else2
-used c = c .before .before .before .before
+used c = c .before .before .before .before .before
 
--- where the distance is finite, and where the cut was made
-abbrev finite : tie.After-is-kept2 → tie.After-enum-told4
-finite c = c .before .before
-
+-- where the cut was made
 abbrev half-known : tie.After-index4 → tie.After-slice-known8
 half-known c = c .before .before .before .before .before
 
@@ -41,8 +38,8 @@ abbrev made : tie.After-index4 → tie.After-cut-finite
 made c = half-known c .before .before .before .before
 
 -- a normal by value has four components
-four : (c : tie.Start) → length (c .args .divider .normal) ≡ 4
-four c = sym (length-map (c .args .divider .normal) _) ∙ c .good .1 .1 .1 .1 .0 .1 .1 .0 .1 .0 .1
+four : (c : tie.Start) → length (c .args .params .divider .normal) ≡ 4
+four c = sym (length-map (c .args .params .divider .normal) _) ∙ c .good .1 .1 .1 .1 .0 .1 .1 .0 .1 .1 .0 .1 .0 .1
 
 -- what the tests have told
 module _ (c : tie.Start) where
@@ -53,10 +50,10 @@ module _ (c : tie.Start) where
   inUse = getD (c .args .counts .now) 1 0
 
   abbrev isUnit : Bool
-  isUnit = unitNormal (getD (c .args .counts .now) 0 0) (c .args .divider .normal)
+  isUnit = unitNormal (getD (c .args .counts .now) 0 0) (c .args .params .divider .normal)
 
   abbrev Passed : Type 0
-  Passed = TestsPassed (c .args .divider) (c .args .root .0) (c .args .counts .now) (c .args .points .now) (c .args .planes .now) (c .args .elements .now)
+  Passed = TestsPassed (c .args .params .divider) (c .args .root .0) (c .args .counts .now) (c .args .points .now) (c .args .planes .now) (c .args .elements .now)
 
 sound-told : (c : tie.After-index2) → c .before .memory-indexed .result ≡ isSound (start c)
 sound-told c = c .before .memory-indexed .ensures .told
@@ -65,7 +62,7 @@ count-told : (c : tie.After-struct-known) → c .before .wide .result ≡ inUse 
 count-told c = c .before .wide .ensures .value
 
 unit-told : (c : tie.After-is-unit) → isUnit (start (sound (used c .before) .before)) ≡ c .is-unit .result
-unit-told c = ap (λ k. unitNormal k (start (sound (used c .before) .before) .args .divider .normal)) (sym (c .before .wide2 .ensures .value)) ∙ sym (c .is-unit .ensures)
+unit-told c = ap (λ k. unitNormal k (start (sound (used c .before) .before) .args .params .divider .normal)) (sym (c .before .wide2 .ensures .value)) ∙ sym (c .is-unit .ensures)
 
 is-sound : (c : tie.Else1) → isSound (start (c .before)) ≡ true
 is-sound c = sym (sound-told (c .before)) ∙ not-false _ (c .if1 .left)
@@ -98,7 +95,7 @@ same-length-4 : tie.Need-same-length-4
 same-length-4 c = search needs
 
 returns : tie.Need-returns
-returns c = unsound (start (c .before) .args .divider) _ _ _ _ _ _ _ (sym (sound-told (c .before)) ∙ not-true _ (c .if1 .taken))
+returns c = unsound (start (c .before) .args .params) _ _ _ _ _ (sym (sound-told (c .before)) ∙ not-true _ (c .if1 .taken))
 
 slice-read-wide : tie.Need-slice-read-wide
 slice-read-wide c = omega (arith, counts-four _ _ _ _ (is-sound (c .before)))
@@ -121,10 +118,10 @@ same-length-8 c = search needs
 returns-2 : tie.Need-returns-2
 returns-2 c =
     let s = sound (c .before) in
-    unused (start (s .before) .args .divider) _ _ _ _ _ _ _ (is-sound s) (le-trans (le-of-eq (sym (count-told (c .before)))) (c .if2 .taken))
+    unused (start (s .before) .args .params) _ _ _ _ _ (is-sound s) (le-trans (le-of-eq (sym (count-told (c .before)))) (c .if2 .taken))
 
 slice-read-wide-2 : tie.Need-slice-read-wide-2
-slice-read-wide-2 c = omega (arith, counts-four _ _ _ _ (is-sound (sound (c .before .before .before))))
+slice-read-wide-2 c = omega (arith, counts-four _ _ _ _ (is-sound (sound (c .before .before .before .before))))
 
 wide-requires-2 : tie.Need-wide-requires-2
 wide-requires-2 c κs = search needs
@@ -149,7 +146,7 @@ returns-3 c =
     let u = used (c .before) in
     let s = sound (u .before) in
     let b = start (s .before) in
-    not-unit (b .args .divider) _ _ _ _ _ _ _ (is-sound s) (four b) (is-used u) (unit-told (c .before) ∙ not-true _ (c .if3 .taken))
+    not-unit (b .args .params) _ _ _ _ _ (is-sound s) (four b) (is-used u) (unit-told (c .before) ∙ not-true _ (c .if3 .taken))
 
 distance-kind-requires : tie.Need-distance-kind-requires
 distance-kind-requires c κs = search needs
@@ -160,27 +157,27 @@ enum-told c = search needs
 enum-told-2 : tie.Need-enum-told-2
 enum-told-2 c = search needs
 
+all-on-requires : tie.Need-all-on-requires
+all-on-requires c κs = search needs
+
 enum-told-3 : tie.Need-enum-told-3
 enum-told-3 c = search needs
 
+all-on-requires-2 : tie.Need-all-on-requires-2
+all-on-requires-2 c κs = search needs
+
 enum-told-4 : tie.Need-enum-told-4
 enum-told-4 c = search needs
-
-is-kept-requires : tie.Need-is-kept-requires
-is-kept-requires c κs = search needs
-
-is-kept-requires-2 : tie.Need-is-kept-requires-2
-is-kept-requires-2 c κs = search needs
 
 slice-aggregate-cut-finite : tie.Need-slice-aggregate-cut-finite
 slice-aggregate-cut-finite c = search needs
 
 cut-finite-requires : tie.Need-cut-finite-requires
 cut-finite-requires c κs =
-    let f = finite (c .before .before .before .before .before) in
+    let f = c .before .before .before .before .before in
     let k = f .before .before in
     let s = sound (used (k .before .before) .before) in
-    cut-ready (passed (k .before)) (sym (k .distance-kind .ensures) ∙ f .enum-told4 .given .1) (s .before .before .memory-indexed .ensures .indexed (not-false _ (s .if1 .left)))
+    cut-ready (start (s .before) .args .params) (passed (k .before)) (sym (k .distance-kind .ensures) ∙ f .enum-told4 .given .1) (s .before .before .memory-indexed .ensures .indexed (not-false _ (s .if1 .left)))
 
 same-length-13 : tie.Need-same-length-13
 same-length-13 c = search needs
@@ -197,7 +194,7 @@ same-length-16 c = search needs
 returns-4 : tie.Need-returns-4
 returns-4 c =
     let k = c .before .before in
-    unfit (passed (k .before)) _ _ (sym (k .distance-kind .ensures) ∙ c .enum-told .given .1)
+    unfit _ (passed (k .before)) (sym (k .distance-kind .ensures) ∙ c .enum-told .given .1)
 
 same-length-17 : tie.Need-same-length-17
 same-length-17 c = search needs
@@ -213,8 +210,9 @@ same-length-20 c = search needs
 
 returns-5 : tie.Need-returns-5
 returns-5 c =
-    let k = c .before .before in
-    all-inside (passed (k .before)) _ _ (sym (k .distance-kind .ensures) ∙ c .enum-told2 .given .1)
+    let f = c .before in
+    let k = f .before .before in
+    all-inside _ (passed (k .before)) (sym (k .distance-kind .ensures) ∙ f .enum-told2 .given .1) (c .all-on .ensures)
 
 same-length-21 : tie.Need-same-length-21
 same-length-21 c = search needs
@@ -230,8 +228,9 @@ same-length-24 c = search needs
 
 returns-6 : tie.Need-returns-6
 returns-6 c =
-    let k = c .before .before in
-    all-outside (passed (k .before)) _ _ (sym (k .distance-kind .ensures) ∙ c .enum-told3 .given .1)
+    let f = c .before in
+    let k = f .before .before in
+    all-outside _ (passed (k .before)) (sym (k .distance-kind .ensures) ∙ f .enum-told3 .given .1) (c .all-on2 .ensures)
 
 same-length-25 : tie.Need-same-length-25
 same-length-25 c = search needs
@@ -248,10 +247,9 @@ same-length-28 c = search needs
 returns-7 : tie.Need-returns-7
 returns-7 c =
     let m = made c in
-    let i = m .before .before .before .before .before .before in
-    let f = finite i in
+    let f = m .before .before .before .before .before .before in
     let k = f .before .before in
-    replied (passed (k .before)) (sym (k .distance-kind .ensures) ∙ f .enum-told4 .given .1) (i .before .is-kept .ensures) (i .is-kept2 .ensures) (m .cut-finite .ensures)
+    replied _ (passed (k .before)) (sym (k .distance-kind .ensures) ∙ f .enum-told4 .given .1) (m .cut-finite .ensures)
 
 pub cut-spec : {M : Type 1} → statement M
 cut-spec =
@@ -282,10 +280,10 @@ cut-spec =
     distance-kind-requires
     enum-told
     enum-told-2
+    all-on-requires
     enum-told-3
+    all-on-requires-2
     enum-told-4
-    is-kept-requires
-    is-kept-requires-2
     slice-aggregate-cut-finite
     cut-finite-requires
     same-length-13

@@ -1,5 +1,8 @@
 -- The reply, in one number; what is named fits, since it is in use.
+use Rattle.rules.specs.Replies.{cutBy}
+use Rattle.rules.specs.declared.CutParams.{CutParams}
 use Rattle.cut.proofs.Names.{names-low}
+use Rattle.desk.specs.Words.{dividerWith}
 use Rattle.desk.proofs.CutWords.{word-refused, word-answered}
 use borrow.Author.Needs.{needs}
 use Rattle.desk.proofs.desk_cut.Statement.{statement}
@@ -14,6 +17,12 @@ made c = halfway c .before .before .before
 
 abbrev told : tie.After-cut → tie.After-fate2
 told c = c .before .before .before .before .before
+
+-- the parameters of the cut
+abbrev asked : tie.After-fate2 → CutParams
+asked c =
+    let a = c .before .before .before .before .before .before .args in
+    cutBy (dividerWith (a .n0) (a .n1) (a .n2) (a .n3) (a .distance)) (c .before .fate .result) (c .fate2 .result)
 
 fate-requires : tie.Need-fate-requires
 fate-requires c κs = search needs
@@ -34,7 +43,10 @@ enum-known-reply-2 : tie.Need-enum-known-reply-2
 enum-known-reply-2 c = search needs
 
 output-word-requires : tie.Need-output-word-requires
-output-word-requires c κs = names-low _ _ _ _ _ _ (made (c .before .before .before) .cut .ensures) _ (c .before .reply2 .given .1)
+output-word-requires c κs =
+    let cut = made (c .before .before .before) in
+    let sides = told cut in
+    names-low (asked sides) _ _ _ (cut .cut .ensures) _ _ (c .before .reply2 .given .1)
 
 same-length : tie.Need-same-length
 same-length c = search needs
@@ -71,7 +83,7 @@ returns-2 c =
     let given = c .before .before in
     let cut = made (given .before .before) in
     let sides = told cut in
-    word-answered _ _ _ _ _ _ (cut .cut .ensures) (sides .before .fate .ensures) (sides .fate2 .ensures) _ _ (given .reply2 .given .1) (c .output-word .ensures)
+    word-answered _ _ _ _ _ _ (cut .cut .ensures) (sides .before .fate .ensures) (sides .fate2 .ensures) _ _ _ (given .reply2 .given .1) (c .output-word .ensures)
 
 pub desk-cut-spec : {M : Type 1} → statement M
 desk-cut-spec =

@@ -1,60 +1,82 @@
--- Flush, or three numbers of 16 bits side by side.
-use mathlib.Core.Path.{sym, ap}
-use Rattle.desk.specs.Words.{outputWord}
-use Rattle.desk.proofs.CutWords.{places-low, places-word}
+-- The warning's bit, with flush, or with three numbers of 16 bits side by side.
+use Rattle.desk.proofs.CutWords.{places-low, places-word, flush-word}
 use borrow.Author.Needs.{needs}
 use Rattle.desk.proofs.output_word.Statement.{statement}
 use Rattle.desk.proofs.output_word.Tie as tie
 
-returns : tie.Need-returns
-returns c = sym (ap outputWord (c .enum-told .given .1))
+-- where the warning's bit was known, and where the function began
+abbrev warned : tie.After-a → tie.After-warning-word
+warned c = c .before .before
 
-returns-2 : tie.Need-returns-2
-returns-2 c = places-word _ _ _ _ (c .before .before .before .before .a .given .1) _ _ _ (c .before .before .element-word .ensures .value) (c .before .element-word2 .ensures .value) (c .element-word3 .ensures .value)
+abbrev start : tie.After-a → tie.Start
+start c = warned c .before
+
+warning-word-requires : tie.Need-warning-word-requires
+warning-word-requires c κs = search needs
 
 enum-told : tie.Need-enum-told
 enum-told c = search needs
+
+add-result : tie.Need-add-result
+add-result c = search needs
 
 enum-known-a : tie.Need-enum-known-a
 enum-known-a c = search needs
 
 element-word-requires : tie.Need-element-word-requires
-element-word-requires c κs = places-low _ _ _ _ (c .before .a .given .1) (c .before .before .before .pre) .inside
+element-word-requires c κs = let s = c .before in places-low _ _ _ _ (s .a .given .1) (start s .pre) .inside
 
 element-word-requires-2 : tie.Need-element-word-requires-2
-element-word-requires-2 c κs = places-low _ _ _ _ (c .before .before .a .given .1) (c .before .before .before .before .pre) .outside
+element-word-requires-2 c κs = let s = c .before .before in places-low _ _ _ _ (s .a .given .1) (start s .pre) .outside
 
 element-word-requires-3 : tie.Need-element-word-requires-3
-element-word-requires-3 c κs = places-low _ _ _ _ (c .before .before .before .a .given .1) (c .before .before .before .before .before .pre) .intersection
+element-word-requires-3 c κs = let s = c .before .before .before in places-low _ _ _ _ (s .a .given .1) (start s .pre) .intersection
 
 mul-result : tie.Need-mul-result
 mul-result c = search needs
 
+add-result-2 : tie.Need-add-result-2
+add-result-2 c = search needs
+
 mul-result-2 : tie.Need-mul-result-2
 mul-result-2 c = search needs
 
-add-result : tie.Need-add-result
-add-result c = search needs
+add-result-3 : tie.Need-add-result-3
+add-result-3 c = search needs
 
 mul-result-3 : tie.Need-mul-result-3
 mul-result-3 c = search needs
 
-add-result-2 : tie.Need-add-result-2
-add-result-2 c = search needs
+add-result-4 : tie.Need-add-result-4
+add-result-4 c = search needs
+
+returns : tie.Need-returns
+returns c =
+    let w = c .before .before in
+    flush-word _ (w .before .args .warning) _ (c .enum-told .given .1) (w .warning-word .ensures .value)
+
+returns-2 : tie.Need-returns-2
+returns-2 c =
+    let s = c .before .before .before .before in
+    places-word _ _ _ _ (s .a .given .1) (start s .args .warning) _ _ _ _ (warned s .warning-word .ensures .value)
+    (c .before .before .element-word .ensures .value) (c .before .element-word2 .ensures .value) (c .element-word3 .ensures .value)
 
 pub output-word-spec : {M : Type 1} → statement M
 output-word-spec =
     tie.close
     (tie.spec
+    warning-word-requires
     enum-told
+    add-result
     enum-known-a
     element-word-requires
     element-word-requires-2
     element-word-requires-3
     mul-result
-    mul-result-2
-    add-result
-    mul-result-3
     add-result-2
+    mul-result-2
+    add-result-3
+    mul-result-3
+    add-result-4
     returns
     returns-2)

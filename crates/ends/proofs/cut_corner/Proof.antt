@@ -22,7 +22,9 @@ corner-answer-requires : tie.Need-corner-answer-requires
 corner-answer-requires c κs = search needs
 
 returns : tie.Need-returns
-returns c = corner-cut _ _ _ (c .before .before .before .before .wide .ensures .value) (c .before .before .before .corner-point .ensures) (c .before .signed-distance .ensures) (c .corner-answer .ensures)
+returns c =
+    let pointed = c .before .before .before .before in
+    corner-cut _ _ _ (pointed .before .wide .ensures .value) (pointed .corner-point .ensures) (c .before .signed-distance .ensures) (c .corner-answer .ensures)
 
 pub cut-corner-spec : {M : Type 1} → statement M
 cut-corner-spec =

@@ -36,24 +36,24 @@ enum-known-placed c = search needs
 enum-known-placed-2 : tie.Need-enum-known-placed-2
 enum-known-placed-2 c = search needs
 
-element-write-flush : tie.Need-element-write-flush
-element-write-flush c = search needs
+element-write-tally : tie.Need-element-write-tally
+element-write-tally c = search needs
 
-cast-flush : tie.Need-cast-flush
-cast-flush c =
+cast-tally : tie.Need-cast-tally
+cast-tally c =
     let p = placed c in
     let a = added (p .before .before) in
     omega (arith, crossed-low (a .add-vertex .ensures .added) _ (p .placed2 .given .1) (start (a .before) .pre .ready))
 
-element-write-flush-2 : tie.Need-element-write-flush-2
-element-write-flush-2 c = search needs
+element-write-tally-2 : tie.Need-element-write-tally-2
+element-write-tally-2 c = search needs
 
 rule6-requires : tie.Need-rule6-requires
 rule6-requires c κs =
     let p = placed (asked c) in
     let a = added (p .before .before) in
     let R = start (a .before) .pre .ready in
-    crossed-ready (a .add-vertex .ensures .added) _ (p .placed2 .given .1) (crossed _ _ _ _ _ (R .fit .sized .flush)) R (a .add-vertex .ensures .index)
+    crossed-ready (a .add-vertex .ensures .added) _ (p .placed2 .given .1) (crossed _ _ _ _ _ (R .fit .sized .tally)) R (a .add-vertex .ensures .index)
 
 same-length : tie.Need-same-length
 same-length c = search needs
@@ -90,7 +90,7 @@ returns-2 c =
     let p = placed (asked (r .before)) in
     let a = added (p .before .before) in
     let R = start (a .before) .pre .ready in
-    crossed-done (a .add-vertex .ensures .added) _ (p .placed2 .given .1) (crossed _ _ _ _ _ (R .fit .sized .flush)) (r .rule6 .ensures)
+    crossed-done (a .add-vertex .ensures .added) _ (p .placed2 .given .1) (crossed _ _ _ _ _ (R .fit .sized .tally)) (r .rule6 .ensures)
 
 pub cut-crossed-spec : {M : Type 1} → statement M
 cut-crossed-spec =
@@ -99,9 +99,9 @@ cut-crossed-spec =
     add-vertex-requires
     enum-known-placed
     enum-known-placed-2
-    element-write-flush
-    cast-flush
-    element-write-flush-2
+    element-write-tally
+    cast-tally
+    element-write-tally-2
     rule6-requires
     same-length
     same-length-2

@@ -1,8 +1,10 @@
 -- Two ways, by the edge test: rule 6 on what the ends answered, or the crossing first.
+use mathlib.Core.Path.{ap}
 use native.Mathlib.Omega.{arith}
 use Rattle.space.proofs.Slices.{slices}
 use Rattle.gathered.proofs.Gathering.{nothing-gathered}
 use Rattle.ends.proofs.Edges.{ends-ready, ends-asked, missed-ready, missed-cut, crossing-ready, crossing-cut}
+use Rattle.rules.specs.declared.EdgeTest.{EdgeTest}
 use borrow.Author.Needs.{needs}
 use Rattle.ends.proofs.cut_edge.Statement.{statement}
 use Rattle.ends.proofs.cut_edge.Tie as tie
@@ -14,8 +16,11 @@ start c = c .before .before .before .before .before .before
 abbrev counted : tie.After-read-ends → tie.After-wide
 counted c = c .before .before .before
 
+abbrev measured : tie.After-edge-test → tie.After-signed-distance
+measured c = c .before .before
+
 abbrev ends-read : tie.After-edge-test → tie.After-read-ends
-ends-read c = c .before .before .before .before .before .before
+ends-read c = measured c .before .before .before .before .before
 
 abbrev tested : tie.After-x → tie.After-edge-test
 tested c = c .before .before .before .before
@@ -125,7 +130,7 @@ returns c =
     let z = ends-tested g in
     let r = ends-read z in
     missed-cut _ _ _ _ _ (counted r .wide .ensures .value) (r .read-ends .ensures) (z .before .before .signed-distance .ensures) (z .before .signed-distance2 .ensures)
-    (g .gather-ends .ensures) _ (z .edge-test .ensures) (m .enum-told .given .1) (a .rule6 .ensures)
+    (g .gather-ends .ensures) _ (ap (λ (x : EdgeTest). x .crossing) (z .edge-test .ensures)) (m .enum-told .given .1) (a .rule6 .ensures)
 
 same-length-5 : tie.Need-same-length-5
 same-length-5 c = search needs
@@ -149,7 +154,7 @@ returns-2 c =
     let r = ends-read z in
     record {
       cut = crossing-cut _ _ _ _ _ (counted r .wide .ensures .value) (r .read-ends .ensures) (z .before .before .signed-distance .ensures) (z .before .signed-distance2 .ensures)
-          (g .gather-ends .ensures) _ _ (x .crossing-point .ensures) _ (z .edge-test .ensures) (m .crossing .given .1) (l .cut-crossed .ensures .cut);
+          (g .gather-ends .ensures) _ _ (x .crossing-point .ensures) _ (ap (λ (x : EdgeTest). x .crossing) (z .edge-test .ensures)) (m .crossing .given .1) (l .cut-crossed .ensures .cut);
       indexed = l .cut-crossed .ensures .indexed;
     }
 

@@ -1,7 +1,8 @@
--- Both signed distances are known, with them both sides, and with those whether they are opposite.
-use mathlib.Core.Path.{sym, ap₂, _∙_}
-use Rattle.rules.specs.Floats.{opposite, edgeTest}
-use Rattle.hypermath.proofs.Crossings.{crossed, not-crossed}
+-- Both signed distances are known, and with them both sides and both warnings.
+use mathlib.Core.Path.{ap, ap₂, _∙_}
+use Rattle.rules.specs.Floats.{edgeTest}
+use Rattle.rules.specs.declared.SideTest.{SideTest}
+use Rattle.hypermath.proofs.Crossings.{tested-is}
 use borrow.Author.Needs.{needs}
 use Rattle.hypermath.proofs.edge_test.Statement.{statement}
 use Rattle.hypermath.proofs.edge_test.Tie as tie
@@ -24,26 +25,22 @@ side-of-requires c κs = search needs
 side-of-requires-2 : tie.Need-side-of-requires-2
 side-of-requires-2 c κs = search needs
 
-opposed-requires : tie.Need-opposed-requires
-opposed-requires c κs = search needs
+crossing-of-requires : tie.Need-crossing-of-requires
+crossing-of-requires c κs = record {
+  first = ap (λ (s : SideTest). s .side) (c .before .side-of .ensures);
+  second = ap (λ (s : SideTest). s .side) (c .side-of2 .ensures);
+}
 
--- the signed distances, and the sides that are theirs
-abbrev second : tie.After-opposed → tie.After-signed-distance2
-second c = c .before .before .before
+either-requires : tie.Need-either-requires
+either-requires c κs = search needs
 
 returns : tie.Need-returns
 returns c =
-    let o = c .before in
-    let b = second o in
-    let sides = ap₂ opposite (o .before .before .side-of .ensures) (o .before .side-of2 .ensures) in
-    crossed _ _ (sym sides ∙ sym (o .opposed .ensures) ∙ c .if1 .taken) ∙ ap₂ edgeTest (b .before .signed-distance .ensures) (b .signed-distance2 .ensures)
-
-returns-2 : tie.Need-returns-2
-returns-2 c =
-    let o = c .before in
-    let b = second o in
-    let sides = ap₂ opposite (o .before .before .side-of .ensures) (o .before .side-of2 .ensures) in
-    not-crossed _ _ (sym sides ∙ sym (o .opposed .ensures) ∙ c .if1 .left) ∙ ap₂ edgeTest (b .before .signed-distance .ensures) (b .signed-distance2 .ensures)
+    let x = c .before in
+    let b = x .before in
+    let d = b .before .before in
+    tested-is _ _ _ _ _ _ (x .crossing-of .ensures) (b .before .side-of .ensures) (b .side-of2 .ensures) (c .either .ensures)
+    ∙ ap₂ edgeTest (d .before .signed-distance .ensures) (d .signed-distance2 .ensures)
 
 pub edge-test-spec : {M : Type 1} → statement M
 edge-test-spec =
@@ -55,6 +52,6 @@ edge-test-spec =
     signed-distance-requires-2
     side-of-requires
     side-of-requires-2
-    opposed-requires
-    returns
-    returns-2)
+    crossing-of-requires
+    either-requires
+    returns)

@@ -22,7 +22,7 @@ use Rattle.cut.proofs.elements.cut_element.Kinds as cut-element-kinds
 use Rattle.cut.proofs.elements.+cut_boundary+cut_element.Lts-cut_element as cut-element-lts
 use Rattle.cut.proofs.known.is_known.Reads as is-known-reads
 use Rattle.cut.proofs.known.keep.Reads as keep-reads
-use Rattle.cut.proofs.known.output_at.Reads as output-at-reads
+use Rattle.cut.proofs.known.answer_at.Reads as answer-at-reads
 use Rattle.ends.proofs.cut_low.Reads as cut-low-reads
 use Rattle.gathered.proofs.answer.rule6.Reads as rule6-reads
 use Rattle.gathered.proofs.sets.gather_in.Reads as gather-in-reads
@@ -60,8 +60,8 @@ cut-boundary-claims t = (
   wide-reads.Learnt,
   cut-element-below t,
   cut-element.Post,
-  output-at-reads.Asked,
-  output-at-reads.Learnt,
+  answer-at-reads.Asked,
+  answer-at-reads.Learnt,
   gather-in-reads.Asked,
   gather-in-reads.Learnt,
 )
@@ -81,21 +81,21 @@ cut-element-claims t = (
 )
 
 abbrev cut-boundary-Inv-loop : cut-boundary-lts.InvT-loop
-cut-boundary-Inv-loop counts₀ points₀ elements₀ index₀ known₀ e rank k flush₀ inside₀ outside₀ intersections₀ n i₀ counts points elements index known flush inside outside intersections i =
+cut-boundary-Inv-loop counts₀ points₀ elements₀ index₀ known₀ e rank k tally₀ inside₀ outside₀ intersections₀ n i₀ counts points elements index known tally inside outside intersections i =
     record {
       most : i ≤ n;
       counts-long : length counts ≡ length counts₀;
       points-long : length points ≡ length points₀;
       elements-long : length elements ≡ length elements₀;
       index-long : length index ≡ length index₀;
-      sized : Sized (answersIn flush inside outside intersections) i;
+      sized : Sized (answersIn tally inside outside intersections) i;
       more : 1 < rank;
-      going : Going rank more (e .0) k counts₀ points₀ elements₀ known₀ i (answersIn flush inside outside intersections) counts points elements known;
+      going : Going rank more (e .0) k counts₀ points₀ elements₀ known₀ i (answersIn tally inside outside intersections) counts points elements known;
       indexed : Indexed elements (getD counts 1 0) index;
     }
 
 abbrev cut-boundary-μ-loop : cut-boundary-lts.MeasureT-loop
-cut-boundary-μ-loop counts₀ points₀ elements₀ index₀ known₀ e rank k flush₀ inside₀ outside₀ intersections₀ n i₀ counts points elements index known flush inside outside intersections i =
+cut-boundary-μ-loop counts₀ points₀ elements₀ index₀ known₀ e rank k tally₀ inside₀ outside₀ intersections₀ n i₀ counts points elements index known tally inside outside intersections i =
     n - i
 
 -- ---- the round
@@ -110,7 +110,7 @@ module _ (t : ℕ) where
 
   abbrev round-asked : (c : In-round cut-boundary-lts.Start)
       → RoundReady (c .args .counts .now) (c .args .points .now) (c .args .elements .now) (c .args .index .now) (c .args .known .now) (c .args .rank) (c .args .e .0) (c .args .k)
-      (answersIn (c .args .flush .now) (c .args .inside .now) (c .args .outside .now) (c .args .intersections .now))
+      (answersIn (c .args .tally .now) (c .args .inside .now) (c .args .outside .now) (c .args .intersections .now))
   round-asked c = c .pre .1
 
   -- where a number of the boundary is looked up, was read, and its element was asked
@@ -135,10 +135,10 @@ module _ (t : ℕ) where
   number c = c .wide .ensures .value ∙ c .before .boundary-at .ensures
 
   -- where its answer was told, and was read from the words
-  abbrev told : In-round cut-boundary-lts.After-output-at → In-round cut-boundary-lts.After-enum-told
+  abbrev told : In-round cut-boundary-lts.After-answer-at → In-round cut-boundary-lts.After-enum-told
   told c = c .before .before
 
-  abbrev answered : In-round cut-boundary-lts.After-gather-in-arg4 → In-round cut-boundary-lts.After-output-at
+  abbrev answered : In-round cut-boundary-lts.After-gather-in-arg4 → In-round cut-boundary-lts.After-answer-at
   answered c = c .before .before .before .before
 
   cut-boundary-size-of-requires : In-round cut-boundary-lts.Need-size-of-requires
@@ -201,8 +201,8 @@ module _ (t : ℕ) where
       round.round-refused (at .more) (at .going) _ (l .before .before .size-of .ensures) (l .loop-test .taken) _ (number w)
       (s .cut-element .ensures) _ _ (c .before .step .given .1)
 
-  cut-boundary-output-at-requires : In-round cut-boundary-lts.Need-output-at-requires
-  cut-boundary-output-at-requires c κs =
+  cut-boundary-answer-at-requires : In-round cut-boundary-lts.Need-answer-at-requires
+  cut-boundary-answer-at-requires c κs =
       let w = read (asked (c .before .before .before)) in
       let l = looked-up w in
       let n = l .before .before in
@@ -224,7 +224,7 @@ module _ (t : ℕ) where
         sized = sized-more (at .i) 31 (omega (arith, m, h)) (at .inv .sized);
         element = ask-low (round.next-ready (at .inv .more) (at .inv .going) _ (n .size-of .ensures) (R .ready) h _ (number w) (at .inv .indexed));
         answer =
-            round.answer-room (at .inv .more) (at .inv .going) _ (n .size-of .ensures) h _ (number w) (s .cut-element .ensures) (told a .enum-told .given .1) _ (a .output-at .ensures) (R .ready);
+            round.answer-room (at .inv .more) (at .inv .going) _ (n .size-of .ensures) h _ (number w) (s .cut-element .ensures) (told a .enum-told .given .1) _ (a .answer-at .ensures) (R .ready);
       }
 
   cut-boundary-add-i : In-round cut-boundary-lts.Need-add-i
@@ -254,7 +254,7 @@ module _ (t : ℕ) where
         more = at .inv .more;
         going =
             round.going-on (at .inv .more) (at .inv .going) _ (l .before .before .size-of .ensures) (l .loop-test .taken) _ (number w)
-            (s .cut-element .ensures) (told a .enum-told .given .1) _ (a .output-at .ensures) _ (c .gather-in .ensures);
+            (s .cut-element .ensures) (told a .enum-told .given .1) _ (a .answer-at .ensures) _ (c .gather-in .ensures);
         indexed = s .cut-element .ensures .indexed;
       }
 
@@ -386,7 +386,7 @@ pub +cut-boundary+cut-element-spec : {M : Type 1} → statement M
 +cut-boundary+cut-element-spec = close μ-cut-boundary μ-cut-element (λ t. cut-boundary-lts.spec (cut-boundary-claims t) (cut-boundary-at t) cut-boundary.Post cut-boundary-Inv-loop cut-boundary-μ-loop
     (cut-boundary-size-of-requires t) (cut-boundary-loop-holds t) (cut-boundary-boundary-at-requires t) (λ c κs. search needs) (λ c. search needs)
     (cut-boundary-cut-element-requires t) (λ c. search needs) (cut-boundary-same-length t) (cut-boundary-same-length-2 t) (cut-boundary-same-length-3 t)
-    (cut-boundary-same-length-4 t) (cut-boundary-returns t) (λ c. search needs) (cut-boundary-output-at-requires t) (cut-boundary-gather-in-requires t) (cut-boundary-add-i t)
+    (cut-boundary-same-length-4 t) (cut-boundary-returns t) (λ c. search needs) (cut-boundary-answer-at-requires t) (cut-boundary-gather-in-requires t) (cut-boundary-add-i t)
     (cut-boundary-loop-less t) (cut-boundary-loop-again t) (λ c. search needs) (λ c. search needs) (λ c. search needs) (λ c. search needs) (cut-boundary-returns-2 t))
     λ t. cut-element-lts.spec (cut-element-claims t) (cut-element-at t) cut-element.Post
     (cut-element-is-known-requires t) (cut-element-returns t) (cut-element-cut-low-requires t) (cut-element-keep-requires t) (λ c. low-cut t (c .before) .cut-low .kept .0)

@@ -9,7 +9,7 @@ abbrev lent : tie.After-slice-known5 → tie.Start
 lent c = c .before .before .before .before .before
 
 abbrev start : tie.After-add-hyperplane → tie.Start
-start c = lent (c .before .before .before)
+start c = lent (c .before .before .before .before)
 
 abbrev added : tie.After-slice-known7 → tie.After-add-hyperplane
 added c = c .before .before .before .before
@@ -28,7 +28,7 @@ abbrev asked : tie.After-slice-known11 → tie.After-cut-element
 asked c = half-known c .before .before .before .before
 
 add-hyperplane-requires : tie.Need-add-hyperplane-requires
-add-hyperplane-requires c κs = plane-asked (lent (c .before .before) .pre)
+add-hyperplane-requires c κs = plane-asked (lent (c .before .before .before) .pre)
 
 enum-known-named : tie.Need-enum-known-named
 enum-known-named c = search needs
@@ -46,8 +46,7 @@ cut-element-requires c κs =
     let r = ranked c in
     let n = numbered r in
     let p = added (n .before .before) in
-    let a = start p .args in
-    root-ready (p .add-hyperplane .ensures) _ (n .named2 .given .1) _ (r .rank-of .ensures) (a .keep-inside) (a .keep-outside) (start p .pre)
+    root-ready (start p .args .params) (p .add-hyperplane .ensures) _ (n .named2 .given .1) _ (r .rank-of .ensures) (start p .pre)
 
 enum-known-asked : tie.Need-enum-known-asked
 enum-known-asked c = search needs
@@ -55,8 +54,8 @@ enum-known-asked c = search needs
 enum-told : tie.Need-enum-told
 enum-told c = search needs
 
-output-at-requires : tie.Need-output-at-requires
-output-at-requires c κs =
+answer-at-requires : tie.Need-answer-at-requires
+answer-at-requires c κs =
     let n = numbered (ranked (asked (c .before .before .before) .before)) in
     root-low (start (added (n .before .before)) .pre)
 
@@ -69,7 +68,7 @@ same-length-2 c = search needs
 returns : tie.Need-returns
 returns c =
     let p = added (c .before .before .before) in
-    plane-refused (p .add-hyperplane .ensures) _ _ _ (c .before .named .given .1)
+    plane-refused (start p .args .params) (p .add-hyperplane .ensures) _ (c .before .named .given .1)
 
 same-length-3 : tie.Need-same-length-3
 same-length-3 c = search needs
@@ -92,7 +91,7 @@ returns-2 c =
     let r = ranked (s .before) in
     let n = numbered r in
     let p = added (n .before .before) in
-    root-cut (p .add-hyperplane .ensures) _ (n .named2 .given .1) _ (r .rank-of .ensures) _ _ (s .cut-element .ensures) _ (root-refused _ _ (c .before .asked .given .1))
+    root-cut (start p .args .params) (p .add-hyperplane .ensures) _ (n .named2 .given .1) _ (r .rank-of .ensures) (s .cut-element .ensures) _ (root-refused _ _ (c .before .asked .given .1))
 
 same-length-8 : tie.Need-same-length-8
 same-length-8 c = search needs
@@ -116,8 +115,8 @@ returns-3 c =
     let r = ranked (s .before) in
     let n = numbered r in
     let p = added (n .before .before) in
-    root-cut (p .add-hyperplane .ensures) _ (n .named2 .given .1) _ (r .rank-of .ensures) _ _ (s .cut-element .ensures) _
-    (root-answered _ _ (told .enum-told .given .1) (c .output-at .ensures))
+    root-cut (start p .args .params) (p .add-hyperplane .ensures) _ (n .named2 .given .1) _ (r .rank-of .ensures) (s .cut-element .ensures) _
+    (root-answered _ _ (told .enum-told .given .1) (c .answer-at .ensures))
 
 pub cut-named-spec : {M : Type 1} → statement M
 cut-named-spec =
@@ -130,7 +129,7 @@ cut-named-spec =
     cut-element-requires
     enum-known-asked
     enum-told
-    output-at-requires
+    answer-at-requires
     same-length
     same-length-2
     returns

@@ -9,7 +9,7 @@ abbrev entered : tie.After-slice-known3 → tie.Start
 entered c = c .before .before .before
 
 abbrev start : tie.After-side-of-cut-arg4 → tie.Start
-start c = entered (c .before .before .before .before)
+start c = entered (c .before .before .before .before .before)
 
 abbrev inside-answered : tie.After-slice-known6 → tie.After-side-of-cut
 inside-answered c = c .before .before .before .before .before .before

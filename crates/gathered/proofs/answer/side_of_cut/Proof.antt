@@ -1,5 +1,6 @@
 -- A removed side is none; a kept one that is the element's own boundary is the element, and any other is a call of rule 8.
 use Rattle.gathered.proofs.SideAdded.{reads-ask, including-asks, side-asks, own-asks, side-removed, side-own, side-kept}
+use mathlib.Core.Path.{sym, _∙_}
 use borrow.Author.Tests.{not-true, not-false}
 use native.Mathlib.Omega.{arith}
 use borrow.Author.Needs.{needs}
@@ -8,7 +9,7 @@ use Rattle.gathered.proofs.answer.side_of_cut.Tie as tie
 
 -- where the function began; the side is kept; its hyperplane, its mark, its set with the intersection, and the size of that are read
 abbrev start : tie.Else1 → tie.Start
-start c = c .before .before .before .before
+start c = c .before .before .before .before .before
 
 abbrev plane : tie.After-is-primordial → tie.After-plane-of
 plane c = c .before .before
@@ -32,8 +33,17 @@ own c = c .before .before .before .before .before
 abbrev first : tie.After-include → tie.Start
 first c = start (kept (plane (mark c)))
 
+-- it is kept
+abbrev is-kept : tie.Else1 → tie.After-is-kept
+is-kept c = c .before
+
+is-kept-requires : tie.Need-is-kept-requires
+is-kept-requires c κs = search needs
+
 returns : tie.Need-returns
-returns c = side-removed (c .before .before .before .before .pre) (not-true _ (c .if1 .taken))
+returns c =
+    let asked = c .before in
+    side-removed (asked .before .before .before .before .pre) (sym (asked .is-kept .ensures) ∙ not-true _ (c .if1 .taken))
 
 plane-of-requires : tie.Need-plane-of-requires
 plane-of-requires c κs = reads-ask (start (c .before) .pre)
@@ -62,7 +72,7 @@ returns-2 c =
     let size = sized (told .before) in
     let set = with size in
     let keep = kept (plane (mark set)) in
-    side-own (start keep .pre) _ _ (size .wide .ensures .value) (not-false _ (keep .if1 .left)) (set .include .ensures) (told .is-own .ensures .only (c .if2 .taken))
+    side-own (start keep .pre) _ _ (size .wide .ensures .value) (sym (is-kept keep .is-kept .ensures) ∙ not-false _ (keep .if1 .left)) (set .include .ensures) (told .is-own .ensures .only (c .if2 .taken))
 
 add-polytope-requires : tie.Need-add-polytope-requires
 add-polytope-requires c κs =
@@ -86,13 +96,14 @@ returns-3 c =
     let set = with size in
     let marked = mark set in
     let named = plane marked in
-    side-kept _ _ _ _ (size .wide .ensures .value) (not-false _ (kept named .if1 .left)) (named .plane-of .ensures) (marked .is-primordial .ensures) (set .include .ensures)
+    side-kept _ _ _ _ (size .wide .ensures .value) (sym (is-kept (kept named) .is-kept .ensures) ∙ not-false _ (kept named .if1 .left)) (named .plane-of .ensures) (marked .is-primordial .ensures) (set .include .ensures)
     (added .add-polytope .ensures .added) (added .add-polytope .ensures .index)
 
 pub side-of-cut-spec : {M : Type 1} → statement M
 side-of-cut-spec =
     tie.close
     (tie.spec
+    is-kept-requires
     returns
     plane-of-requires
     is-primordial-requires

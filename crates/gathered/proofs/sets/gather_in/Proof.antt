@@ -1,84 +1,44 @@
--- A flush answer is counted; the parts of another go to their sets.
-use Rattle.gathered.proofs.Gathering.{gather-flush, gather-sides, include-ready, sides-room}
+-- The warning is noted, and then the output is gathered.
+use mathlib.Core.Path.{refl}
+use Rattle.gathered.proofs.Gathering.{noted, output-ready, answer-gathered}
 use borrow.Author.Needs.{needs}
 use Rattle.gathered.proofs.sets.gather_in.Statement.{statement}
 use Rattle.gathered.proofs.sets.gather_in.Tie as tie
 
--- where the answer is known to be no flush one
-abbrev told : tie.After-include-arg → tie.After-a
-told c = c .before .before
+-- where the third word is known, and where the function began
+abbrev third : tie.After-gather-output-arg4 → tie.After-noted
+third c = c .before .before .before .before
 
-abbrev start : tie.After-a → tie.Start
+abbrev start : tie.After-noted → tie.Start
 start c = c .before .before
 
-enum-told : tie.Need-enum-told
-enum-told c = search needs
+element-copy-out-noted : tie.Need-element-copy-out-noted
+element-copy-out-noted c = search needs
 
-element-copy-out-flush : tie.Need-element-copy-out-flush
-element-copy-out-flush c = search needs
+noted-requires : tie.Need-noted-requires
+noted-requires c κs = search needs
 
-add-flush : tie.Need-add-flush
-add-flush c = search needs
+element-write-tally : tie.Need-element-write-tally
+element-write-tally c = search needs
 
-element-write-flush : tie.Need-element-write-flush
-element-write-flush c = search needs
-
-cast-flush : tie.Need-cast-flush
-cast-flush c = search needs
-
-element-write-flush-2 : tie.Need-element-write-flush-2
-element-write-flush-2 c = search needs
-
-enum-known-a : tie.Need-enum-known-a
-enum-known-a c = search needs
-
-include-requires : tie.Need-include-requires
-include-requires c κs =
-    let sides = told c in
-    let claims = start sides .pre in
-    include-ready (claims .sized .inside) (sides-room _ _ _ (sides .a .given .1) (claims .answer) .inside)
-
-include-requires-2 : tie.Need-include-requires-2
-include-requires-2 c κs =
-    let sides = told (c .before .before) in
-    let claims = start sides .pre in
-    include-ready (claims .sized .outside) (sides-room _ _ _ (sides .a .given .1) (claims .answer) .outside)
-
-include-requires-3 : tie.Need-include-requires-3
-include-requires-3 c κs =
-    let sides = told (c .before .before .before .before) in
-    let claims = start sides .pre in
-    include-ready (claims .sized .intersections) (sides-room _ _ _ (sides .a .given .1) (claims .answer) .intersection)
+gather-output-requires : tie.Need-gather-output-requires
+gather-output-requires c κs =
+    let n = third c in
+    let s = start n in
+    output-ready (noted (s .args .tally .now) _ _ (s .pre .sized .tally) (n .noted .ensures)) (s .args .b .0) (s .args .a) refl (s .pre)
 
 returns : tie.Need-returns
 returns c =
-    let flush = c .before .before in
-    let first = flush .before .before in
-    let a = first .args in
-    gather-flush (a .flush .now) (a .inside .now) (a .outside .now) (a .intersections .now) (a .b .0) (a .a) (first .pre .sized .flush) (flush .enum-told .given .1)
-
-returns-2 : tie.Need-returns-2
-returns-2 c =
-    let two = c .before .before in
-    let one = two .before .before in
-    let sides = told (one .before) in
-    let a = start sides .args in
-    gather-sides (a .flush .now) (a .inside .now) (a .outside .now) (a .intersections .now) (a .b .0) (a .a) _ _ _ _ _ _
-    (sides .a .given .1) (one .include .ensures) (two .include2 .ensures) (c .include3 .ensures)
+    let n = third (c .before) in
+    let s = start n in
+    answer-gathered (noted (s .args .tally .now) _ _ (s .pre .sized .tally) (n .noted .ensures)) (s .args .b .0) (s .args .a) refl (c .gather-output .ensures)
 
 pub gather-in-spec : {M : Type 1} → statement M
 gather-in-spec =
     tie.close
     (tie.spec
-    enum-told
-    element-copy-out-flush
-    add-flush
-    element-write-flush
-    cast-flush
-    element-write-flush-2
-    enum-known-a
-    include-requires
-    include-requires-2
-    include-requires-3
-    returns
-    returns-2)
+    element-copy-out-noted
+    noted-requires
+    element-write-tally
+    gather-output-requires
+    returns)

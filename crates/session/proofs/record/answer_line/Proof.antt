@@ -5,9 +5,8 @@ use mathlib.Core.Path.{sym, ap, subst}
 use lib.ListN.{drop}
 use borrow.Author.Needs.{needs}
 use Rattle.rules.specs.Limits.{desk}
-use Rattle.rules.specs.declared.CutReply.the-variants.{Answered}
 use Rattle.rules.specs.declared.ElementCutOutput.{ElementCutOutput}
-use Rattle.rules.specs.Session.{text, cutText}
+use Rattle.rules.specs.Session.{text, outputText}
 use Rattle.rules.specs.Promises.{NamesBelow}
 use Rattle.lent_bytes.proofs.Puts.{put-as}
 use Rattle.session.proofs.record.answer_line.Statement.{statement}
@@ -18,7 +17,7 @@ abbrev start : tie.After-slice-known → tie.Start
 start c = c .before .before
 
 abbrev line : ElementCutOutput → List ℕ → List ℕ
-line a counts = text (cutText (Answered a) (drop 1 counts))
+line a counts = text (outputText a (drop 1 counts))
 
 enum-told : tie.Need-enum-told
 enum-told c = search needs

@@ -4,6 +4,7 @@ use mathlib.Core.Path.{sym, subst}
 use native.Mathlib.Omega.{arith}
 use lib.ListN.{length}
 use borrow.Author.Needs.{needs}
+use Rattle.rules.specs.Replies.{cutBy}
 use Rattle.rules.specs.Session.{cutLength}
 use Rattle.session.proofs.Turns.{cut-long, line-fits, cut-taken}
 use Rattle.session.proofs.record.cut_turn.Statement.{statement}
@@ -63,13 +64,17 @@ cut-requires c κs = search needs
 cut-line-requires : tie.Need-cut-line-requires
 cut-line-requires c κs =
     let done = cut-done (c .before .before) in
-    record { fits = line-fits _ _ _ _ _ _ _ (done .cut .ensures); room = start (dimension (root done)) .pre .room }
+    let two = root done in
+    let outside = two .before in
+    let inside = outside .before in
+    let params = cutBy (inside .before .before .divider-at .result) (inside .fate .result) (outside .fate2 .result) in
+    record { fits = line-fits params _ _ _ _ (done .cut .ensures); room = start (dimension two) .pre .room }
 
-mul-t19 : tie.Need-mul-t19
-mul-t19 c = search needs
+mul-t20 : tie.Need-mul-t20
+mul-t20 c = search needs
 
-add-t32 : tie.Need-add-t32
-add-t32 c = search needs
+add-t33 : tie.Need-add-t33
+add-t33 c = search needs
 
 same-length : tie.Need-same-length
 same-length c = search needs
@@ -110,8 +115,8 @@ cut-turn-spec =
     two-requires
     cut-requires
     cut-line-requires
-    mul-t19
-    add-t32
+    mul-t20
+    add-t33
     same-length
     same-length-2
     same-length-3

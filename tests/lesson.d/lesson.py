@@ -1,0 +1,25 @@
+"""What the scripts beside this one share: the blocks of docs/LESSON.md, and the programs `show` and `record` as modules."""
+import importlib.machinery
+import importlib.util
+import pathlib
+import re
+import sys
+
+ROOT = pathlib.Path(__file__).resolve().parent.parent.parent
+sys.dont_write_bytecode = True
+
+
+def load(name):
+    loader = importlib.machinery.SourceFileLoader(name, str(ROOT / name))
+    module = importlib.util.module_from_spec(importlib.util.spec_from_loader(name, loader))
+    loader.exec_module(module)
+    return module
+
+
+show = load("show")
+record = show.record
+
+
+def blocks(*kinds):
+    """The blocks of these kinds in their order, each with its kind."""
+    return re.findall(rf"^```({'|'.join(kinds)})\n(.*?)^```$", (ROOT / "docs/LESSON.md").read_text(), re.M | re.S)
