@@ -52,6 +52,9 @@ pub mod Rows
 pub mod Selves
 pub mod Stays
 pub mod StaysCut
+pub mod TouchCuts
+pub mod Touched
+pub mod Uncrossed
 pub mod VertexSet
 pub mod WalkRound
 pub mod Warned

@@ -18,7 +18,7 @@ use Rattle.rules.specs.Sound.{closed, soundPlane}
 use Rattle.rules.specs.Cut.{next, Cutting, Params, Gathered, nothingYet, gathering, cornerOutput, Step, done, cutBoundary, cut, Outcome, give, addPolytope, sideOfCut, given, addElement, shareElement}
 use Rattle.rules.specs.Cut.{rule7, rule6, planeOfIntersection, cutEdge, cutHigher, cutElement, cutEnds, cutCorner, distanceOf, refused, addPlane, planeMatches, sharePlane, cutAtDistance}
 use Rattle.rules.specs.Questions.{reaches}
-use Rattle.rules.specs.Held.{AllOf, Ranked}
+use Rattle.rules.specs.Held.{AllOf, Extends, Ranked}
 use Rattle.rules.specs.declared.Crossing.the-variants.{None as NoCrossing}
 use Rattle.rules.specs.declared.ElementAnswer.{ElementAnswer}
 use Rattle.rules.specs.declared.ElementOrNone.the-variants.{None}
@@ -63,7 +63,7 @@ with-last (x ∷ xs) y ys h =
     if-false (ltb y x) _ _ (test-above (suc y) x (omega arith)) ∙ if-false (eqb y x) _ _ (not-eq y x (omega arith))
     ∙ ap (λ (zs : List ℕ). x ∷ zs) (with-last xs y ys (and-right (all (ltb x) (xs ++ y ∷ ys)) (rises (xs ++ y ∷ ys)) h))
 
-allOf-map : (P Q : ℕ → Type 0) → ((x : ℕ) → P x → Q x) → (xs : List ℕ) → AllOf P xs → AllOf Q xs
+pub allOf-map : (P Q : ℕ → Type 0) → ((x : ℕ) → P x → Q x) → (xs : List ℕ) → AllOf P xs → AllOf Q xs
 allOf-map P Q f [] h = tt
 allOf-map P Q f (x ∷ xs) h = (f x (h .0), allOf-map P Q f xs (h .1))
 
@@ -111,27 +111,64 @@ boundary-gathers inside W ask t s (b ∷ bs) w h r =
     ∙ boundary-gathers inside W ask t (s ++ b ∷ []) bs (w || W b) (h .1) (ap rises e ∙ r)
     ∙ (λ j. done (gatheredBy inside (e j) (or-shift w (W b) (any W bs) j)) t)
 
--- ---- corners on one side
+-- ---- corners of whose sides something holds: P
 
-abbrev CornerOn : Table → Plane → Side → ℕ → Type 0
-CornerOn t h side x = rank t x ≡ 0 → sideOf (signedDistance (h .normal) (h .distance) (pointAt t x)) ≡ side
+abbrev CornerOn : Table → Plane → (Side → Type 0) → ℕ → Type 0
+CornerOn t h P x = rank t x ≡ 0 → P (sideOf (signedDistance (h .normal) (h .distance) (pointAt t x)))
 
 -- all corners of element e, of rank r
-abbrev pub CornersOn : Table → Plane → Side → ℕ → ℕ → Type 0
-CornersOn t h side r e = (x : ℕ) → reaches t r e x ≡ true → CornerOn t h side x
+abbrev pub CornersOn : Table → Plane → (Side → Type 0) → ℕ → ℕ → Type 0
+CornersOn t h P r e = (x : ℕ) → reaches t r e x ≡ true → CornerOn t h P x
 
-record Clear (t : Table) (h : Plane) (side : Side) (r e : ℕ) : Type 0 where
-  used : e < elementCount t
-  ranked : rank t e ≡ r
-  on : CornersOn t h side r e
+pub record Clear (t : Table) (h : Plane) (P : Side → Type 0) (r e : ℕ) : Type 0 where
+  pub used : e < elementCount t
+  pub ranked : rank t e ≡ r
+  pub on : CornersOn t h P r e
 
-clear-all : (t : Table) (h : Plane) (side : Side) (r : ℕ) (bs : List ℕ) → AllOf (Ranked t (suc r)) bs
-    → ((x : ℕ) → any (λ b. reaches t r b x) bs ≡ true → CornerOn t h side x) → AllOf (Clear t h side r) bs
-clear-all t h side r [] u k = tt
-clear-all t h side r (b ∷ bs) u k = (
+clear-all : (t : Table) (h : Plane) (P : Side → Type 0) (r : ℕ) (bs : List ℕ) → AllOf (Ranked t (suc r)) bs
+    → ((x : ℕ) → any (λ b. reaches t r b x) bs ≡ true → CornerOn t h P x) → AllOf (Clear t h P r) bs
+clear-all t h P r [] u k = tt
+clear-all t h P r (b ∷ bs) u k = (
   record { used = u .0 .0; ranked = suc-inj (u .0 .1); on = λ x a. k x (or-left (reaches t r b x) (any (λ d. reaches t r d x) bs) a) },
-  clear-all t h side r bs (u .1) (λ x a. k x (or-right (reaches t r b x) (any (λ d. reaches t r d x) bs) a)),
+  clear-all t h P r bs (u .1) (λ x a. k x (or-right (reaches t r b x) (any (λ d. reaches t r d x) bs) a)),
 )
+
+-- of an element with a boundary, so have all of the boundary
+pub clear-boundary : (L : Limits) (t : Table) (good : Good L t) (h : Plane) (P : Side → Type 0) (r e : ℕ) (b : List ℕ) (j : Option ℕ) (m : Bool)
+    → element t e ≡ polytope (suc r) b j m → Clear t h P (suc r) e → AllOf (Clear t h P r) b
+unfolding reaches
+clear-boundary L t good h P r e b j m q k =
+    let w = whole-at L t e (suc r) b j m good (k .used) q .bound in
+    clear-all t h P r b (ranked-all t e (suc r) b (le-of-lt (k .used)) (w .under) (w .ranks))
+    (λ x a. k .on x (or-right (eqb e x) _ (ap (λ (y : Element). any (λ d. reaches t r d x) (boundaryOf y)) q ∙ a)))
+
+-- every corner lies on this side
+abbrev pub Lies : Side → Side → Type 0
+Lies side s = s ≡ side
+
+-- ---- an edge that is not crossed asks its two ends, as a higher element asks its boundary
+
+module _ (L : Limits) (t : Table) (c : Cutting) (P : Side → Type 0) (apart : (a b : Side) → P a → P b → opposite a b ≡ false) where
+  no-crossing : (sa sb : Float) → P (sideOf sa) → P (sideOf sb) → crossingOf sa sb ≡ NoCrossing
+  unfolding crossingOf
+  no-crossing sa sb p q = if-false (opposite (sideOf sa) (sideOf sb)) _ _ (apart (sideOf sa) (sideOf sb) p q)
+
+  edge-asks : (r : ℕ) (b : List ℕ) (h : Option ℕ) (m : Bool) → length b ≡ 2 → AllOf (Clear t (c .params .divider) P 0) b
+      → cutEdge L c (polytope r b h m) t ≡ cutHigher L c (cutElement L c 0) (polytope r b h m) t
+  unfolding cutEdge cutEnds cutHigher cutElement cutCorner reaches
+  edge-asks r [] h m z k = absurd (let n : ⊥ = omega arith in n)
+  edge-asks r (x ∷ []) h m z k = absurd (let n : ⊥ = omega arith in n)
+  edge-asks r (x ∷ y ∷ []) h m z k =
+      let p = k .0 .on x (eqb-self x) (k .0 .ranked) in
+      let q = k .1 .0 .on y (eqb-self y) (k .1 .0 .ranked) in
+      rw (no-crossing (distanceOf c (pointAt t x)) (distanceOf c (pointAt t y)) p q)
+  edge-asks r (x ∷ y ∷ w ∷ ws) h m z k = absurd (let n : ⊥ = omega arith in n)
+
+  pub asks : (r e : ℕ) (b : List ℕ) (h : Option ℕ) (m : Bool) → element t e ≡ polytope (suc r) b h m → closed t (suc r) b ≡ true → AllOf (Clear t (c .params .divider) P r) b
+      → cutElement L c (suc r) e t ≡ cutHigher L c (cutElement L c r) (polytope (suc r) b h m) t
+  unfolding cutElement
+  asks zero e b h m q z k = ap (λ (y : Element). cutEdge L c y t) q ∙ edge-asks 1 b h m (eq-test (length b) 2 z) k
+  asks (suc r) e b h m q z k = ap (λ (y : Element). cutHigher L c (cutElement L c (suc r)) y t) q
 
 -- ---- an element that is missed
 
@@ -181,7 +218,7 @@ module _ (L : Limits) (t : Table) (good : Good L t) (c : Cutting) where
 
   module _ (inside : Bool) (kept : keeps c inside ≡ true) where
     abbrev ClearOf : ℕ → ℕ → Type 0
-    ClearOf r e = Clear t (c .params .divider) (sideBy inside) r e
+    ClearOf r e = Clear t (c .params .divider) (Lies (sideBy inside)) r e
 
     abbrev close : ℕ → ℕ → Bool
     close r e = closeBelow (c .params .divider) t r e
@@ -189,27 +226,8 @@ module _ (L : Limits) (t : Table) (good : Good L t) (c : Cutting) where
     abbrev Missed : ℕ → ℕ → Type 0
     Missed r e = Itself inside (close r) (cutElement L c r) t e
 
-    no-crossing : (sa sb : Float) → sideOf sa ≡ sideBy inside → sideOf sb ≡ sideBy inside → crossingOf sa sb ≡ NoCrossing
-    unfolding crossingOf
-    no-crossing sa sb p q = if-false (opposite (sideOf sa) (sideOf sb)) _ _ (ap₂ opposite p q ∙ same-side inside)
-
-    -- an edge that is not crossed asks its two ends, as a higher element asks its boundary
-    edge-asks : (r : ℕ) (b : List ℕ) (h : Option ℕ) (m : Bool) → length b ≡ 2 → AllOf (ClearOf 0) b
-        → cutEdge L c (polytope r b h m) t ≡ cutHigher L c (cutElement L c 0) (polytope r b h m) t
-    unfolding cutEdge cutEnds cutHigher cutElement cutCorner reaches
-    edge-asks r [] h m z k = absurd (let n : ⊥ = omega arith in n)
-    edge-asks r (x ∷ []) h m z k = absurd (let n : ⊥ = omega arith in n)
-    edge-asks r (x ∷ y ∷ []) h m z k =
-        let p = k .0 .on x (eqb-self x) (k .0 .ranked) in
-        let q = k .1 .0 .on y (eqb-self y) (k .1 .0 .ranked) in
-        rw (no-crossing (distanceOf c (pointAt t x)) (distanceOf c (pointAt t y)) p q)
-    edge-asks r (x ∷ y ∷ w ∷ ws) h m z k = absurd (let n : ⊥ = omega arith in n)
-
-    asks : (r e : ℕ) (b : List ℕ) (h : Option ℕ) (m : Bool) → element t e ≡ polytope (suc r) b h m → closed t (suc r) b ≡ true → AllOf (ClearOf r) b
-        → cutElement L c (suc r) e t ≡ cutHigher L c (cutElement L c r) (polytope (suc r) b h m) t
-    unfolding cutElement
-    asks zero e b h m q z k = ap (λ (y : Element). cutEdge L c y t) q ∙ edge-asks 1 b h m (eq-test (length b) 2 z) k
-    asks (suc r) e b h m q z k = ap (λ (y : Element). cutHigher L c (cutElement L c (suc r)) y t) q
+    one-side : (a b : Side) → a ≡ sideBy inside → b ≡ sideBy inside → opposite a b ≡ false
+    one-side a b p q = ap₂ opposite p q ∙ same-side inside
 
     -- from the boundary to the element
     missed-up : (r e : ℕ) → ((x : ℕ) → ClearOf r x → Missed r x) → ClearOf (suc r) e → Missed (suc r) e
@@ -221,11 +239,9 @@ module _ (L : Limits) (t : Table) (good : Good L t) (c : Cutting) where
         go (polytope s b h m) q z =
             let own : element t e ≡ polytope (suc r) b h m = q ∙ ap (λ (n : ℕ). polytope n b h m) z in
             let w = whole-at L t e (suc r) b h m good (k .used) own .bound in
-            let on : (x : ℕ) → any (λ d. reaches t r d x) b ≡ true → CornerOn t (c .params .divider) (sideBy inside) x =
-            (λ x a. k .on x (or-right (eqb e x) _ (ap (λ (y : Element). any (λ d. reaches t r d x) (boundaryOf y)) q ∙ a))) in
-            let clear = clear-all t (c .params .divider) (sideBy inside) r b (ranked-all t e (suc r) b (le-of-lt (k .used)) (w .under) (w .ranks)) on in
+            let clear = clear-boundary L t good (c .params .divider) (Lies (sideBy inside)) r e b h m own k in
             let rest : Gathered → Step ElementAnswer = λ g. rule6 L c (polytope (suc r) b h m) g (g .flush) in
-            asks r e b h m own (w .tight) clear
+            asks L t c (Lies (sideBy inside)) one-side r e b h m own (w .tight) clear
             ∙ ap (λ (g : Gathered). next (cutBoundary (cutElement L c r) b g t) rest) (gathered-none inside)
             ∙ ap (λ (o : Outcome Gathered). next o rest)
             (boundary-gathers inside (close r) (cutElement L c r) t [] b false (allOf-map (ClearOf r) (Missed r) below b clear) (w .rising))
@@ -259,45 +275,51 @@ reaches-same t s q (suc r) e x =
     ap₂ (λ (p : ℕ → Bool) (es : List Element). eqb e x || any p (boundaryOf (getD es e (corner 0)))) (fun-ext (λ b. reaches-same t s q r b x)) q
 
 -- a table with the same elements and points has the same corners on that side
-clear-same : (t s : Table) (h : Plane) (side : Side) (r e : ℕ) → s .elements ≡ t .elements → s .points ≡ t .points → Clear t h side r e → Clear s h side r e
-clear-same t s h side r e q p k = record {
+clear-same : (t s : Table) (h : Plane) (P : Side → Type 0) (r e : ℕ) → s .elements ≡ t .elements → s .points ≡ t .points → Clear t h P r e → Clear s h P r e
+clear-same t s h P r e q p k = record {
   used = subst (λ (es : List Element). e < length es) (sym q) (k .used);
   ranked = ranks e ∙ k .ranked;
   on = λ x a z.
-      ap₂ (λ (es : List Element) (ps : List (List Float)). sideOf (signedDistance (h .normal) (h .distance) (pointOf ps (getD es x (corner 0))))) q p
-      ∙ k .on x (sym (reaches-same t s q r e x) ∙ a) (sym (ranks x) ∙ z);
+      subst P (sym (ap₂ (λ (es : List Element) (ps : List (List Float)). sideOf (signedDistance (h .normal) (h .distance) (pointOf ps (getD es x (corner 0))))) q p))
+      (k .on x (sym (reaches-same t s q r e x) ∙ a) (sym (ranks x) ∙ z));
 }
   where
     ranks : (x : ℕ) → rank s x ≡ rank t x
     ranks x = ap (λ (es : List Element). rankOf (getD es x (corner 0))) q
+
+-- the parameters of a cut, with the number of its divider's hyperplane
+abbrev pub numbered : Params → ℕ → Cutting
+numbered p n = record { params = p; number = n }
 
 module _ (L : Limits) (t : Table) (good : Good L t) (p : Params) (fits : soundPlane (t .dimension) (p .divider) ≡ true) (finite : NotInfinite (p .divider .distance))
     (root : ℕ) (used : root < elementCount t) where
   abbrev h : Plane
   h = p .divider
 
-  -- a cut that misses the root gives it back on its side, and adds at most the divider's hyperplane
-  pub missed-cut : (inside : Bool) → (if inside then p .keepInside else p .keepOutside) ≡ true → CornersOn t h (sideBy inside) (rank t root) root
-      → cut L p root t ≡ next (addPlane L h t) (λ n. give (givenBack inside root (closeBelow h t (rank t root) root)))
+  -- a cut whose elements leave the table adds at most the divider's hyperplane
+  pub only-plane : (P : Side → Type 0) (a : ElementAnswer) → CornersOn t h P (rank t root) root
+      → ((n : ℕ) (s : Table) → Good L s → Extends t s → Clear s h P (rank t root) root → cutElement L (numbered p n) (rank t root) root s ≡ done a s)
+      → cut L p root t ≡ next (addPlane L h t) (λ n. give a)
   unfolding cut
-  missed-cut inside kept on = at (h .distance) finite
+  only-plane P a on leaves = at (h .distance) finite
     where
-      cutting : ℕ → Cutting
-      cutting n = record { params = p; number = n }
-
-      answer : ElementAnswer
-      answer = givenBack inside root (closeBelow h t (rank t root) root)
-
-      go : (a : Outcome ℕ) → Stays L (λ (n : ℕ) (s : Table). n < length (s .planes)) t a → Unmoved t a
-          → next a (λ n s. cutElement L (cutting n) (rank s root) root s) ≡ next a (λ n. give answer)
+      go : (x : Outcome ℕ) → Stays L (λ (n : ℕ) (s : Table). n < length (s .planes)) t x → Unmoved t x
+          → next x (λ n s. cutElement L (numbered p n) (rank s root) root s) ≡ next x (λ n. give a)
       go (refused n) k m = refl
       go (done n s) k m =
-          let clear = clear-same t s h (sideBy inside) (rank t root) root (m .0) (m .1) (record { used = used; ranked = refl; on = on }) in
-          ap (λ (r : ℕ). cutElement L (cutting n) r root s) (clear .ranked) ∙ missed L s (k .good) (cutting n) inside kept (rank t root) root clear
-          ∙ ap (λ (w : Bool). done (givenBack inside root w) s) (close-later h t s (good-fine L t good) (k .extends) (rank t root) root used)
+          let clear = clear-same t s h P (rank t root) root (m .0) (m .1) (record { used = used; ranked = refl; on = on }) in
+          ap (λ (r : ℕ). cutElement L (numbered p n) r root s) (clear .ranked) ∙ leaves n s (k .good) (k .extends) clear
 
-      at : (d : Float) → NotInfinite d → cutAtDistance L p d root t ≡ next (addPlane L h t) (λ n. give answer)
+      at : (d : Float) → NotInfinite d → cutAtDistance L p d root t ≡ next (addPlane L h t) (λ n. give a)
       at (inf false) z = absurd z
       at (inf true) z = absurd z
       at nan z = go (addPlane L h t) (plane-stays L t good h fits) (plane-unmoved L h t)
       at (fin b m e) z = go (addPlane L h t) (plane-stays L t good h fits) (plane-unmoved L h t)
+
+  -- a cut that misses the root gives it back on its side
+  pub missed-cut : (inside : Bool) → (if inside then p .keepInside else p .keepOutside) ≡ true → CornersOn t h (Lies (sideBy inside)) (rank t root) root
+      → cut L p root t ≡ next (addPlane L h t) (λ n. give (givenBack inside root (closeBelow h t (rank t root) root)))
+  missed-cut inside kept on =
+      only-plane (Lies (sideBy inside)) (givenBack inside root (closeBelow h t (rank t root) root)) on (λ n s k x clear.
+      missed L s k (numbered p n) inside kept (rank t root) root clear
+      ∙ ap (λ (w : Bool). done (givenBack inside root w) s) (close-later h t s (good-fine L t good) x (rank t root) root used))

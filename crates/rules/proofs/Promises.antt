@@ -10,7 +10,8 @@ use Rattle.rules.specs.Lists.{if_then_else_}
 use Rattle.rules.specs.Memory.{Memory, decode}
 use Rattle.rules.specs.Cut.{Outcome, refused, done, next, give, addPlane, cornerOutput}
 use Rattle.rules.specs.Replies.{cutNumber, cutValues, outputValues, elementValue, isKept, cutBy, paramsOf, written, cutReply}
-use Rattle.rules.specs.Promises.{AnswersAreInUse, NamesBelow, OneBelow, Passes, Finite, AllOn, OnlyPlane, dividerIn, someCloseCall, Promises}
+use Rattle.rules.specs.Promises.{AnswersAreInUse, NamesBelow, OneBelow, Passes, Finite, AllOn, OnlyPlane, dividerIn, Promises}
+use Rattle.rules.specs.Touch.{someCloseCall}
 use Rattle.rules.specs.declared.CutReply.{CutReply}
 use Rattle.rules.specs.declared.CutReply.the-variants.{Refused, Answered}
 use Rattle.rules.specs.declared.ElementOrNone.{ElementOrNone}
@@ -35,6 +36,8 @@ use Rattle.rules.proofs.Refusals.{refused-cut-leaves, refused-cube-leav
 use Rattle.rules.proofs.RingWalked.{rule-is-one-ring, face-is-one-ring, face-is-walked}
 use Rattle.rules.proofs.RoomierReplies.{roomier-alike}
 use Rattle.rules.proofs.RoundTrip.{written-sound, table-back, memory-back}
+use Rattle.rules.proofs.TouchCuts.{all-on-is-flush, one-side-is-missed, one-side-adds-no-vertex, both-cuts-an-edge}
+use Rattle.rules.proofs.Touched.{touch-numbers, touch-infinite, touch-is-read, touch-is-counted}
 use Rattle.rules.proofs.VertexSet.{vertex-set-rises, no-facet-in-one-dimension}
 use Rattle.rules.proofs.WalkRound.{walk-goes-round}
 use Rattle.rules.proofs.Warned.{warns-of-close-calls}
@@ -136,6 +139,14 @@ module _ (L : Limits) (R : Readable L) (H : HasCubes L) (F : Fileable L) where
     face-is-one-ring = face-is-one-ring L;
     face-is-walked = face-is-walked L;
     no-facet-in-one-dimension = no-facet-in-one-dimension L;
+    touch-numbers = touch-numbers L;
+    touch-infinite = touch-infinite L;
+    touch-is-read = touch-is-read L;
+    touch-is-counted = touch-is-counted L;
+    all-on-is-flush = all-on-is-flush L;
+    one-side-is-missed = one-side-is-missed L;
+    one-side-adds-no-vertex = one-side-adds-no-vertex L;
+    both-cuts-an-edge = both-cuts-an-edge L;
   }
 
 -- ---- the two rooms

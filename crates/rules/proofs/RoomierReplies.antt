@@ -18,6 +18,7 @@ use Rattle.rules.specs.Cut.{Outcome, refused, done, cut}
 use Rattle.rules.specs.Questions.{Asked, no-answer, answer, subElements, withRank, vertexSet, greatestCommon, edgesInOrder, primordialFacet}
 use Rattle.rules.specs.Replies.{cutNumber, isSoundReply, cubeReply, dividerFits, distanceFits, dividerOf, isKept, paramsOf, asReply, cutReply, asked, listed, inNumbers, facetAnswer}
 use Rattle.rules.specs.Replies.{subElementsReply, withRankReply, vertexSetReply, greatestCommonReply, edgesInOrderReply, primordialFacetReply}
+use Rattle.rules.specs.Touch.{touch, touchReply}
 use Rattle.rules.specs.Files.{fileOf, saveReply, openReply}
 use Rattle.rules.specs.Calls.{ListQuestion, subElementsOf, subElementsWithRank, vertexSetOf, greatestCommonOf, edgesInOrderOf, fileOfTable, listReply}
 use Rattle.rules.specs.Rooms.{TablesAlike, RepliesAlike, RoomierAlike, moved, widened, widenedParams}
@@ -25,6 +26,8 @@ use Rattle.rules.specs.declared.CutReply.{CutReply}
 use Rattle.rules.specs.declared.CutParams.{CutParams}
 use Rattle.rules.specs.declared.ElementAnswer.{ElementAnswer}
 use Rattle.rules.specs.declared.Hyperplane.{Hyperplane}
+use Rattle.rules.specs.declared.TouchReply.{TouchReply}
+use Rattle.rules.specs.declared.TouchReply.the-variants.{Refused}
 use Rattle.rules.proofs.Built.{RuleNumber, refused-number}
 use Rattle.rules.proofs.CubeCalls.{cube-done}
 use Rattle.rules.proofs.FileReplies.{accepted, taken, open-accepted, opens-roomier, layout-alone}
@@ -208,6 +211,21 @@ module _ (L M : Limits) (O : Roomier L M) (R : Readable L) (H : HasCubes L) (W :
     unfolding primordialFacetReply
     facet-there e = ap facetAnswer (asked-there (e ∷ []) (λ t. primordialFacet t e))
 
+    -- ---- a touch
+
+    module _ (h : Hyperplane) (root : ℕ) (long : length (h .normal) ≡ L .dimensions) where
+      low : decode L m .dimension ≤ L .dimensions
+      low = le-test (decode L m .dimension) (L .dimensions) (sound-good L (decode L m) (sound-table L m s) .high)
+
+      by : Bool → Table → Bool → Plane → TouchReply
+      by b t f g = if not b then Refused 3 else if not (ltb root (elementCount t)) then Refused 4 else if not f then Refused 5 else touch g root t
+
+      touch-there : touchReply M (widened M h) root (moved L M m) ≡ touchReply L h root m
+      unfolding touchReply by
+      touch-there =
+          (λ j. let t = table-there m s j in by (sound-there m s j) t (dividerFits M (t .dimension) (widened M h)) (dividerOf (t .dimension) (widened M h)))
+          ∙ (λ j. by (sym s j) (decode L m) (fits-same L M O h long (decode L m .dimension) low j) (divider-same L M O h long (decode L m .dimension) low j))
+
   replies-alike : RepliesAlike L M
   replies-alike = record {
     is-sound = is-sound;
@@ -218,6 +236,7 @@ module _ (L M : Limits) (O : Roomier L M) (R : Readable L) (H : HasCubes L) (W :
     cut-alike = cut-there;
     list-alike = λ q m room s. list-there m s q room;
     facet-alike = λ m e s. facet-there m s e;
+    touch-alike = λ h root m l s. touch-there m s h root l;
   }
 
 tables-alike : (L M : Limits) → Roomier L M → TablesAlike L M

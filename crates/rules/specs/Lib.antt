@@ -13,6 +13,7 @@ pub mod Cut
 pub mod Questions
 pub mod Rings
 pub mod Replies
+pub mod Touch
 pub mod Files
 pub mod Saving
 pub mod Session

@@ -10,7 +10,7 @@ use lib.ListN.{length, getD, take, drop}
 use lib.Ieee.{Float, inf, le, isNan}
 use Rattle.rules.specs.Limits.{Limits}
 use Rattle.rules.specs.Lists.{all, any, member, occurrences, rises}
-use Rattle.rules.specs.Floats.{plusZero, sideOf, closeCall, signedDistance, clamp, crossingPoint, pointMatches}
+use Rattle.rules.specs.Floats.{plusZero, sideOf, signedDistance, clamp, crossingPoint, pointMatches}
 use Rattle.rules.specs.Table.{ElementNumber, VertexNumber, HyperplaneNumber, Plane, Table, vertexOf, element, rank, boundary, elementCount, pointAt}
 use Rattle.rules.specs.Sound.{sound}
 use Rattle.rules.specs.Memory.{Memory, elementWidth, planeWidth, encode, decode, soundMemory}
@@ -18,6 +18,7 @@ use Rattle.rules.specs.Cut.{Outcome, refused, done, addPlane}
 use Rattle.rules.specs.Questions.{answer, isBelow, vertexSet, greatestCommon, edgesInOrder}
 use Rattle.rules.specs.Rings.{RuleIsOneRing, FaceIsOneRing, FaceIsWalked}
 use Rattle.rules.specs.Replies.{cutNumber, cutValues, cutWarning, listNumber, listSize, facetValue, isSoundReply, cubeReply, dividerFits, dividerOf, cutBy, cutReply, primordialFacetReply}
+use Rattle.rules.specs.Touch.{someCloseCall, TouchNumbers, TouchInfinite, TouchIsRead, TouchIsCounted, AllOnIsFlush, OneSideIsMissed, OneSideAddsNoVertex, BothCutsAnEdge}
 use Rattle.rules.specs.Files.{openReply}
 use Rattle.rules.specs.Saving.{RefusedOpenLeaves, OpenNumbers, OpenIsSound, SavedOpens, OpenedSaves, OneFile, OpensRoomier, LayoutAlone}
 use Rattle.rules.specs.Calls.{Call, cutting, asking, cubing, opening, after, afterCalls, TableStays, ListQuestion, listReply, listRefusals, Gives, CutNumbered, ListNumbered, FacetNumbered, Filled}
@@ -183,10 +184,6 @@ OnlyPlane L m vs w r (done n t) = Gives r vs w (encode L t)
 -- the divider of a call, as a hyperplane of the table
 abbrev pub dividerIn : Limits → Memory → Hyperplane → Plane
 dividerIn L m h = dividerOf (decode L m .dimension) h
-
--- some vertex of the root's vertex set is a close call
-abbrev pub someCloseCall : Plane → Table → ElementNumber → Bool
-someCloseCall h t root = any (λ v. closeCall (signedDistance (h .normal) (h .distance) (getD (t .points) v []))) (vertexSet t root)
 
 -- document 02, order 2: of a finite divider and a cut that is not refused, the warning is on exactly where some corner of the root is a close call
 abbrev pub WarnsOfCloseCalls : Limits → Type 0
@@ -388,3 +385,11 @@ pub record Promises (L : Limits) : Type 0 where
   pub face-is-one-ring : FaceIsOneRing L
   pub face-is-walked : FaceIsWalked L
   pub no-facet-in-one-dimension : NoFacetInOneDimension L
+  pub touch-numbers : TouchNumbers L
+  pub touch-infinite : TouchInfinite L
+  pub touch-is-read : TouchIsRead L
+  pub touch-is-counted : TouchIsCounted L
+  pub all-on-is-flush : AllOnIsFlush L
+  pub one-side-is-missed : OneSideIsMissed L
+  pub one-side-adds-no-vertex : OneSideAddsNoVertex L
+  pub both-cuts-an-edge : BothCutsAnEdge L

@@ -13,6 +13,7 @@ use Rattle.rules.specs.Sound.{sound}
 use Rattle.rules.specs.Memory.{Memory, encode, decode, rightSize, soundMemory}
 use Rattle.rules.specs.Cut.{refused, done, Params, cut}
 use Rattle.rules.specs.Replies.{cutNumber, isSoundReply, cubeReply, cutReply, primordialFacetReply}
+use Rattle.rules.specs.Touch.{touchReply}
 use Rattle.rules.specs.Files.{openReply}
 use Rattle.rules.specs.Calls.{ListQuestion, listReply}
 use Rattle.rules.specs.declared.Hyperplane.{Hyperplane}
@@ -37,7 +38,7 @@ widened M h = record { normal = pad plusZero (M .dimensions) (h .normal); distan
 abbrev pub widenedParams : Limits → CutParams → CutParams
 widenedParams M p = record { divider = widened M (p .divider); inside = p .inside; outside = p .outside }
 
--- each public reply. A cut: done, and refusals 4, 5 and 7; 8 to 11 are the room's own. A cube: done, and refusal 2. A file: done, and refusal 13. A question, saving too: every reply of a sound memory
+-- each public reply. A cut: done, and refusals 4, 5 and 7; 8 to 11 are the room's own. A cube: done, and refusal 2. A file: done, and refusal 13. A question, saving and a touch too: every reply of a sound memory
 pub record RepliesAlike (L M : Limits) : Type 0 where
   pub is-sound : (m : Memory) → isSoundReply L m ≡ 0 → isSoundReply M (moved L M m) ≡ 0
   pub cube-done : (d : ℕ) (radius : Float) (m n : Memory) → cubeReply L d radius m .0 ≡ 0 → rightSize M n ≡ true
@@ -50,6 +51,8 @@ pub record RepliesAlike (L M : Limits) : Type 0 where
       → cutReply M (widenedParams M p) root (moved L M m) ≡ (cutReply L p root m .0, moved L M (cutReply L p root m .1))
   pub list-alike : (q : ListQuestion) (m : Memory) (room : List ℕ) → soundMemory L m ≡ true → listReply M q (moved L M m) room ≡ listReply L q m room
   pub facet-alike : (m : Memory) (e : ElementNumber) → soundMemory L m ≡ true → primordialFacetReply M (moved L M m) e ≡ primordialFacetReply L m e
+  pub touch-alike : (h : Hyperplane) (root : ElementNumber) (m : Memory) → length (h .normal) ≡ L .dimensions → soundMemory L m ≡ true
+      → touchReply M (widened M h) root (moved L M m) ≡ touchReply L h root m
 
 -- what a room does not refuse, a roomier one answers alike; in memory, where its rows can be read back
 abbrev pub RoomierAlike : Limits → Type 0

@@ -101,3 +101,17 @@ pub enum FacetReply {
     Refused(u8),
     Has(bool),
 }
+
+// Where the corners of an element lie to a plane.
+pub enum Touch {
+    AllOn,
+    InsideOrOn,
+    OutsideOrOn,
+    Both,
+}
+
+// The whole public reply of a touch: the answer, and how many corners were tested.
+pub enum TouchReply {
+    Refused(u8),
+    Touched { answer: Touch, tested: usize },
+}
