@@ -16,7 +16,7 @@ abbrev pub indexWords : ℕ
 indexWords = keys + desk .elements
 
 abbrev pub spread : ℕ
-spread = 37
+spread = 91
 
 -- the row of element j, as the memory has it
 abbrev pub storedRow : List ℕ → ℕ → List ℕ

@@ -18,7 +18,7 @@ ghost use Rattle.space.specs.Ready.{SearchReady, SameRowReady, JoinReady
 pub const KEYS: usize = 512;
 
 // A first number is spread so far over the keys, so that rows that share it stand on other chains.
-const SPREAD: usize = 37;
+const SPREAD: usize = 91;
 
 // The words of the index.
 pub const INDEX: usize = KEYS + ELEMENTS;
