@@ -29,9 +29,13 @@ cleared c = c .before
 abbrev start : tie.After-size-of Inv-loop μ-loop → tie.Start Inv-loop μ-loop
 start c = cleared c .before .before .before
 
--- where a number of the boundary is looked up, and where it was read
+-- where a number of the boundary is looked up
 abbrev looked-up : tie.After-wide Inv-loop μ-loop → tie.In-loop Inv-loop μ-loop
 looked-up c = c .before .before
+
+-- and where its element's answer was
+abbrev told : tie.After-gather-in-arg Inv-loop μ-loop → tie.After-output-at Inv-loop μ-loop
+told c = c .before
 
 abbrev sized-at : tie.In-loop Inv-loop μ-loop → tie.After-size-of Inv-loop μ-loop
 sized-at c = c .before .before
@@ -65,7 +69,7 @@ output-at-requires c κs =
 
 gather-in-requires : tie.Need-gather-in-requires Inv-loop μ-loop
 gather-in-requires c κs =
-    let a = c .before in
+    let a = told c in
     let w = a .before in
     let l = looked-up w in
     let n = sized-at l in
@@ -80,16 +84,16 @@ gather-in-requires c κs =
 
 add-i : tie.Need-add-i Inv-loop μ-loop
 add-i c =
-    let l = looked-up (c .before .before .before) in
+    let l = looked-up (told (c .before) .before) in
     let n = sized-at l in
     omega (arith, gather-most (start n .pre) _ (n .size-of .ensures), l .loop-test .taken)
 
 loop-less : tie.Need-loop-less Inv-loop μ-loop
-loop-less c = let l = looked-up (c .before .before .before) in omega (arith, l .loop-test .taken)
+loop-less c = let l = looked-up (told (c .before) .before) in omega (arith, l .loop-test .taken)
 
 loop-again : tie.Need-loop-again Inv-loop μ-loop
 loop-again c =
-    let a = c .before .before in
+    let a = told (c .before) in
     let w = a .before in
     let l = looked-up w in
     let at = l .before .loop in
