@@ -1,6 +1,7 @@
 -- The vertex is refused, or is the flush one of the edge, and rule 6 goes on from its table.
 use native.Mathlib.Omega.{arith}
-use Rattle.ends.proofs.Edges.{crossed, vertex-asked, crossed-refused, crossed-low, crossed-ready, crossed-done}
+use Rattle.ends.proofs.EndsGathered.{crossed}
+use Rattle.ends.proofs.Edges.{vertex-asked, crossed-refused, crossed-low, crossed-ready, crossed-done}
 use borrow.Author.Needs.{needs}
 use Rattle.ends.proofs.cut_crossed.Statement.{statement}
 use Rattle.ends.proofs.cut_crossed.Tie as tie

@@ -1,6 +1,6 @@
 -- The room is cleared; each end's answer is by its own signed distance, and the two are gathered in turn.
 use lib.Dec.{lit≤}
-use Rattle.ends.proofs.Edges.{sized-more, end-room, ends-gathered}
+use Rattle.ends.proofs.EndsGathered.{sized-more, end-room, ends-gathered}
 use borrow.Author.Needs.{needs}
 use Rattle.ends.proofs.gather_ends.Statement.{statement}
 use Rattle.ends.proofs.gather_ends.Tie as tie

@@ -4,7 +4,7 @@ use mathlib.Core.Path.{_≡_, refl, _∙_}
 use mathlib.Core.List.{List}
 use native.Mathlib.Omega.{arith}
 use Rattle.gathered.specs.Sets.{Sized, warningIn}
-use Rattle.ends.proofs.Edges.{sized-more}
+use Rattle.ends.proofs.EndsGathered.{sized-more}
 use Rattle.cut.proofs.Higher.{Filling, gather-row, gather-most, filling-start, known-low, known-room, filling-on, filled}
 use borrow.Author.Needs.{needs}
 use Rattle.cut.proofs.answers.gather_known.Statement.{statement}
