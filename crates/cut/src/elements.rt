@@ -1,6 +1,6 @@
 // Rule 5: an element asks for its boundary, and the boundary asks for each element. An element asked twice in a cut is answered from what is known.
-use crate::answers::answer_higher;
-use crate::answers::answer_low;
+use crate::ranks::answer_higher;
+use crate::ranks::answer_low;
 use crate::known::Asked;
 use crate::known::KNOWN;
 use crate::known::is_known;

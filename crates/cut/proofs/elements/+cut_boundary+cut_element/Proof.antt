@@ -20,8 +20,8 @@ use Rattle.cut.proofs.elements.+cut_boundary+cut_element.Lts-cut_bounda
 use Rattle.cut.proofs.elements.cut_element.Reads as cut-element
 use Rattle.cut.proofs.elements.cut_element.Kinds as cut-element-kinds
 use Rattle.cut.proofs.elements.+cut_boundary+cut_element.Lts-cut_element as cut-element-lts
-use Rattle.cut.proofs.answers.answer_higher.Reads as answer-higher-reads
-use Rattle.cut.proofs.answers.answer_low.Reads as answer-low-reads
+use Rattle.cut.proofs.ranks.answer_higher.Reads as answer-higher-reads
+use Rattle.cut.proofs.ranks.answer_low.Reads as answer-low-reads
 use Rattle.cut.proofs.known.is_known.Reads as is-known-reads
 use Rattle.space.proofs.rows.boundary_at.Reads as boundary-at-reads
 use Rattle.space.proofs.rows.size_of.Reads as size-of-reads

@@ -1,8 +1,8 @@
 -- What the boundary answered is gathered, rule 6 follows, and its answer is kept.
 use Rattle.cut.proofs.Higher.{higher-gathers, rule6-ready, higher-keep, higher-asked}
 use borrow.Author.Needs.{needs}
-use Rattle.cut.proofs.answers.answer_higher.Statement.{statement}
-use Rattle.cut.proofs.answers.answer_higher.Tie as tie
+use Rattle.cut.proofs.ranks.answer_higher.Statement.{statement}
+use Rattle.cut.proofs.ranks.answer_higher.Tie as tie
 
 -- where the function began, where the boundary was gathered, and where rule 6 has answered
 abbrev start : tie.After-gather-known-arg3 → tie.Start

@@ -7,8 +7,8 @@ use Rattle.gathered.specs.Sets.{Sized, warningIn}
 use Rattle.ends.proofs.EndsGathered.{sized-more}
 use Rattle.cut.proofs.Higher.{Filling, gather-row, gather-most, filling-start, known-low, known-room, filling-on, filled}
 use borrow.Author.Needs.{needs}
-use Rattle.cut.proofs.answers.gather_known.Statement.{statement}
-use Rattle.cut.proofs.answers.gather_known.Tie as tie
+use Rattle.cut.proofs.ranks.gather_known.Statement.{statement}
+use Rattle.cut.proofs.ranks.gather_known.Tie as tie
 
 record Gathering (es ms : List ℕ) (s : List (List ℕ)) (e n i : ℕ) (r : List (List ℕ)) : Type 0 where
   pub most : i ≤ n

@@ -1,8 +1,8 @@
 -- A vertex element or an edge is cut, and its answer is kept.
 use Rattle.cut.proofs.StaysKnown.{low-asks, low-keep, low-asked}
 use borrow.Author.Needs.{needs}
-use Rattle.cut.proofs.answers.answer_low.Statement.{statement}
-use Rattle.cut.proofs.answers.answer_low.Tie as tie
+use Rattle.cut.proofs.ranks.answer_low.Statement.{statement}
+use Rattle.cut.proofs.ranks.answer_low.Tie as tie
 
 -- where the function began, and where the element was cut: the lengths of the slices are known again after it
 abbrev lent : tie.After-slice-known4 → tie.Start
