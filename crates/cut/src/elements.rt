@@ -1,9 +1,9 @@
 // Rule 5: an element asks for its boundary, and the boundary asks for each element. An element asked twice in a cut is answered from what is known.
-use crate::ranks::answer_higher;
-use crate::ranks::answer_low;
 use crate::known::Asked;
 use crate::known::KNOWN;
 use crate::known::is_known;
+use crate::ranks::answer_higher;
+use crate::ranks::answer_low;
 use gathered::sets::ROOM;
 use rules::Cutter;
 use rules::ElementId;
