@@ -1,7 +1,7 @@
 /* Bytes of stack that each entry point takes. A stack is filled with a pattern, a call is made on it, and the bytes down to the
    lowest that changed are counted, less those of no call. Frames have fixed sizes and a cut goes down by rank alone, so a table
-   of four dimensions takes the most that there is, where a cut adds faces of more than five edges, whose paths are joined. Link
-   with libdesk.a for the machine at hand. */
+   of four dimensions takes the most that there is, where a cut adds faces of more than five edges, whose paths are joined; what a
+   cut takes more than in the dimension below is its part that grows with the rank. Link with libdesk.a for the machine at hand. */
 #include "desk.h"
 #include <stdio.h>
 #include <string.h>
@@ -22,10 +22,15 @@ static void is_sound(void) { desk_is_sound(TABLE); }
 static void new_cube(void) { desk_cube(TABLE, 4, 1.0); }
 
 /* Each takes a corner off the squares of the first two axes: after the second these have six edges. */
-static void two_cuts(void) {
-    uint64_t reply = desk_cut(TABLE, 0.6, 0.8, 0.0, 0.0, 1.2, 1, 1, cube);
+static void two_cuts(uint16_t root) {
+    uint64_t reply = desk_cut(TABLE, 0.6, 0.8, 0.0, 0.0, 1.2, 1, 1, root);
     desk_cut(TABLE, 0.6, -0.8, 0.0, 0.0, 1.2, 1, 1, desk_inside(reply));
 }
+
+static void edge_cut(void) { desk_cut(TABLE, 1.0, 0.0, 0.0, 0.0, 0.5, 1, 1, 2); }
+static void square_cuts(void) { two_cuts(8); }
+static void cube_cuts(void) { two_cuts(26); }
+static void four_cuts(void) { two_cuts(80); }
 
 static void sub_elements(void) { desk_subelements_of(TABLE, cube, list, 512); }
 static void with_rank(void) { desk_subelements_with_rank(TABLE, cube, 1, list, 512); }
@@ -36,21 +41,26 @@ static void primordial_facet(void) { desk_has_primordial_facet(TABLE, cube); }
 static void save_file(void) { file_size = desk_file_size(desk_save(TABLE, file, sizeof file)); }
 static void open_file(void) { desk_open(TABLE, file, file_size); }
 
+/* Each begins with a new cube of its dimensions, but for the last ones, which ask of the table that a cut has left. */
 static const struct {
     const char *name;
     void (*make)(void);
+    uint32_t dimensions;
 } calls[] = {
-    {"desk_is_sound", is_sound},
-    {"desk_cube", new_cube},
-    {"desk_cut", two_cuts},
-    {"desk_subelements_of", sub_elements},
-    {"desk_subelements_with_rank", with_rank},
-    {"desk_vertex_set", vertex_set},
-    {"desk_greatest_common_subelements", greatest_common},
-    {"desk_edges_in_order", edges_in_order},
-    {"desk_has_primordial_facet", primordial_facet},
-    {"desk_save", save_file},
-    {"desk_open", open_file},
+    {"desk_is_sound", is_sound, 4},
+    {"desk_cube", new_cube, 4},
+    {"desk_cut, 1 dimension", edge_cut, 1},
+    {"desk_cut, 2 dimensions", square_cuts, 2},
+    {"desk_cut, 3 dimensions", cube_cuts, 3},
+    {"desk_cut, 4 dimensions", four_cuts, 4},
+    {"desk_subelements_of", sub_elements, 0},
+    {"desk_subelements_with_rank", with_rank, 0},
+    {"desk_vertex_set", vertex_set, 0},
+    {"desk_greatest_common_subelements", greatest_common, 0},
+    {"desk_edges_in_order", edges_in_order, 0},
+    {"desk_has_primordial_facet", primordial_facet, 0},
+    {"desk_save", save_file, 0},
+    {"desk_open", open_file, 0},
 };
 
 static int bytes_changed(void (*call)(void)) {
@@ -69,8 +79,9 @@ static int bytes_changed(void (*call)(void)) {
 }
 
 int main(void) {
-    desk_cube(TABLE, 4, 1.0);
-    for (size_t i = 0; i < sizeof calls / sizeof *calls; i++)
+    for (size_t i = 0; i < sizeof calls / sizeof *calls; i++) {
+        if (calls[i].dimensions) desk_cube(TABLE, calls[i].dimensions, 1.0);
         printf("%s %d\n", calls[i].name, bytes_changed(calls[i].make) - bytes_changed(no_call));
+    }
     return 0;
 }

@@ -1,18 +1,17 @@
 -- What is known stays true: an answer that a cut has given is given again by every later table, and nothing is added (the repeat of the rules).
-use Prim.Native.Nat.{ℕ, suc, _≤_, _<_}
+use Prim.Native.Nat.{ℕ, _+_, _*_, _≤_, _<_}
 use mathlib.Core.Path.{_≡_, refl, sym, ap, ap₂, _∙_, subst}
-use mathlib.Core.Bool.{Bool, true, false, true≢false}
-use mathlib.Core.List.{List, [], _∷_}
+use mathlib.Core.Bool.{Bool, true, false, true≢false, _||_}
+use mathlib.Core.List.{List}
 use native.Mathlib.Nat.{le-trans}
 use native.Mathlib.Omega.{arith}
 use lib.Dec.{eqb}
 use lib.ListN.{length, getD, replicate, length-replicate}
 use lib.Ieee.{Float}
 use Rattle.rules.specs.Limits.{desk}
-use Rattle.rules.specs.Table.{Table, Element, elementCount, rank}
-use Rattle.rules.specs.Held as held
-use Rattle.rules.specs.Held.{Extends, Holds, Came, AllOf, Ranked, Sets}
-use Rattle.rules.specs.Cut.{done, Gathered, cutElement, rule6}
+use Rattle.rules.specs.Table.{Table, elementCount, rank}
+use Rattle.rules.specs.Held.{Extends, Holds}
+use Rattle.rules.specs.Cut.{done, cutElement}
 use Rattle.rules.specs.declared.ElementOrNone.{ElementOrNone}
 use Rattle.rules.specs.declared.ElementOrNone.the-variants.{None, Some}
 use Rattle.rules.specs.declared.ElementCutOutput.{ElementCutOutput}
@@ -21,27 +20,46 @@ use Rattle.rules.specs.declared.ElementAnswer.{ElementAnswer}
 use Rattle.gathered.specs.declared.answer.ElementReply.{ElementReply}
 use Rattle.gathered.specs.declared.answer.ElementReply.the-variants as reply
 use Rattle.rules.proofs.Corners.{good-fine}
-use Rattle.rules.proofs.Extends.{Below, extends-refl, extends-trans, count-more, rank-same}
-use Rattle.rules.proofs.Fewer.{lessAnswer, lessCutting, noneDropped, agrees-self}
+use Rattle.rules.proofs.Extends.{extends-refl, extends-trans, count-more, rank-same}
 use Rattle.rules.proofs.Fine.{SomeIn, OutputIn, AnswerIn}
 use Rattle.rules.proofs.Good.{Good, sound-good}
 use Rattle.rules.proofs.Later.{Later, Replays, same}
-use Rattle.rules.proofs.Laws.{eq-test, test-eq}
-use Rattle.rules.proofs.Repeat.{cut-any, rule6-later}
+use Rattle.rules.proofs.Laws.{eq-test, test-eq, or-none}
+use Rattle.rules.proofs.Repeat.{cut-any}
 use Rattle.space.specs.Chains.{Indexed}
 use Rattle.gathered.specs.Sets.{InRoom, OutputInRoom}
-use Rattle.gathered.specs.Cutting.{cutOf, Fit}
+use Rattle.gathered.specs.Cutting as told
+use Rattle.gathered.specs.Cutting.{cutOf, Fit, Told}
 use Rattle.rules.specs.declared.Cutter.{Cutter}
-use Rattle.ends.specs.Elements.{Ready, ElementCut}
-use Rattle.cut.specs.Known.{knownAt, answerAt, withAnswer, withReply, ReplyInRoom, askedBy, KeepReady, ReplyKept, replyOf, Repeats, Knows, HoldsKnown}
-use Rattle.cut.specs.Rounds.{AskReady, ElementAsked}
+use Rattle.ends.specs.Elements.{LowAsked, LowLeft}
+use Rattle.cut.specs.Known.{knownAt, outputAt, withAnswer, withReply, ReplyInRoom, askedBy, KeepReady, ReplyKept, Repeats, Knows, KnownStill}
+use Rattle.cut.specs.Rounds.{AskReady, LowReady, ElementAsked, ElementEnded, went, stopped}
 use Rattle.cut.specs.declared.known.Asked.{Asked}
 use Rattle.cut.specs.declared.known.Asked.the-variants as asked
-use Rattle.cut.proofs.Words.{zeros-unknown, kept-long, kept-same, kept-other-known, kept-other}
+use Rattle.cut.proofs.Words.{zeros-unknown, kept-long, kept-same, kept-known, kept-other-known, kept-other}
 
 -- nothing is known at first
-pub knows-nothing : (k : Cutter) (t : Table) → Knows k (replicate 1536 0) t
-knows-nothing k t = record { long = length-replicate {A = ℕ} 1536 0; of = λ e h p. absurd (true≢false (sym p ∙ zeros-unknown e h)) }
+pub knows-nothing : (k : Cutter) (w : Bool) (t : Table) → Knows k (replicate 1536 0) w t
+knows-nothing k w t = record { long = length-replicate {A = ℕ} 1536 0; of = λ e h p. absurd (true≢false (sym p ∙ zeros-unknown e h)) }
+
+-- ---- warnings
+
+-- what is in the cut's warning is in it with one more
+noted-more : (v b c : Bool) → (v || c) ≡ v → ((v || b) || c) ≡ (v || b)
+noted-more true b c h = refl
+noted-more false b c h = ap (λ (x : Bool). b || x) h ∙ or-none b
+
+-- and a warning is in it once it was put there
+pub noted-now : (v b : Bool) → ((v || b) || b) ≡ (v || b)
+noted-now true b = refl
+noted-now false true = refl
+noted-now false false = refl
+
+pub knows-warned : {k : Cutter} {ms : List ℕ} {v : Bool} {t : Table} (b : Bool) → Knows k ms v t → Knows k ms (v || b) t
+knows-warned {v = v} b K = record {
+  long = K .long;
+  of = λ e h q. (let R = K .of e h q in record { used = R .used; warning = R .warning; again = R .again; noted = noted-more v b (R .warning) (R .noted) });
+}
 
 -- ---- an element that was asked
 
@@ -49,16 +67,18 @@ module _ (k : Cutter) (e : ℕ) (a : ElementAnswer) {t u : Table} (g : Good desk
   replays : Replays same AnswerIn t (cutElement desk (cutOf (t .dimension) k) (rank t e) e) a u
   replays = subst (Later same AnswerIn t (cutElement desk (cutOf (t .dimension) k) (rank t e) e)) o (cut-any desk (cutOf (t .dimension) k) (rank t e) e t (good-fine desk t g) l)
 
-  pub asked-extends : Extends t u
+  asked-extends : Extends t u
   asked-extends = replays .extends
 
   -- asked again, in any later table
-  pub asked-again : {v : Table} → Extends u v → Repeats k v a e
-  asked-again {v} x =
+  asked-again : {v : Table} (w : Bool) → (w || a .warning) ≡ w → Extends u v → Repeats k v (a .output) w e
+  asked-again {v} w n x =
       let y : Extends t v = extends-trans (replays .extends) x in
       record {
         used = le-trans l (count-more y);
+        warning = a .warning;
         again = ap₂ (λ (d n : ℕ). cutElement desk (cutOf d k) n e v) (y .dimension) (rank-same t v e y l) ∙ replays .replay v x;
+        noted = n;
       }
 
   -- what the answer names is within the room
@@ -74,109 +94,120 @@ module _ (k : Cutter) (e : ℕ) (a : ElementAnswer) {t u : Table} (g : Good desk
       go (NonFlush i j x) h = record { inside = one i (h .0); outside = one j (h .1); intersection = one x (h .2) }
 
   -- its answer is kept
-  pub knows-more : {ms : List ℕ} → e < 512 → Knows k ms u → Knows k (withAnswer ms e a) u
-  knows-more {ms} low K = record { long = kept-long ms e a ∙ K .long; of = λ j h q. go j h q (eqb j e) refl }
+  knows-more : {ms : List ℕ} (w : Bool) → (w || a .warning) ≡ w → e < 512 → Knows k ms w u → Knows k (withAnswer ms e (a .output)) w u
+  knows-more {ms} w n low K = record { long = kept-long ms e (a .output) ∙ K .long; of = λ j h q. go j h q (eqb j e) refl }
     where
-      there : answerAt (withAnswer ms e a) e ≡ a
-      there = kept-same ms e a (let long = K .long in omega (arith, low, long))
+      there : outputAt (withAnswer ms e (a .output)) e ≡ a .output
+      there = kept-same ms e (a .output) (let long = K .long in omega (arith, low, long))
 
-      go : (j : ℕ) → j < 512 → knownAt (withAnswer ms e a) j ≡ true → (c : Bool) → eqb j e ≡ c → Repeats k u (answerAt (withAnswer ms e a) j) j
+      go : (j : ℕ) → j < 512 → knownAt (withAnswer ms e (a .output)) j ≡ true → (c : Bool) → eqb j e ≡ c → Repeats k u (outputAt (withAnswer ms e (a .output)) j) w j
       go j h q true p =
-          subst (λ (i : ℕ). Repeats k u (answerAt (withAnswer ms e a) i) i) (sym (eq-test j e p)) (subst (λ (y : ElementAnswer). Repeats k u y e) (sym there) (asked-again (extends-refl u)))
+          subst (λ (i : ℕ). Repeats k u (outputAt (withAnswer ms e (a .output)) i) w i) (sym (eq-test j e p))
+          (subst (λ (y : ElementCutOutput). Repeats k u y w e) (sym there) (asked-again w n (extends-refl u)))
       go j h q false p =
           let other : j ≡ e → ⊥ = λ i. true≢false (sym (test-eq j e i) ∙ p) in
-          subst (λ (y : ElementAnswer). Repeats k u y j) (sym (kept-other ms e a j other)) (K .of j h (sym (kept-other-known ms e a j other) ∙ q))
+          subst (λ (y : ElementCutOutput). Repeats k u y w j) (sym (kept-other ms e (a .output) j other)) (K .of j h (sym (kept-other-known ms e (a .output) j other) ∙ q))
 
--- what is known stays known
-pub knows-later : {k : Cutter} {ms : List ℕ} {t u : Table} → Good desk t → Extends t u → Knows k ms t → Knows k ms u
-knows-later {k} {ms} {t} {u} g x K = record { long = K .long; of = λ e h q. asked-again k e (answerAt ms e) g (K .of e h q .used) (K .of e h q .again) x }
+-- what is known stays true
+pub knows-later : {k : Cutter} {ms : List ℕ} {w : Bool} {t u : Table} → Good desk t → Extends t u → Knows k ms w t → Knows k ms w u
+knows-later {k} {ms} {w} {t} {u} g x K = record {
+  long = K .long;
+  of = λ e h q. (let R = K .of e h q in asked-again k e (record { output = outputAt ms e; warning = R .warning }) g (R .used) (R .again) w (R .noted) x);
+}
 
--- ---- rule 6 only adds
+-- ---- what was known still is
 
-below-all : (t : Table) (q : ℕ) (s : List ℕ) → AllOf (Ranked t q) s → Below (elementCount t) s
-below-all t q [] h = tt
-below-all t q (x ∷ xs) h = (h .0 .0, below-all t q xs (h .1))
+pub still-refl : (ms : List ℕ) → KnownStill ms ms
+still-refl ms = record { of = λ j h. h }
 
-pub rule6-extends : (k : Cutter) (d r : ℕ) (y : Element) (g : Gathered) (a : ElementAnswer) {t u : Table} → Good desk t → Sets r g t → rule6 desk (cutOf d k) y g (g .flush) t ≡ done a u → Extends t u
-rule6-extends k d r y g a {t} {u} good S o =
-    let f = below-all t (suc r) (g .flush) (S .flush) in
-    let L : Later (lessAnswer noneDropped) AnswerIn t (rule6 desk (lessCutting noneDropped (cutOf d k)) y g (g .flush)) (rule6 desk (cutOf d k) y g (g .flush) t) =
-    rule6-later desk (cutOf d k) noneDropped y g (g .inside) (g .outside) (agrees-self false (g .inside)) (agrees-self false (g .outside)) (g .flush) t (good-fine desk t good) f
-    (record {
-      flush = f;
-      inside = below-all t (suc r) (g .inside) (S .inside .ranked);
-      outside = below-all t (suc r) (g .outside) (S .outside .ranked);
-      intersections = below-all t r (g .intersections) (S .intersections .ranked);
-    }) in
-    let R : Replays (lessAnswer noneDropped) AnswerIn t (rule6 desk (lessCutting noneDropped (cutOf d k)) y g (g .flush)) a u =
-    subst (Later (lessAnswer noneDropped) AnswerIn t (rule6 desk (lessCutting noneDropped (cutOf d k)) y g (g .flush))) o L in
-    R .extends
+pub still-trans : {ms ms₁ ms₂ : List ℕ} → KnownStill ms ms₁ → KnownStill ms₁ ms₂ → KnownStill ms ms₂
+still-trans A B = record { of = λ j h. B .of j (A .of j h) }
 
--- ---- what a reply leaves
+-- an answer is kept beside it
+still-kept : (ms : List ℕ) (e : ℕ) (x : ElementReply) → e * 3 + 2 < length ms → KnownStill ms (withReply ms e x)
+still-kept ms e (reply.Refused n) l = still-refl ms
+still-kept ms e (reply.Answered a) l = record { of = λ j h. go j h (eqb j e) refl }
+  where
+    go : (j : ℕ) → knownAt ms j ≡ true → (c : Bool) → eqb j e ≡ c → knownAt (withAnswer ms e a) j ≡ true
+    go j h true p = ap (knownAt (withAnswer ms e a)) (eq-test j e p) ∙ kept-known ms e a l
+    go j h false p = kept-other-known ms e a j (λ i. true≢false (sym (test-eq j e i) ∙ p)) ∙ h
+
+-- ---- a reply is kept
 
 module _ {cs : List ℕ} {ps hs : List Float} {es : List ℕ} {r e : ℕ} {k : Cutter} {t : Table} (F : Fit cs ps hs es r e k t) where
+  low : e < 512
+  low = le-trans (F .used) (F .holds .fits .elementRoom)
+
+  good : Good desk t
+  good = sound-good desk t (F .sound)
+
   -- asked at its rank
   ranked-cut : {u : Table} {a : ElementAnswer} → cutElement desk (cutOf (t .dimension) k) r e t ≡ done a u → cutElement desk (cutOf (t .dimension) k) (rank t e) e t ≡ done a u
   ranked-cut o = ap (λ (n : ℕ). cutElement desk (cutOf (t .dimension) k) n e t) (F .ranked) ∙ o
 
-  -- it is within the room
-  pub reply-in-room : {H : Table → Type 0} {x : ElementReply} → ((u : Table) → H u → elementCount u ≤ 512)
-      → Came reply.Answered reply.Refused H t (cutElement desk (cutOf (t .dimension) k) r e t) x → ReplyInRoom x
-  reply-in-room m (held.went a u o w H) = subst ReplyInRoom (sym w) (asked-room k e a (sound-good desk t (F .sound)) (F .used) (ranked-cut o) (m u H))
-  reply-in-room m (held.stopped n u o w y H) = subst ReplyInRoom (sym w) tt
+  module _ {cs′ : List ℕ} {ps′ : List Float} {es′ : List ℕ} {x : ElementReply} {v w : Bool} (T : Told (Holds desk cs′ ps′ hs es′) t (cutElement desk (cutOf (t .dimension) k) r e t) x v w) where
+    -- it is within the room
+    pub reply-in-room : ReplyInRoom x
+    reply-in-room = go T
+      where
+        go : Told (Holds desk cs′ ps′ hs es′) t (cutElement desk (cutOf (t .dimension) k) r e t) x v w → ReplyInRoom x
+        go (told.went a u o q n H) = subst ReplyInRoom (sym q) (asked-room k e a good (F .used) (ranked-cut o) (H .fits .elementRoom))
+        go (told.stopped n u o q y H) = subst ReplyInRoom (sym q) tt
 
-  -- the words after an answer
-  pub kept-went : {u : Table} {a : ElementAnswer} {ms ms′ : List ℕ} {x : ElementReply} {y : Asked} → cutElement desk (cutOf (t .dimension) k) r e t ≡ done a u
-      → Knows k ms u → x ≡ reply.Answered a → ReplyKept ms e x y ms′ → Knows k ms′ u
-  kept-went {u} {a} {ms} o K w N =
-      subst (λ (m : List ℕ). Knows k m u) (sym (N .words ∙ ap (withReply ms e) w))
-      (knows-more k e a (sound-good desk t (F .sound)) (F .used) (ranked-cut o) (le-trans (F .used) (F .holds .fits .elementRoom)) K)
+    pub kept-ended : {ms ms′ : List ℕ} {y : Asked} → Knows k ms v t → ReplyKept ms e x y ms′ → ElementEnded cs′ ps′ hs es′ ms′ w r e k y v t
+    kept-ended {ms} {ms′} {y} K N = go T
+      where
+        go : Told (Holds desk cs′ ps′ hs es′) t (cutElement desk (cutOf (t .dimension) k) r e t) x v w → ElementEnded cs′ ps′ hs es′ ms′ w r e k y v t
+        go (told.stopped n u o q z H) = stopped n u o (N .asked ∙ ap askedBy q) z H
+        go (told.went a u o q n H) =
+            let long = K .long in
+            let fits : e * 3 + 2 < length ms = omega (arith, low, long) in
+            let words : ms′ ≡ withAnswer ms e (a .output) = N .words ∙ ap (withReply ms e) q in
+            let later : Knows k ms w u = subst (λ (b : Bool). Knows k ms b u) (sym n) (knows-warned (a .warning) (knows-later good (asked-extends k e a good (F .used) (ranked-cut o)) K)) in
+            let noted : (w || a .warning) ≡ w = ap (λ (b : Bool). b || a .warning) n ∙ noted-now v (a .warning) ∙ sym n in
+            went a u o (N .asked ∙ ap askedBy q) n
+            (record {
+              holds = H;
+              knows = subst (λ (m : List ℕ). Knows k m w u) (sym words) (knows-more k e a good (F .used) (ranked-cut o) w noted low later);
+              known = ap (λ (m : List ℕ). knownAt m e) words ∙ kept-known ms e (a .output) fits;
+              output = ap (λ (m : List ℕ). outputAt m e) words ∙ kept-same ms e (a .output) fits;
+            })
 
-  -- the words say the answer
-  pub replied-answer : {a : ElementAnswer} {x : ElementReply} {y : Asked} {ms ms′ : List ℕ} → length ms ≡ 1536 → ReplyKept ms e x y ms′ → x ≡ reply.Answered a
-      → replyOf y ms′ e ≡ reply.Answered a
-  replied-answer {a} {ms = ms} long N w =
-      let low = le-trans (F .used) (F .holds .fits .elementRoom) in
-      ap₂ (λ (z : Asked) (m : List ℕ). replyOf z m e) (N .asked ∙ ap askedBy w) (N .words ∙ ap (withReply ms e) w) ∙ ap reply.Answered (kept-same ms e a (omega (arith, low, long)))
-
--- and after a refusal
-pub replied-refusal : {e n : ℕ} {x : ElementReply} {y : Asked} {ms ms′ : List ℕ} → ReplyKept ms e x y ms′ → x ≡ reply.Refused n → replyOf y ms′ e ≡ reply.Refused n
-replied-refusal {e} {ms′ = ms′} N w = ap (λ (z : Asked). replyOf z ms′ e) (N .asked ∙ ap askedBy w)
-
-pub kept-stopped : {k : Cutter} {u : Table} {e n : ℕ} {x : ElementReply} {y : Asked} {ms ms′ : List ℕ} → Knows k ms u → x ≡ reply.Refused n → ReplyKept ms e x y ms′ → Knows k ms′ u
-kept-stopped {k} {u} {e} {ms = ms} K w N = subst (λ (m : List ℕ). Knows k m u) (sym (N .words ∙ ap (withReply ms e) w)) K
+  pub kept-still : {ms ms′ : List ℕ} {x : ElementReply} {y : Asked} {v : Bool} → Knows k ms v t → ReplyKept ms e x y ms′ → KnownStill ms ms′
+  kept-still {ms} {x = x} K N =
+      let long = K .long in
+      subst (KnownStill ms) (sym (N .words)) (still-kept ms e x (let z : e * 3 + 2 < length ms = omega (arith, low, long) in z))
 
 -- ---- what the code needs
 
-module _ {cs : List ℕ} {ps : List Float} {es ms : List ℕ} {r e : ℕ} {k : Cutter} where
-  pub ask-ready : {ix : List ℕ} → AskReady cs ps es ix ms r e k → Ready cs ps es r e k
-  ask-ready R = record { planes = R .planes; table = R .table; fit = R .fit }
+module _ {cs : List ℕ} {ps : List Float} {es ms : List ℕ} {s : List (List ℕ)} {r e : ℕ} {k : Cutter} where
+  pub ask-low : {ix : List ℕ} → AskReady cs ps es ix ms s r e k → e < 512
+  ask-low R = low (R .fit)
 
-  pub ask-low : {ix : List ℕ} → AskReady cs ps es ix ms r e k → e < 512
-  ask-low R = le-trans (R .fit .used) (R .fit .holds .fits .elementRoom)
+  pub low-asks : {ix : List ℕ} → LowReady cs ps es ix ms s r e k → LowAsked cs ps es ix r e k s
+  low-asks A = let R = A .ready in record { ready = record { planes = R .planes; table = R .table; fit = R .fit }; low = A .low; indexed = R .indexed; shaped = R .shaped }
 
   -- a known answer is the answer
-  pub known-asked : {ix : List ℕ} (y : Bool) → AskReady cs ps es ix ms r e k → y ≡ knownAt ms e → y ≡ true → ElementAsked cs ps es ms r e k asked.Done cs ps es ix ms
+  pub known-asked : {ix : List ℕ} (y : Bool) → AskReady cs ps es ix ms s r e k → y ≡ knownAt ms e → y ≡ true → ElementAsked cs ps es ms s r e k asked.Done cs ps es ix ms s
   known-asked y R p q = record {
     of = λ hs t F K.
-        held.went (answerAt ms e) t (ap (λ (n : ℕ). cutElement desk (cutOf (t .dimension) k) n e t) (sym (F .ranked)) ∙ K .of e (ask-low R) (sym p ∙ q) .again) refl
-        (record { holds = F .holds; knows = K });
+        (let A = K .of e (ask-low R) (sym p ∙ q) in
+        went (record { output = outputAt ms e; warning = A .warning }) t (ap (λ (n : ℕ). cutElement desk (cutOf (t .dimension) k) n e t) (sym (F .ranked)) ∙ A .again) refl (sym (A .noted))
+        (record { holds = F .holds; knows = K; known = sym p ∙ q; output = refl }));
     indexed = R .indexed;
+    shaped = R .shaped;
+    still = still-refl ms;
   }
 
   -- a vertex element or an edge
-  module _ {x : ElementReply} {cs′ : List ℕ} {ps′ : List Float} {es′ : List ℕ} (C : ElementCut cs ps es r e k x cs′ ps′ es′) where
-    pub low-keep : {ix : List ℕ} → AskReady cs ps es ix ms r e k → KeepReady e x
-    low-keep R = record { low = ask-low R; room = reply-in-room (R .fit) (λ u H. H .fits .elementRoom) (C .of (R .planes) (R .table) (R .fit)) }
+  module _ {x : ElementReply} {cs′ : List ℕ} {ps′ : List Float} {es′ ix′ : List ℕ} {s′ : List (List ℕ)} (C : LowLeft cs ps es r e k s x cs′ ps′ es′ ix′ s′) where
+    pub low-keep : {ix : List ℕ} → AskReady cs ps es ix ms s r e k → KeepReady e x
+    low-keep R = record { low = ask-low R; room = reply-in-room (R .fit) (C .cut .of (R .planes) (R .table) (R .fit)) }
 
-    pub low-asked : {ix′ : List ℕ} {y : Asked} {ms′ : List ℕ} → Indexed es′ (getD cs′ 1 0) ix′ → ReplyKept ms e x y ms′ → ElementAsked cs ps es ms r e k y cs′ ps′ es′ ix′ ms′
-    low-asked {ix′} {y} {ms′} X N = record { of = λ hs t F K. go hs t F K (C .of hs t F); indexed = X }
-      where
-        go : (hs : List Float) (t : Table) → Fit cs ps hs es r e k t → Knows k ms t
-            → Came reply.Answered reply.Refused (Holds desk cs′ ps′ hs es′) t (cutElement desk (cutOf (t .dimension) k) r e t) x
-            → Came reply.Answered reply.Refused (HoldsKnown cs′ ps′ hs es′ ms′ k) t (cutElement desk (cutOf (t .dimension) k) r e t) (replyOf y ms′ e)
-        go hs t F K (held.went a u o w H) =
-            let g = sound-good desk t (F .sound) in
-            held.went a u o (replied-answer F (K .long) N w) (record { holds = H; knows = kept-went F o (knows-later g (asked-extends k e a g (F .used) (ranked-cut F o)) K) w N })
-        go hs t F K (held.stopped n u o w z H) =
-            held.stopped n u o (replied-refusal N w) z (record { holds = H; knows = kept-stopped (knows-later (sound-good desk t (F .sound)) z K) w N })
+    pub low-asked : {ix : List ℕ} → AskReady cs ps es ix ms s r e k → {y : Asked} {ms′ : List ℕ} → ReplyKept ms e x y ms′ → ElementAsked cs ps es ms s r e k y cs′ ps′ es′ ix′ ms′ s′
+    low-asked R N = record {
+      of = λ hs t F K. kept-ended F (C .cut .of hs t F) K N;
+      indexed = C .indexed;
+      shaped = C .shaped;
+      still = kept-still (R .fit) (R .knows) N;
+    }

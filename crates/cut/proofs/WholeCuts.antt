@@ -1,6 +1,7 @@
 -- The whole cut: the hyperplane's step, then the root's; a refusal of either gives back the memory, since all that was done is to append.
 use Prim.Native.Nat.{ℕ, _*_, _<_}
-use mathlib.Core.Path.{_≡_, sym, ap, ap₂, _∙_, subst}
+use mathlib.Core.Bool.{Bool, false}
+use mathlib.Core.Path.{_≡_, refl, sym, ap, ap₂, _∙_, subst}
 use mathlib.Core.List.{List}
 use native.Mathlib.Nat.{le-trans, le-of-eq}
 use native.Mathlib.Omega.{arith}
@@ -15,12 +16,10 @@ use Rattle.rules.specs.Cut.{Outcome, done, next, addPlane, cutElement, cutFinit
 use Rattle.rules.specs.Replies.{dividerOf, paramsOf, asReply, written}
 use Rattle.rules.specs.declared.Hyperplane.{Hyperplane}
 use Rattle.rules.specs.declared.HyperplaneId.{HyperplaneId}
-use Rattle.rules.specs.declared.ElementAnswer.{ElementAnswer}
+use Rattle.rules.specs.declared.ElementCutOutput.{ElementCutOutput}
 use Rattle.rules.specs.declared.CutParams.{CutParams}
 use Rattle.rules.specs.declared.CutReply.{CutReply}
 use Rattle.rules.specs.declared.CutReply.the-variants as public
-use Rattle.gathered.specs.declared.answer.ElementReply.{ElementReply}
-use Rattle.gathered.specs.declared.answer.ElementReply.the-variants as reply
 use Rattle.rules.proofs.Extends.{extends-trans, count-more, begins-length}
 use Rattle.rules.proofs.Good.{Good, sound-good, good-sound}
 use Rattle.rules.proofs.Laws.{le-test}
@@ -36,12 +35,13 @@ use Rattle.space.proofs.Lent.{holds-memory}
 use Rattle.space.proofs.Room.{rank-word}
 use Rattle.space.proofs.RowAdds.{readable-desk}
 use Rattle.space.proofs.Slices.{slices}
+use Rattle.gathered.specs.Sets.{Shaped, warningIn}
 use Rattle.gathered.specs.Cutting.{Fit, cutOf}
 use Rattle.rules.specs.declared.Cutter.{Cutter}
-use Rattle.cut.specs.Known.{HoldsKnown, answerAt, replyOf}
+use Rattle.cut.specs.Known.{outputAt}
 use Rattle.cut.specs.declared.known.Asked.{Asked}
 use Rattle.cut.specs.declared.known.Asked.the-variants as asked
-use Rattle.cut.specs.Rounds.{AskReady, ElementAsked}
+use Rattle.cut.specs.Rounds.{AskReady, ElementAsked, ElementEnded, went, stopped}
 use Rattle.cut.specs.Whole.{CutFit, CutReady, CutTried, WholeCut}
 use Rattle.cut.proofs.StaysKnown.{knows-nothing}
 
@@ -82,22 +82,29 @@ module _ {cs : List ℕ} {ps hs : List Float} {es : List ℕ} {h : Hyperplane} {
   pub rank-asked : {ix : List ℕ} → CutReady cs ps hs es ix h root → ElementReady es root
   rank-asked R = record { elements = slices (R .fit .holds) .elements; room = root-low R }
 
+-- the room before anything was asked
+abbrev pub blankRoom : List (List ℕ)
+blankRoom = replicate 4 (replicate 34 0)
+
+blank-shaped : Shaped blankRoom
+blank-shaped = record { four = refl; tally = refl; inside = refl; outside = refl; intersections = refl }
+
 module _ (p : CutParams) {cs : List ℕ} {ps hs : List Float} {es : List ℕ} {root : ℕ} where
   module _ {x : PlacedHyperplane} {cs₁ : List ℕ} {hs₁ : List Float} (P : HyperplaneAdded cs hs (p .divider) x cs₁ hs₁) where
     added : {t : Table} → CutFit cs ps hs es (p .divider) root t → Added ps es (p .divider) x cs₁ hs₁ t
     added {t} F = P .of ps es t (dividerOf (t .dimension) (p .divider)) (F .holds) (F .sound) (F .row) (F .plane)
 
     -- no room for the hyperplane
-    pub plane-refused : (n : ℕ) → x ≡ hyperplane.Refused n → CutTried cs ps hs es p root (reply.Refused n) cs₁ ps hs₁ es
+    pub plane-refused : (n : ℕ) → x ≡ hyperplane.Refused n → CutTried cs ps hs es p root (public.Refused n) cs₁ ps hs₁ es
     plane-refused n q = record { of = λ t F. go t (added F) }
       where
-        go : (t : Table) → Added ps es (p .divider) x cs₁ hs₁ t → Came reply.Answered reply.Refused (Holds desk cs₁ ps hs₁ es) t (cutFinite desk (paramsOf (t .dimension) p) root t) (reply.Refused n)
+        go : (t : Table) → Added ps es (p .divider) x cs₁ hs₁ t → Came asReply public.Refused (Holds desk cs₁ ps hs₁ es) t (cutFinite desk (paramsOf (t .dimension) p) root t) (public.Refused n)
         go t (held.went j u m w H) = let z : _≡_ {A = ℕ} 0 1 = cc in absurd (omega arith)
         go t (held.stopped j u m w y H) =
             let z : n ≡ j = cc in
             held.stopped j u
             (ap (λ (q′ : Outcome ℕ). next q′ (λ v l. cutElement desk (record { params = paramsOf (t .dimension) p; number = v }) (rank l root) root l)) m)
-            (ap reply.Refused z) y H
+            (ap public.Refused z) y H
 
     -- the hyperplane's number is known
     module _ (v : HyperplaneId) (q : x ≡ hyperplane.At v) where
@@ -135,38 +142,42 @@ module _ (p : CutParams) {cs : List ℕ} {ps hs : List Float} {es : List ℕ} {r
             ∙ sym (slices (A .holds) .elementCount)
 
         -- nothing is known yet
-        pub root-ready : {ix : List ℕ} → CutReady cs ps hs es ix (p .divider) root → AskReady cs₁ ps es ix (replicate 1536 0) r root (cutter p v)
+        pub root-ready : {ix : List ℕ} → CutReady cs ps hs es ix (p .divider) root → AskReady cs₁ ps es ix (replicate 1536 0) blankRoom r root (cutter p v)
         root-ready R = record {
           planes = hs₁;
           table = named (R .fit) .table;
           fit = root-fit (R .fit);
-          knows = knows-nothing (cutter p v) (named (R .fit) .table);
+          knows = knows-nothing (cutter p v) (warningIn blankRoom) (named (R .fit) .table);
           indexed = index-count _ _ _ _ (count-same R) (R .indexed);
+          shaped = blank-shaped;
         }
 
-        pub root-cut : {x : Asked} {cs₂ : List ℕ} {ps₂ : List Float} {es₂ ix₂ ms₂ : List ℕ} → ElementAsked cs₁ ps es (replicate 1536 0) r root (cutter p v) x cs₂ ps₂ es₂ ix₂ ms₂
-            → (y : ElementReply) → replyOf x ms₂ root ≡ y → CutTried cs ps hs es p root y cs₂ ps₂ hs₁ es₂
-        root-cut {x} {cs₂} {ps₂} {es₂} {ix₂} {ms₂} C y told = record { of = λ t F. go t F (C .of hs₁ (named F .table) (root-fit F) (knows-nothing (cutter p v) (named F .table))) }
-          where
-            steps : (t : Table) (F : CutFit cs ps hs es (p .divider) root t)
-                → cutFinite desk (paramsOf (t .dimension) p) root t ≡ cutElement desk (cutOf (named F .table .dimension) (cutter p v)) r root (named F .table)
-            steps t F =
-                ap (λ (q′ : Outcome ℕ). next q′ (λ n l. cutElement desk (record { params = paramsOf (t .dimension) p; number = n }) (rank l root) root l)) (named F .ended)
-                ∙ ap₂ (λ (d n : ℕ). cutElement desk (cutOf d (cutter p v)) n root (named F .table)) (sym (named F .extends .dimension)) (root-fit F .ranked)
+        -- how the cut of the root ended is the reply
+        module _ {y : Asked} {cs₂ : List ℕ} {ps₂ : List Float} {es₂ ix₂ ms₂ : List ℕ} {s₂ : List (List ℕ)} (C : ElementAsked cs₁ ps es (replicate 1536 0) blankRoom r root (cutter p v) y cs₂ ps₂ es₂ ix₂ ms₂ s₂) where
+          root-ended : {t : Table} (F : CutFit cs ps hs es (p .divider) root t) → ElementEnded cs₂ ps₂ hs₁ es₂ ms₂ (warningIn s₂) r root (cutter p v) y false (named F .table)
+          root-ended F = C .of hs₁ (named F .table) (root-fit F) (knows-nothing (cutter p v) (warningIn blankRoom) (named F .table))
 
-            go : (t : Table) (F : CutFit cs ps hs es (p .divider) root t)
-                → Came reply.Answered reply.Refused (HoldsKnown cs₂ ps₂ hs₁ es₂ ms₂ (cutter p v)) (named F .table)
-                (cutElement desk (cutOf (named F .table .dimension) (cutter p v)) r root (named F .table)) (replyOf x ms₂ root)
-                → Came reply.Answered reply.Refused (Holds desk cs₂ ps₂ hs₁ es₂) t (cutFinite desk (paramsOf (t .dimension) p) root t) y
-            go t F (held.went a u m w H) = held.went a u (steps t F ∙ m) (sym told ∙ w) (H .holds)
-            go t F (held.stopped j u m w z H) = held.stopped j u (steps t F ∙ m) (sym told ∙ w) (extends-trans (named F .extends) z) (H .holds)
+          steps : {t : Table} (F : CutFit cs ps hs es (p .divider) root t)
+              → cutFinite desk (paramsOf (t .dimension) p) root t ≡ cutElement desk (cutOf (named F .table .dimension) (cutter p v)) r root (named F .table)
+          steps {t} F =
+              ap (λ (q′ : Outcome ℕ). next q′ (λ n l. cutElement desk (record { params = paramsOf (t .dimension) p; number = n }) (rank l root) root l)) (named F .ended)
+              ∙ ap₂ (λ (d n : ℕ). cutElement desk (cutOf d (cutter p v)) n root (named F .table)) (sym (named F .extends .dimension)) (root-fit F .ranked)
 
--- the reply, by how asking ended
-pub root-refused : {x : Asked} {n : ℕ} (ms : List ℕ) (root : ℕ) → x ≡ asked.Refused n → replyOf x ms root ≡ reply.Refused n
-root-refused ms root q = ap (λ (y : Asked). replyOf y ms root) q
+          pub root-refused : (n : ℕ) → y ≡ asked.Refused n → CutTried cs ps hs es p root (public.Refused n) cs₂ ps₂ hs₁ es₂
+          root-refused n ended = record { of = λ t F. go t F (root-ended F) }
+            where
+              go : (t : Table) (F : CutFit cs ps hs es (p .divider) root t) → ElementEnded cs₂ ps₂ hs₁ es₂ ms₂ (warningIn s₂) r root (cutter p v) y false (named F .table)
+                  → Came asReply public.Refused (Holds desk cs₂ ps₂ hs₁ es₂) t (cutFinite desk (paramsOf (t .dimension) p) root t) (public.Refused n)
+              go t F (went a u m d w H) = let z : _≡_ {A = ℕ} 0 1 = cc in absurd (omega arith)
+              go t F (stopped j u m d z H) = let e : n ≡ j = cc in held.stopped j u (steps F ∙ m) (ap public.Refused e) (extends-trans (named F .extends) z) H
 
-pub root-answered : {x : Asked} {a : ElementAnswer} (ms : List ℕ) (root : ℕ) → x ≡ asked.Done → a ≡ answerAt ms root → replyOf x ms root ≡ reply.Answered a
-root-answered ms root q told = ap (λ (y : Asked). replyOf y ms root) q ∙ ap reply.Answered (sym told)
+          pub root-answered : y ≡ asked.Done → (o : ElementCutOutput) (w : Bool) → o ≡ outputAt ms₂ root → w ≡ warningIn s₂ → CutTried cs ps hs es p root (public.Answered o w) cs₂ ps₂ hs₁ es₂
+          root-answered ended o w told warned = record { of = λ t F. go t F (root-ended F) }
+            where
+              go : (t : Table) (F : CutFit cs ps hs es (p .divider) root t) → ElementEnded cs₂ ps₂ hs₁ es₂ ms₂ (warningIn s₂) r root (cutter p v) y false (named F .table)
+                  → Came asReply public.Refused (Holds desk cs₂ ps₂ hs₁ es₂) t (cutFinite desk (paramsOf (t .dimension) p) root t) (public.Answered o w)
+              go t F (stopped j u m d z H) = let e : _≡_ {A = ℕ} 0 1 = cc in absurd (omega arith)
+              go t F (went a u m d n H) = held.went a u (steps F ∙ m) (λ l. public.Answered ((told ∙ H .output) l) ((warned ∙ n) l)) (H .holds)
 
 -- ---- the memory given back
 
@@ -192,22 +203,20 @@ restore-asks {t = t} {u} H₀ X H =
       planeRoom = b .planesFit;
     }
 
-module _ {cs : List ℕ} {ps hs : List Float} {es : List ℕ} {p : CutParams} {root : ℕ} {y : ElementReply} {cs₁ : List ℕ} {ps₁ hs₁ : List Float} {es₁ : List ℕ}
+module _ {cs : List ℕ} {ps hs : List Float} {es : List ℕ} {p : CutParams} {root : ℕ} {y : CutReply} {cs₁ : List ℕ} {ps₁ hs₁ : List Float} {es₁ : List ℕ}
     (T : CutTried cs ps hs es p root y cs₁ ps₁ hs₁ es₁) where
   abbrev Tried : Table → Type 0
-  Tried t = Came reply.Answered reply.Refused (Holds desk cs₁ ps₁ hs₁ es₁) t (cutFinite desk (paramsOf (t .dimension) p) root t) y
+  Tried t = Came asReply public.Refused (Holds desk cs₁ ps₁ hs₁ es₁) t (cutFinite desk (paramsOf (t .dimension) p) root t) y
 
-  pub whole-done : (a : ElementAnswer) → y ≡ reply.Answered a → WholeCut cs ps hs es p root (asReply a) cs₁ ps₁ hs₁ es₁
-  whole-done a w = record { of = λ t F. go t (T .of t F) }
+  pub whole-done : (o : ElementCutOutput) (v : Bool) → y ≡ public.Answered o v → WholeCut cs ps hs es p root (public.Answered o v) cs₁ ps₁ hs₁ es₁
+  whole-done o v w = record { of = λ t F. go t (T .of t F) }
     where
       go : (t : Table) → Tried t
-          → _≡_ {A = CutReply × Memory} (asReply a, memoryOf cs₁ ps₁ hs₁ es₁) (written desk (memoryOf cs ps hs es) (cutFinite desk (paramsOf (t .dimension) p) root t))
+          → _≡_ {A = CutReply × Memory} (public.Answered o v, memoryOf cs₁ ps₁ hs₁ es₁) (written desk (memoryOf cs ps hs es) (cutFinite desk (paramsOf (t .dimension) p) root t))
       go t (held.stopped j u m w′ z H) = let e : _≡_ {A = ℕ} 0 1 = cc in absurd (omega arith)
-      go t (held.went b u m w′ H) =
-          let e : a ≡ b = cc in
-          (λ l. (asReply (e l), holds-memory desk readable-desk H l)) ∙ sym (ap (written desk (memoryOf cs ps hs es)) m)
+      go t (held.went b u m w′ H) = (λ l. ((sym w ∙ w′) l, holds-memory desk readable-desk H l)) ∙ sym (ap (written desk (memoryOf cs ps hs es)) m)
 
-  module _ (n : ℕ) (w : y ≡ reply.Refused n) where
+  module _ (n : ℕ) (w : y ≡ public.Refused n) where
     pub whole-asks : {ix : List ℕ} → CutReady cs ps hs es ix (p .divider) root → RestoreAsks cs cs₁ ps₁ hs₁ es₁
     whole-asks R = go (T .of (R .table) (R .fit))
       where

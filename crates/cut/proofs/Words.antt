@@ -1,10 +1,11 @@
 -- The words of what a cut knows: what is kept of an element is read back, and the words of the others stay.
-use Prim.Native.Nat.{ℕ, zero, suc, _+_, _-_, _*_, _/_, _%_, _<_}
+use Prim.Native.Nat.{ℕ, zero, suc, _+_, _-_, _*_, _<_}
 use mathlib.Core.Path.{_≡_, refl, sym, ap, _∙_, subst}
-use mathlib.Core.Bool.{Bool, true, false}
+use mathlib.Core.Bool.{true, false}
 use mathlib.Core.List.{List}
 use native.Mathlib.Omega.{arith}
-use lib.Dec.{ltb, eqb}
+use borrow.Author.Tests.{lt-ltb}
+use lib.Dec.{ltb, lit≤}
 use lib.ListN.{length, getD, set, length-set, replicate, getD-replicate}
 use lib.Seq.{getD-set-same, getD-set-other}
 use Rattle.rules.specs.declared.ElementOrNone.{ElementOrNone}
@@ -12,11 +13,10 @@ use Rattle.rules.specs.declared.ElementOrNone.the-variants.{None, Some}
 use Rattle.rules.specs.declared.ElementCutOutput.{ElementCutOutput}
 use Rattle.rules.specs.declared.ElementCutOutput.the-variants.{Flush, NonFlush}
 use Rattle.rules.specs.declared.ElementId.{ElementId}
-use Rattle.rules.specs.declared.ElementAnswer.{ElementAnswer}
 use Rattle.gathered.specs.declared.answer.ElementReply.{ElementReply}
 use Rattle.gathered.specs.declared.answer.ElementReply.the-variants as reply
-use Rattle.gathered.specs.Sets.{InRoom, SidesInRoom, OutputInRoom}
-use Rattle.cut.specs.Known.{wordOf, someOf, thirdWord, outputOf, knownAt, answerAt, threeAt, withOutput, withAnswer, withReply, ReplyInRoom, askedBy}
+use Rattle.gathered.specs.Sets.{SidesInRoom, OutputInRoom}
+use Rattle.cut.specs.Known.{wordOf, someOf, outputOf, knownAt, outputAt, threeAt, withAnswer, withReply, ReplyInRoom, askedBy}
 use Rattle.cut.specs.declared.known.Asked.the-variants as asked
 
 -- ---- a word and its element
@@ -47,15 +47,15 @@ sides-of : (a b c : ℕ) → 0 < b → NonFlush (someOf a) (someOf b) (someOf c)
 sides-of a zero c q = absurd (omega arith)
 sides-of a (suc b) c q = refl
 
-pub answer-flush : (ms : List ℕ) (e : ℕ) (w : Bool) → getD ms (e * 3 + 1) 0 ≡ 0 → w ≡ eqb (getD ms (e * 3 + 2) 0 % 2) 1 → record { output = Flush; warning = w } ≡ answerAt ms e
-unfolding answerAt
-answer-flush ms e w q h = λ l. record { output = flush-of (getD ms (e * 3) 0) (getD ms (e * 3 + 1) 0) (getD ms (e * 3 + 2) 0 / 2) q l; warning = h l }
+pub output-flush : (ms : List ℕ) (e : ℕ) → getD ms (e * 3 + 1) 0 ≡ 0 → Flush ≡ outputAt ms e
+unfolding outputAt
+output-flush ms e q = flush-of (getD ms (e * 3) 0) (getD ms (e * 3 + 1) 0) (getD ms (e * 3 + 2) 0) q
 
-pub answer-sides : (ms : List ℕ) (e : ℕ) (w : Bool) (i o x : ElementOrNone) → 0 < getD ms (e * 3 + 1) 0 → w ≡ eqb (getD ms (e * 3 + 2) 0 % 2) 1
-    → i ≡ someOf (getD ms (e * 3) 0) → o ≡ someOf (getD ms (e * 3 + 1) 0) → x ≡ someOf (getD ms (e * 3 + 2) 0 / 2) → record { output = NonFlush i o x; warning = w } ≡ answerAt ms e
-unfolding answerAt
-answer-sides ms e w i o x q h hi ho hx =
-    λ l. record { output = ((λ m. NonFlush (hi m) (ho m) (hx m)) ∙ sides-of (getD ms (e * 3) 0) (getD ms (e * 3 + 1) 0) (getD ms (e * 3 + 2) 0 / 2) q) l; warning = h l }
+pub output-sides : (ms : List ℕ) (e : ℕ) (i o x : ElementOrNone) → 0 < getD ms (e * 3 + 1) 0
+    → i ≡ someOf (getD ms (e * 3) 0) → o ≡ someOf (getD ms (e * 3 + 1) 0) → x ≡ someOf (getD ms (e * 3 + 2) 0) → NonFlush i o x ≡ outputAt ms e
+unfolding outputAt
+output-sides ms e i o x q hi ho hx =
+    (λ l. NonFlush (hi l) (ho l) (hx l)) ∙ sides-of (getD ms (e * 3) 0) (getD ms (e * 3 + 1) 0) (getD ms (e * 3 + 2) 0) q
 
 -- ---- nothing is kept yet
 
@@ -64,10 +64,6 @@ unfolding knownAt
 zeros-unknown e h = ap (ltb 0) (getD-replicate {A = ℕ} 1536 (e * 3) 0 0 (omega arith))
 
 -- ---- three words are written
-
--- what they say
-abbrev answerOf : ℕ → ℕ → ℕ → ElementAnswer
-answerOf a b c = record { output = outputOf a b (c / 2); warning = eqb (c % 2) 1 }
 
 module _ (ms : List ℕ) (e a b c : ℕ) where
   pub three-long : length (threeAt ms e a b c) ≡ length ms
@@ -86,16 +82,16 @@ module _ (ms : List ℕ) (e a b c : ℕ) where
   unfolding knownAt
   three-other-known j n = ap (ltb 0) (other-word (j * 3) (λ q. n (omega arith)) (λ q. absurd (omega arith)) (λ q. absurd (omega arith)))
 
-  pub three-other : (j : ℕ) → (j ≡ e → ⊥) → answerAt (threeAt ms e a b c) j ≡ answerAt ms j
-  unfolding answerAt
-  three-other j n = λ l. answerOf
+  pub three-other : (j : ℕ) → (j ≡ e → ⊥) → outputAt (threeAt ms e a b c) j ≡ outputAt ms j
+  unfolding outputAt
+  three-other j n = λ l. outputOf
       (other-word (j * 3) (λ q. n (omega arith)) (λ q. absurd (omega arith)) (λ q. absurd (omega arith)) l)
       (other-word (j * 3 + 1) (λ q. absurd (omega arith)) (λ q. n (omega arith)) (λ q. absurd (omega arith)) l)
       (other-word (j * 3 + 2) (λ q. absurd (omega arith)) (λ q. absurd (omega arith)) (λ q. n (omega arith)) l)
 
-  pub three-same : e * 3 + 2 < length ms → answerAt (threeAt ms e a b c) e ≡ answerOf a b c
-  unfolding answerAt threeAt
-  three-same h = λ l. answerOf (first l) (second l) (third l)
+  pub three-same : e * 3 + 2 < length ms → outputAt (threeAt ms e a b c) e ≡ outputOf a b c
+  unfolding outputAt threeAt
+  three-same h = λ l. outputOf (first l) (second l) (third l)
     where
       m₁ : List ℕ
       m₁ = set ms (e * 3) a
@@ -120,101 +116,71 @@ module _ (ms : List ℕ) (e a b c : ℕ) where
       third : getD (set m₂ (e * 3 + 2) c) (e * 3 + 2) 0 ≡ c
       third = getD-set-same m₂ (e * 3 + 2) c 0 (omega (arith, long₂))
 
+  pub three-known : 0 < a → e * 3 + 2 < length ms → knownAt (threeAt ms e a b c) e ≡ true
+  unfolding knownAt threeAt
+  three-known h l =
+      ap (ltb 0)
+      (getD-set-other (set (set ms (e * 3) a) (e * 3 + 1) b) (e * 3 + 2) (e * 3) c 0 (λ q. omega arith) ∙ getD-set-other (set ms (e * 3) a) (e * 3 + 1) (e * 3) b 0 (λ q. omega arith)
+      ∙ getD-set-same ms (e * 3) a 0 (omega arith))
+      ∙ lt-ltb 0 a h
+
 -- ---- an answer is kept
 
 some-word : (x : ElementOrNone) → someOf (wordOf x) ≡ x
 some-word None = refl
 some-word (Some e) = refl
 
+word-above : (x : ElementOrNone) → 0 < wordOf x
+word-above None = omega arith
+word-above (Some e) = omega arith
+
 word-output : (i o x : ElementOrNone) → outputOf (wordOf i) (wordOf o) (wordOf x) ≡ NonFlush i o x
-word-output i o x = sym (sides-of (wordOf i) (wordOf o) (wordOf x) (above o)) ∙ (λ l. NonFlush (some-word i l) (some-word o l) (some-word x l))
-  where
-    above : (y : ElementOrNone) → 0 < wordOf y
-    above None = omega arith
-    above (Some d) = omega arith
-
--- the third word, as it is made
-pub third-on : (n : ℕ) (w : Bool) → w ≡ true → n * 2 + 1 ≡ thirdWord n w
-third-on n w on = sym (ap (thirdWord n) on)
-
-pub third-off : (n : ℕ) (w : Bool) → w ≡ false → n * 2 ≡ thirdWord n w
-third-off n w off = (let z : n * 2 ≡ thirdWord n false = omega arith in z) ∙ sym (ap (thirdWord n) off)
-
--- and read back
-third-place : (n : ℕ) (w : Bool) → thirdWord n w / 2 ≡ n
-third-place n true = omega arith
-third-place n false = omega arith
-
-third-warning : (n : ℕ) (w : Bool) → eqb (thirdWord n w % 2) 1 ≡ w
-third-warning n true = ap (λ (m : ℕ). eqb m 1) (let z : thirdWord n true % 2 ≡ 1 = omega arith in z)
-third-warning n false = ap (λ (m : ℕ). eqb m 1) (let z : thirdWord n false % 2 ≡ 0 = omega arith in z)
-
-third-said : (a b n : ℕ) (w : Bool) → answerOf a b (thirdWord n w) ≡ record { output = outputOf a b n; warning = w }
-third-said a b n w = λ l. record { output = outputOf a b (third-place n w l); warning = third-warning n w l }
+word-output i o x = sym (sides-of (wordOf i) (wordOf o) (wordOf x) (word-above o)) ∙ (λ l. NonFlush (some-word i l) (some-word o l) (some-word x l))
 
 module _ (ms : List ℕ) (e : ℕ) where
-  pub kept-long : (a : ElementAnswer) → length (withAnswer ms e a) ≡ length ms
-  kept-long a = go (a .output)
-    where
-      go : (x : ElementCutOutput) → length (withOutput ms e x (a .warning)) ≡ length ms
-      go Flush = three-long ms e 1 0 (thirdWord 0 (a .warning))
-      go (NonFlush i o x) = three-long ms e (wordOf i) (wordOf o) (thirdWord (wordOf x) (a .warning))
+  pub kept-long : (a : ElementCutOutput) → length (withAnswer ms e a) ≡ length ms
+  kept-long Flush = three-long ms e 1 0 0
+  kept-long (NonFlush i o x) = three-long ms e (wordOf i) (wordOf o) (wordOf x)
 
-  pub kept-same : (a : ElementAnswer) → e * 3 + 2 < length ms → answerAt (withAnswer ms e a) e ≡ a
-  kept-same a h = go (a .output)
-    where
-      go : (x : ElementCutOutput) → answerAt (withOutput ms e x (a .warning)) e ≡ record { output = x; warning = a .warning }
-      go Flush = three-same ms e 1 0 (thirdWord 0 (a .warning)) h ∙ third-said 1 0 0 (a .warning)
-      go (NonFlush i o x) =
-          three-same ms e (wordOf i) (wordOf o) (thirdWord (wordOf x) (a .warning)) h ∙ third-said (wordOf i) (wordOf o) (wordOf x) (a .warning)
-          ∙ ap (λ (y : ElementCutOutput). record { output = y; warning = a .warning }) (word-output i o x)
+  pub kept-same : (a : ElementCutOutput) → e * 3 + 2 < length ms → outputAt (withAnswer ms e a) e ≡ a
+  kept-same Flush h = three-same ms e 1 0 0 h
+  kept-same (NonFlush i o x) h = three-same ms e (wordOf i) (wordOf o) (wordOf x) h ∙ word-output i o x
 
-  pub kept-other-known : (a : ElementAnswer) (j : ℕ) → (j ≡ e → ⊥) → knownAt (withAnswer ms e a) j ≡ knownAt ms j
-  kept-other-known a j n = go (a .output)
-    where
-      go : (x : ElementCutOutput) → knownAt (withOutput ms e x (a .warning)) j ≡ knownAt ms j
-      go Flush = three-other-known ms e 1 0 (thirdWord 0 (a .warning)) j n
-      go (NonFlush i o x) = three-other-known ms e (wordOf i) (wordOf o) (thirdWord (wordOf x) (a .warning)) j n
+  pub kept-other-known : (a : ElementCutOutput) (j : ℕ) → (j ≡ e → ⊥) → knownAt (withAnswer ms e a) j ≡ knownAt ms j
+  kept-other-known Flush j n = three-other-known ms e 1 0 0 j n
+  kept-other-known (NonFlush i o x) j n = three-other-known ms e (wordOf i) (wordOf o) (wordOf x) j n
 
-  pub kept-other : (a : ElementAnswer) (j : ℕ) → (j ≡ e → ⊥) → answerAt (withAnswer ms e a) j ≡ answerAt ms j
-  kept-other a j n = go (a .output)
-    where
-      go : (x : ElementCutOutput) → answerAt (withOutput ms e x (a .warning)) j ≡ answerAt ms j
-      go Flush = three-other ms e 1 0 (thirdWord 0 (a .warning)) j n
-      go (NonFlush i o x) = three-other ms e (wordOf i) (wordOf o) (thirdWord (wordOf x) (a .warning)) j n
+  pub kept-other : (a : ElementCutOutput) (j : ℕ) → (j ≡ e → ⊥) → outputAt (withAnswer ms e a) j ≡ outputAt ms j
+  kept-other Flush j n = three-other ms e 1 0 0 j n
+  kept-other (NonFlush i o x) j n = three-other ms e (wordOf i) (wordOf o) (wordOf x) j n
+
+  pub kept-known : (a : ElementCutOutput) → e * 3 + 2 < length ms → knownAt (withAnswer ms e a) e ≡ true
+  kept-known Flush h = three-known ms e 1 0 0 (lit≤ tt) h
+  kept-known (NonFlush i o x) h = three-known ms e (wordOf i) (wordOf o) (wordOf x) (word-above i) h
 
   -- a reply, by what it is
   pub reply-refused : (x : ElementReply) (n : ℕ) → x ≡ reply.Refused n → ms ≡ withReply ms e x
   reply-refused x n q = ap (withReply ms e) (sym q)
 
-  pub reply-answered : (x : ElementReply) (a : ElementAnswer) (ms′ : List ℕ) → x ≡ reply.Answered a → ms′ ≡ withAnswer ms e a → ms′ ≡ withReply ms e x
+  pub reply-answered : (x : ElementReply) (a : ElementCutOutput) (ms′ : List ℕ) → x ≡ reply.Answered a → ms′ ≡ withAnswer ms e a → ms′ ≡ withReply ms e x
   reply-answered x a ms′ q h = h ∙ ap (withReply ms e) (sym q)
 
   -- the words of an answer, by what it is
-  pub answer-flush-kept : (x : ElementCutOutput) (v : Bool) (w : ℕ) (ms′ : List ℕ) → x ≡ Flush → w ≡ thirdWord 0 v → ms′ ≡ threeAt ms e 1 0 w → ms′ ≡ withOutput ms e x v
-  answer-flush-kept x v w ms′ p hw h = h ∙ ap (threeAt ms e 1 0) hw ∙ ap (λ (y : ElementCutOutput). withOutput ms e y v) (sym p)
+  pub answer-flush-kept : (a : ElementCutOutput) (ms′ : List ℕ) → a ≡ Flush → ms′ ≡ threeAt ms e 1 0 0 → ms′ ≡ withAnswer ms e a
+  answer-flush-kept a ms′ p h = h ∙ ap (withAnswer ms e) (sym p)
 
-  pub answer-sides-kept : (x : ElementCutOutput) (v : Bool) (i o y : ElementOrNone) (a b c w : ℕ) (ms′ : List ℕ) → x ≡ NonFlush i o y
-      → a ≡ wordOf i → b ≡ wordOf o → c ≡ wordOf y → w ≡ thirdWord c v → ms′ ≡ threeAt ms e a b w → ms′ ≡ withOutput ms e x v
-  answer-sides-kept x v i o y a b c w ms′ p ha hb hc hw h =
-      h ∙ (λ l. threeAt ms e (ha l) (hb l) ((hw ∙ ap (λ (n : ℕ). thirdWord n v) hc) l)) ∙ ap (λ (z : ElementCutOutput). withOutput ms e z v) (sym p)
-
--- the word of the third place leaves room for the warning
-pub third-low : {i o x : ElementOrNone} (n : ℕ) → n ≡ wordOf x → SidesInRoom i o x → n < 1024
-third-low {x = x} n q h = go x q (h .intersection)
-  where
-    go : (y : ElementOrNone) → n ≡ wordOf y → InRoom y → n < 1024
-    go None p l = omega (arith, p)
-    go (Some e) p l = omega (arith, p, l)
+  pub answer-sides-kept : (a : ElementCutOutput) (i o y : ElementOrNone) (u v w : ℕ) (ms′ : List ℕ) → a ≡ NonFlush i o y → u ≡ wordOf i → v ≡ wordOf o → w ≡ wordOf y
+      → ms′ ≡ threeAt ms e u v w → ms′ ≡ withAnswer ms e a
+  answer-sides-kept a i o y u v w ms′ p hu hv hw h = h ∙ (λ l. threeAt ms e (hu l) (hv l) (hw l)) ∙ ap (withAnswer ms e) (sym p)
 
 -- whether it was answered, by what it is
 pub asked-refused : (x : ElementReply) (n : ℕ) → x ≡ reply.Refused n → asked.Refused n ≡ askedBy x
 asked-refused x n q = ap askedBy (sym q)
 
-pub asked-done : (x : ElementReply) (a : ElementAnswer) → x ≡ reply.Answered a → asked.Done ≡ askedBy x
+pub asked-done : (x : ElementReply) (a : ElementCutOutput) → x ≡ reply.Answered a → asked.Done ≡ askedBy x
 asked-done x a q = ap askedBy (sym q)
 
-pub reply-room : (x : ElementReply) (a : ElementAnswer) → x ≡ reply.Answered a → ReplyInRoom x → OutputInRoom (a .output)
+pub reply-room : (x : ElementReply) (a : ElementCutOutput) → x ≡ reply.Answered a → ReplyInRoom x → OutputInRoom a
 reply-room x a q h = subst ReplyInRoom q h
 
 pub sides-room : (x : ElementCutOutput) (i o y : ElementOrNone) → x ≡ NonFlush i o y → OutputInRoom x → SidesInRoom i o y

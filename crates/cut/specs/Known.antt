@@ -1,20 +1,17 @@
 -- What a cut remembers: the words of the answers given so far, and when they are true of a table. Definitions only.
-use Prim.Native.Nat.{ℕ, zero, suc, _+_, _*_, _/_, _%_, _<_}
+use Prim.Native.Nat.{ℕ, zero, suc, _+_, _*_, _<_}
 use mathlib.Core.Path.{_≡_}
-use mathlib.Core.Bool.{Bool, true, cond}
+use mathlib.Core.Bool.{Bool, true, _||_}
 use mathlib.Core.List.{List}
-use lib.Dec.{ltb, eqb}
+use lib.Dec.{ltb}
 use lib.ListN.{length, getD, set}
-use lib.Ieee.{Float}
 use Rattle.rules.specs.Limits.{desk}
 use Rattle.rules.specs.Table.{Table, rank, elementCount}
-use Rattle.rules.specs.Held.{Holds}
 use Rattle.rules.specs.Cut.{done, given, cutElement}
 use Rattle.rules.specs.declared.ElementOrNone.{ElementOrNone}
 use Rattle.rules.specs.declared.ElementOrNone.the-variants.{None, Some}
 use Rattle.rules.specs.declared.ElementCutOutput.{ElementCutOutput}
 use Rattle.rules.specs.declared.ElementCutOutput.the-variants.{Flush, NonFlush}
-use Rattle.rules.specs.declared.ElementAnswer.{ElementAnswer}
 use Rattle.gathered.specs.declared.answer.ElementReply.{ElementReply}
 use Rattle.gathered.specs.declared.answer.ElementReply.the-variants as reply
 use Rattle.gathered.specs.Sets.{OutputInRoom}
@@ -36,10 +33,6 @@ someOf zero = None
 someOf (suc zero) = None
 someOf (suc (suc e)) = given e
 
--- the third place and the warning, in one word
-abbrev pub thirdWord : ℕ → Bool → ℕ
-thirdWord n w = n * 2 + cond w 1 0
-
 -- what three words say: a second word of 0 is flush
 abbrev pub outputOf : ℕ → ℕ → ℕ → ElementCutOutput
 outputOf a zero c = Flush
@@ -50,24 +43,17 @@ unfoldable pub knownAt : List ℕ → ℕ → Bool
 knownAt ms e = ltb 0 (getD ms (e * 3) 0)
 
 -- what it answered
-unfoldable pub answerAt : List ℕ → ℕ → ElementAnswer
-answerAt ms e = record {
-  output = outputOf (getD ms (e * 3) 0) (getD ms (e * 3 + 1) 0) (getD ms (e * 3 + 2) 0 / 2);
-  warning = eqb (getD ms (e * 3 + 2) 0 % 2) 1;
-}
+unfoldable pub outputAt : List ℕ → ℕ → ElementCutOutput
+outputAt ms e = outputOf (getD ms (e * 3) 0) (getD ms (e * 3 + 1) 0) (getD ms (e * 3 + 2) 0)
 
 -- the three words of element e are a, b and c
 unfoldable pub threeAt : List ℕ → ℕ → ℕ → ℕ → ℕ → List ℕ
 threeAt ms e a b c = set (set (set ms (e * 3) a) (e * 3 + 1) b) (e * 3 + 2) c
 
--- the output of element e is kept, with a warning
-abbrev pub withOutput : List ℕ → ℕ → ElementCutOutput → Bool → List ℕ
-withOutput ms e Flush w = threeAt ms e 1 0 (thirdWord 0 w)
-withOutput ms e (NonFlush i o x) w = threeAt ms e (wordOf i) (wordOf o) (thirdWord (wordOf x) w)
-
--- its answer is
-abbrev pub withAnswer : List ℕ → ℕ → ElementAnswer → List ℕ
-withAnswer ms e a = withOutput ms e (a .output) (a .warning)
+-- the answer of element e is kept
+abbrev pub withAnswer : List ℕ → ℕ → ElementCutOutput → List ℕ
+withAnswer ms e Flush = threeAt ms e 1 0 0
+withAnswer ms e (NonFlush i o x) = threeAt ms e (wordOf i) (wordOf o) (wordOf x)
 
 -- a refusal is not kept
 abbrev pub withReply : List ℕ → ℕ → ElementReply → List ℕ
@@ -77,9 +63,9 @@ withReply ms e (reply.Answered a) = withAnswer ms e a
 -- the elements that a reply names are within the room
 abbrev pub ReplyInRoom : ElementReply → Type 0
 ReplyInRoom (reply.Refused n) = Unit {0}
-ReplyInRoom (reply.Answered a) = OutputInRoom (a .output)
+ReplyInRoom (reply.Answered a) = OutputInRoom a
 
--- ---- a reply whose answer is in the words
+-- ---- a reply, kept in the words
 
 -- how asking ended: an answer is left out
 abbrev pub askedBy : ElementReply → Asked
@@ -87,9 +73,9 @@ askedBy (reply.Refused n) = asked.Refused n
 askedBy (reply.Answered a) = asked.Done
 
 -- what keeping an answer asks
-pub record AnswerReady (e : ℕ) (a : ElementAnswer) : Type 0 where
+pub record AnswerReady (e : ℕ) (a : ElementCutOutput) : Type 0 where
   pub low : e < 512
-  pub room : OutputInRoom (a .output)
+  pub room : OutputInRoom a
 
 -- what keeping a reply to element e asks
 pub record KeepReady (e : ℕ) (x : ElementReply) : Type 0 where
@@ -101,24 +87,26 @@ pub record ReplyKept (ms : List ℕ) (e : ℕ) (x : ElementReply) (y : Asked) (m
   pub asked : y ≡ askedBy x
   pub words : ms′ ≡ withReply ms e x
 
--- the reply is put back from the words of element e
-abbrev pub replyOf : Asked → List ℕ → ℕ → ElementReply
-replyOf (asked.Refused n) ms e = reply.Refused n
-replyOf asked.Done ms e = reply.Answered (answerAt ms e)
-
 -- ---- what is known is true
 
--- asking element e in table t gives answer a, and adds nothing
-pub record Repeats (k : Cutter) (t : Table) (a : ElementAnswer) (e : ℕ) : Type 0 where
+-- asking element e in table t gives this output and adds nothing, and its warning is in the cut's, which is w
+pub record Repeats (k : Cutter) (t : Table) (x : ElementCutOutput) (w : Bool) (e : ℕ) : Type 0 where
   pub used : e < elementCount t
-  pub again : cutElement desk (cutOf (t .dimension) k) (rank t e) e t ≡ done a t
+  pub warning : Bool
+  pub again : cutElement desk (cutOf (t .dimension) k) (rank t e) e t ≡ done (record { output = x; warning = warning }) t
+  pub noted : (w || warning) ≡ w
 
 -- all that is known is repeated by the table as it is now
-pub record Knows (k : Cutter) (ms : List ℕ) (t : Table) : Type 0 where
+pub record Knows (k : Cutter) (ms : List ℕ) (w : Bool) (t : Table) : Type 0 where
   pub long : length ms ≡ 1536
-  pub of : (e : ℕ) → e < 512 → knownAt ms e ≡ true → Repeats k t (answerAt ms e) e
+  pub of : (e : ℕ) → e < 512 → knownAt ms e ≡ true → Repeats k t (outputAt ms e) w e
 
--- the memory holds the table, and what is known is true of it
-pub record HoldsKnown (cs : List ℕ) (ps hs : List Float) (es ms : List ℕ) (k : Cutter) (t : Table) : Type 0 where
-  pub holds : Holds desk cs ps hs es t
-  pub knows : Knows k ms t
+-- ---- what is known stays so
+
+-- whatever was known still is
+pub record KnownStill (ms ms′ : List ℕ) : Type 0 where
+  pub of : (j : ℕ) → knownAt ms j ≡ true → knownAt ms′ j ≡ true
+
+-- the first n of these elements are known
+pub record KnownTo (ms bs : List ℕ) (n : ℕ) : Type 0 where
+  pub of : (j : ℕ) → j < n → knownAt ms (getD bs j 0) ≡ true

@@ -1,4 +1,5 @@
 -- What the contracts of this crate cite beside the rules.
 pub mod Known
 pub mod Rounds
+pub mod Higher
 pub mod Whole

@@ -11,12 +11,11 @@ use Rattle.rules.specs.Table.{Table, elementCount}
 use Rattle.rules.specs.Sound.{sound, soundPlane}
 use Rattle.rules.specs.Held.{Holds, Came, memoryOf}
 use Rattle.rules.specs.Cut.{cutFinite}
-use Rattle.rules.specs.Replies.{dividerOf, paramsOf, written}
+use Rattle.rules.specs.Replies.{dividerOf, paramsOf, asReply, written}
 use Rattle.rules.specs.declared.Hyperplane.{Hyperplane}
 use Rattle.rules.specs.declared.CutParams.{CutParams}
 use Rattle.rules.specs.declared.CutReply.{CutReply}
-use Rattle.gathered.specs.declared.answer.ElementReply.{ElementReply}
-use Rattle.gathered.specs.declared.answer.ElementReply.the-variants as reply
+use Rattle.rules.specs.declared.CutReply.the-variants as reply
 use Rattle.space.specs.Chains.{Indexed}
 use Rattle.space.specs.Shared.{rowOf}
 
@@ -35,9 +34,9 @@ pub record CutReady (cs : List ℕ) (ps hs : List Float) (es ix : List ℕ) (h :
   pub indexed : Indexed es (getD cs 1 0) ix
 
 -- whatever such table the memory holds: the steps of the cut, and after a refusal the entries that it has appended
-pub record CutTried (cs : List ℕ) (ps hs : List Float) (es : List ℕ) (p : CutParams) (root : ℕ) (r : ElementReply) (cs′ : List ℕ) (ps′ hs′ : List Float) (es′ : List ℕ) : Type 0 where
+pub record CutTried (cs : List ℕ) (ps hs : List Float) (es : List ℕ) (p : CutParams) (root : ℕ) (r : CutReply) (cs′ : List ℕ) (ps′ hs′ : List Float) (es′ : List ℕ) : Type 0 where
   pub of : (t : Table) → CutFit cs ps hs es (p .divider) root t
-      → Came reply.Answered reply.Refused (Holds desk cs′ ps′ hs′ es′) t (cutFinite desk (paramsOf (t .dimension) p) root t) r
+      → Came asReply reply.Refused (Holds desk cs′ ps′ hs′ es′) t (cutFinite desk (paramsOf (t .dimension) p) root t) r
 
 -- whatever such table the memory holds: the reply, and all memory given back where it is a refusal
 pub record WholeCut (cs : List ℕ) (ps hs : List Float) (es : List ℕ) (p : CutParams) (root : ℕ) (r : CutReply) (cs′ : List ℕ) (ps′ hs′ : List Float) (es′ : List ℕ) : Type 0 where

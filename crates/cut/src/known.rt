@@ -1,6 +1,5 @@
-// What a cut has answered so far, three words an element. An element that was not asked has zeros; flush is 1, 0, 0, or 1, 0, 1 with a warning.
+// What a cut has answered so far, three words an element. An element that was not asked has zeros; flush is 1, 0, 0.
 use gathered::answer::ElementReply;
-use rules::ElementAnswer;
 use rules::ElementCutOutput;
 use rules::ElementId;
 use rules::ElementOrNone;
@@ -8,7 +7,7 @@ use space::words::wide;
 ghost use Prim.Native.Nat.{_<_};
 ghost use mathlib.Core.Path.{_≡_};
 ghost use Rattle.gathered.specs.Sets.{InRoom};
-ghost use Rattle.cut.specs.Known.{wordOf, someOf, thirdWord, knownAt, answerAt, threeAt, withAnswer, AnswerReady, KeepReady, ReplyKept};
+ghost use Rattle.cut.specs.Known.{wordOf, someOf, knownAt, outputAt, threeAt, withAnswer, AnswerReady, KeepReady, ReplyKept};
 
 // The words of an answer, and of the answers of all elements.
 const ANSWER: usize = 3;
@@ -41,17 +40,6 @@ fn some_of(word: u16) -> ElementOrNone
     ElementOrNone::Some(ElementId(wide(word - 2)))
 }
 
-// The third place and the warning, in one word.
-fn third_word(word: u16, warning: bool) -> u16
-    requires { ⌜ word < 1024 ⌝ }
-    ensures { λ r. ⌜ r ≡ thirdWord word warning ⌝ }
-{
-    if warning {
-        return word * 2 + 1;
-    }
-    word * 2
-}
-
 // Whether an element was asked before.
 pub fn is_known(known: &[u16; KNOWN], e: ElementId) -> bool
     requires { ⌜ e .0 < 512 ⌝ }
@@ -61,28 +49,25 @@ pub fn is_known(known: &[u16; KNOWN], e: ElementId) -> bool
 }
 
 // What the words of an element that was asked say.
-pub fn answer_at(known: &[u16; KNOWN], e: ElementId) -> ElementAnswer
+pub fn output_at(known: &[u16; KNOWN], e: ElementId) -> ElementCutOutput
     requires { ⌜ e .0 < 512 ⌝ }
-    ensures { λ r. ⌜ r ≡ answerAt (now (known .entry)) (e .0) ⌝ }
+    ensures { λ r. ⌜ r ≡ outputAt (now (known .entry)) (e .0) ⌝ }
 {
     let at = e.0 * ANSWER;
     let a = known[at];
     let b = known[at + 1];
     let c = known[at + 2];
-    let warning = c % 2 == 1;
     if b == 0 {
-        let output = ElementCutOutput::Flush;
-        return ElementAnswer { output, warning };
+        return ElementCutOutput::Flush;
     }
     let inside = some_of(a);
     let outside = some_of(b);
-    let intersection = some_of(c / 2);
-    let output = ElementCutOutput::NonFlush {
+    let intersection = some_of(c);
+    ElementCutOutput::NonFlush {
         inside,
         outside,
         intersection,
-    };
-    ElementAnswer { output, warning }
+    }
 }
 
 fn put_words(known: &mut [u16; KNOWN], e: ElementId, a: u16, b: u16, c: u16)
@@ -96,17 +81,12 @@ fn put_words(known: &mut [u16; KNOWN], e: ElementId, a: u16, b: u16, c: u16)
 }
 
 // Its words are written.
-fn keep_answer(known: &mut [u16; KNOWN], e: ElementId, answer: ElementAnswer)
+fn keep_answer(known: &mut [u16; KNOWN], e: ElementId, answer: ElementCutOutput)
     requires { ⌜ AnswerReady (e .0) answer ⌝ }
     ensures { λ r. ⌜ now (known .exit) ≡ withAnswer (now (known .entry)) (e .0) answer ⌝ }
 {
-    let warning = answer.warning;
-    let output = answer.output;
-    match output {
-        ElementCutOutput::Flush => {
-            let c = third_word(0, warning);
-            put_words(known, e, 1, 0, c);
-        }
+    match answer {
+        ElementCutOutput::Flush => put_words(known, e, 1, 0, 0),
         ElementCutOutput::NonFlush {
             inside,
             outside,
@@ -114,7 +94,7 @@ fn keep_answer(known: &mut [u16; KNOWN], e: ElementId, answer: ElementAnswer)
         } => {
             let a = word_of(inside);
             let b = word_of(outside);
-            let c = third_word(word_of(intersection), warning);
+            let c = word_of(intersection);
             put_words(known, e, a, b, c);
         }
     }

@@ -1,6 +1,7 @@
 // The cut: rules 1 to 8 over the lent memory. A cut adds entries to a table; what the divider misses is its old entry.
 mod elements;
 mod known;
+mod ranks;
 mod whole;
 
 use hypermath::DistanceKind;

@@ -2,8 +2,9 @@
 use crate::elements::cut_element;
 use crate::known::Asked;
 use crate::known::KNOWN;
-use crate::known::answer_at;
-use gathered::answer::ElementReply;
+use crate::known::output_at;
+use gathered::sets::ROOM;
+use gathered::sets::has_warning;
 use rules::CutParams;
 use rules::CutReply;
 use rules::Cutter;
@@ -12,6 +13,7 @@ use space::memo::PlacedHyperplane;
 use space::memo::add_hyperplane;
 use space::restore::restore;
 use space::rows::rank_of;
+use space::words::SET;
 ghost use Rattle.cut.specs.Whole.{CutReady, CutTried, WholeCut};
 
 // The divider is matched or appended first, also for a flush or vertex root.
@@ -23,7 +25,7 @@ fn cut_named(
     index: &mut [u16],
     params: CutParams,
     root: ElementId,
-) -> ElementReply
+) -> CutReply
     requires { ⌜ CutReady (now counts) (now points) (now planes) (now elements) (now index) (params .divider) (root .0) ⌝ }
     ensures { λ r. ⌜ CutTried (now (counts .entry)) (now (points .entry)) (now (planes .entry)) (now (elements .entry)) params (root .0) r
         (now (counts .exit)) (now (points .exit)) (now (planes .exit)) (now (elements .exit)) ⌝ }
@@ -31,15 +33,30 @@ fn cut_named(
     let divider = params.divider;
     let named = add_hyperplane(counts, planes, divider);
     match named {
-        PlacedHyperplane::Refused(no) => ElementReply::Refused(no),
+        PlacedHyperplane::Refused(no) => CutReply::Refused(no),
         PlacedHyperplane::At(number) => {
             let rank = rank_of(elements, root);
             let k = Cutter { params, number };
             let mut known = [0u16; KNOWN];
-            let asked = cut_element(counts, points, elements, index, &mut known, root, rank, k);
+            let mut room = [[0u16; SET]; ROOM];
+            let asked = cut_element(
+                counts,
+                points,
+                elements,
+                index,
+                &mut known,
+                &mut room,
+                root,
+                rank,
+                k,
+            );
             match asked {
-                Asked::Refused(no) => ElementReply::Refused(no),
-                Asked::Done => ElementReply::Answered(answer_at(&known, root)),
+                Asked::Refused(no) => CutReply::Refused(no),
+                Asked::Done => {
+                    let output = output_at(&known, root);
+                    let warning = has_warning(&room);
+                    CutReply::Answered { output, warning }
+                }
             }
         }
     }
@@ -64,14 +81,10 @@ pub fn cut_finite(
     let p = counts[3];
     let reply = cut_named(counts, points, planes, elements, index, params, root);
     match reply {
-        ElementReply::Refused(no) => {
+        CutReply::Refused(no) => {
             restore(counts, points, planes, elements, e, v, p);
             CutReply::Refused(no)
         }
-        ElementReply::Answered(a) => {
-            let output = a.output;
-            let warning = a.warning;
-            CutReply::Answered { output, warning }
-        }
+        CutReply::Answered { output, warning } => CutReply::Answered { output, warning },
     }
 }

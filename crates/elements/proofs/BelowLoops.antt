@@ -12,7 +12,8 @@ use Rattle.rules.specs.Limits.{desk}
 use Rattle.rules.specs.Lists.{all, member, upFrom, upTo}
 use Rattle.rules.specs.Table.{Table, Element, corner, polytope, element, elementCount, rank, rankOf, boundary, boundaryOf}
 use Rattle.rules.specs.Questions.{isBelow, subElements}
-use Rattle.rules.specs.Promises.{Reaches, itself, lower, border, Bordered}
+use Rattle.rules.specs.Asking.{Reaches, itself, lower, border}
+use Rattle.rules.specs.Promises.{Bordered}
 use Rattle.rules.proofs.Borders.{sound-bordered}
 use Rattle.rules.proofs.Good.{above-zero, sound-good}
 use Rattle.rules.proofs.Growing.{all-get}

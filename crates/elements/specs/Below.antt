@@ -10,7 +10,7 @@ use Rattle.rules.specs.Table.{Table, elementCount, boundary}
 use Rattle.rules.specs.Sound.{sound}
 use Rattle.rules.specs.Held.{Fits, elementsOf}
 use Rattle.rules.specs.Questions.{isBelow}
-use Rattle.rules.specs.Promises.{Reaches, border}
+use Rattle.rules.specs.Asking.{Reaches, border}
 use Rattle.elements.specs.Marks.{isMarked}
 
 -- ---- what is lent

@@ -1,20 +1,20 @@
 -- Rule 4: the two numbers of an edge's row are its ends, and each call is at a table that goes on from the one before.
 use Prim.Native.Nat.{ℕ, _+_, _*_, _≤_, _<_}
-use mathlib.Core.Path.{_≡_, sym, ap, ap₂, _∙_, subst}
+use mathlib.Core.Bool.{Bool, _||_}
+use mathlib.Core.Path.{_≡_, refl, sym, ap, ap₂, _∙_, subst}
 use mathlib.Core.List.{List, [], _∷_}
 use native.Mathlib.Nat.{le-trans, le-of-eq}
 use native.Mathlib.Omega.{arith}
 use lib.Dec.{lit≤}
-use lib.ListN.{length, getD, take, set}
+use lib.ListN.{length, getD, take}
 use lib.Ieee.{Float}
 use Rattle.rules.specs.Limits.{desk}
 use Rattle.rules.specs.Lists.{pad}
-use Rattle.rules.specs.Floats.{plusZero, sideOf, sideTest, crossingOf, crossingPoint}
+use Rattle.rules.specs.Floats.{plusZero, closeCall, sideOf, sideTest, crossingOf, edgeTest, crossingPoint}
 use Rattle.rules.specs.Table.{Element, Table, rankOf, rank, boundary, element, pointAt}
 use Rattle.rules.specs.Held.{Extends, Holds, Came, went, stopped, Sets, Ranked}
-use Rattle.rules.specs.Cut.{Outcome, done, next, give, Cutting, Gathered, cornerOutput, cornerAnswer, nothingYet, addVertex, crossEdge, cutEnds, cutEdge, cutElement, rule6}
-use Rattle.rules.specs.declared.Side.{Side}
-use Rattle.rules.specs.declared.Side.the-variants.{Inside, On, Outside}
+use Rattle.rules.specs.Cut.{Outcome, done, next, give, Cutting, Gathered, cornerAnswer, nothingYet, gathering, addVertex, crossEdge, cutEnds, cutEdge, cutElement, rule6}
+use Rattle.rules.specs.declared.EdgeTest.{EdgeTest}
 use Rattle.rules.specs.declared.Crossing.{Crossing}
 use Rattle.rules.specs.declared.Crossing.the-variants.{None as NoCrossing, At}
 use Rattle.rules.specs.declared.ElementId.{ElementId}
@@ -26,6 +26,7 @@ use Rattle.rules.proofs.Good.{Good, sound-good, good-sound}
 use Rattle.rules.proofs.Ranked.{corner-answer, sets-gathering, sets-none}
 use Rattle.rules.proofs.Stays.{Kept, Stays}
 use Rattle.rules.proofs.StaysCut.{Facts, facts, ranked-get, crossing-sound, cross-stays}
+use Rattle.rules.proofs.Warned.{Done, Warns, gathering-warns, after-gathered, crossed-warns}
 use Rattle.hypermath.specs.Answers.{distanceTo}
 use Rattle.space.specs.Found.{placedAt}
 use Rattle.space.specs.Chains.{Indexed}
@@ -36,63 +37,15 @@ use Rattle.space.specs.declared.rows.Placed.the-variants as placed
 use Rattle.space.proofs.Room.{listOf, list-bound, list-word}
 use Rattle.space.proofs.VertexMemo.{dimension-is}
 use Rattle.space.proofs.Slices.{slices}
-use Rattle.gathered.specs.Sets.{Answers, answersIn, Gathers, Sized, NothingYet, OutputInRoom, AnswerGathered}
-use Rattle.gathered.specs.Cutting.{Fit, cutOf, Rule6Fit, Rule6Ready, Rule6Done}
+use Rattle.gathered.specs.Sets.{warningIn, Gathers, Shaped, Sized, Noted}
+use Rattle.gathered.specs.Cutting.{Fit, cutOf, answeredBy, Rule6Fit, Rule6Ready, Rule6Done}
 use Rattle.rules.specs.declared.Cutter.{Cutter}
-use Rattle.gathered.proofs.Gathering.{at-most, said-count, said-last, said-warning, said-long}
-use Rattle.ends.specs.Ends.{PointAsked, EndsReady, EndsRead, EndsAsked, endsOf, EndsGathered, crossedOf, afterEnds, CrossedFit, CrossedReady, CrossedAsked, CrossedCut, CrossedLeft}
+use Rattle.gathered.proofs.Steps.{told-by}
+use Rattle.ends.specs.Ends.{PointAsked, EndsReady, EndsRead, EndsAsked, endsOf, EndsGathered, crossedOf, afterEnds, CrossedFit, CrossedReady, CrossedAsked, CrossedLeft}
 use Rattle.ends.specs.declared.EdgeEnds.{EdgeEnds}
-use Rattle.ends.specs.Elements.{Ready, ElementCut, LowAsked, LowLeft}
+use Rattle.ends.specs.Elements.{Ready, LowAsked, LowLeft}
+use Rattle.ends.proofs.EndsGathered.{sized-more, Crossed}
 use Rattle.ends.proofs.Vertices as vertex
-
--- ---- what is gathered
-
--- no more than i answers are no more than m
-pub sized-more : {s : Answers} (i m : ℕ) → i ≤ m → Sized s i → Sized s m
-sized-more i m h z = record {
-  flushes = le-trans (z .flushes) h;
-  tally = z .tally;
-  inside = at-most i m h (z .inside);
-  outside = at-most i m h (z .outside);
-  intersections = at-most i m h (z .intersections);
-}
-
--- an end answers with itself or with nothing
-corner-room : (a : ℕ) (side : Side) → a < 512 → OutputInRoom (cornerOutput a side)
-corner-room a Inside h = record { inside = h; outside = tt; intersection = tt }
-corner-room a On h = tt
-corner-room a Outside h = record { inside = tt; outside = h; intersection = tt }
-
--- so does the code
-pub answer-room : {y : ElementAnswer} (a : ℕ) (s : Float) → a < 512 → y ≡ cornerAnswer a (sideTest s) → OutputInRoom (y .output)
-answer-room a s h q = subst (λ (z : ElementAnswer). OutputInRoom (z .output)) (sym q) (corner-room a (sideOf s) h)
-
--- the two ends in turn, from words that hold no answer
-pub ends-gathered : {s s₁ s₂ : Answers} {x y : ElementAnswer} (a b : ℕ) (sa sb : Float) → NothingYet s → x ≡ cornerAnswer a (sideTest sa) → AnswerGathered s a x s₁
-    → y ≡ cornerAnswer b (sideTest sb) → AnswerGathered s₁ b y s₂ → EndsGathered a b sa sb s₂
-ends-gathered {s} {s₁} {s₂} a b sa sb N qx X qy Y =
-    let first : AnswerGathered s a (cornerAnswer a (sideTest sa)) s₁ = subst (λ (z : ElementAnswer). AnswerGathered s a z s₁) qx X in
-    let second : AnswerGathered s₁ b (cornerAnswer b (sideTest sb)) s₂ = subst (λ (z : ElementAnswer). AnswerGathered s₁ b z s₂) qy Y in
-    record { of = second .of _ (first .of _ (N .of)); sized = second .sized 1 (first .sized 0 (N .sized)) }
-
--- whatever is gathered: that, with vertex element v as the flush one
-pub record Crossed (s : Answers) (v : ℕ) (s′ : Answers) : Type 0 where
-  pub of : (g : Gathered) → Gathers s g → Gathers s′ (crossedOf v g)
-  pub sized : (m : ℕ) → 1 ≤ m → Sized s m → Sized s′ m
-
--- the tally says so once the count is 1 and the last one is v
-pub crossed : (f i o x : List ℕ) (v : ℕ) → length f ≡ 3 → Crossed (answersIn f i o x) v (answersIn (set (set f 0 1) 1 v) i o x)
-crossed f i o x v long = record {
-  of = λ g G. record {
-    flushes = said-count f 1 v long;
-    flush = said-last f 1 v long;
-    inside = G .inside;
-    outside = G .outside;
-    intersections = G .intersections;
-    warning = said-warning f 1 v long ∙ G .warning;
-  };
-  sized = λ m h Z. record { flushes = le-trans (le-of-eq (said-count f 1 v long)) h; tally = said-long f 1 v long; inside = Z .inside; outside = Z .outside; intersections = Z .intersections };
-}
 
 -- ---- the crossing is matched or appended
 
@@ -107,7 +60,7 @@ fit-later {e = e} {t = t} {u} F x g H = record {
   ranked = ap rankOf (element-same t u e x (F .used)) ∙ F .ranked;
 }
 
-pub vertex-asked : {cs : List ℕ} {ps : List Float} {es ix : List ℕ} {e : ℕ} {k : Cutter} {s : Answers} {x : List Float} → CrossedAsked cs ps es ix e k s x → VertexReady cs ps es ix
+pub vertex-asked : {cs : List ℕ} {ps : List Float} {es ix : List ℕ} {e : ℕ} {k : Cutter} {s : List (List ℕ)} {x : List Float} → CrossedAsked cs ps es ix e k s x → VertexReady cs ps es ix
 vertex-asked A =
     let H = A .ready .fit .fit .holds in
     record {
@@ -123,7 +76,7 @@ abbrev numberOf : Placed → ℕ
 numberOf (placed.Refused n) = 0
 numberOf (placed.At i) = i .0
 
-module _ {cs : List ℕ} {ps : List Float} {es : List ℕ} {e : ℕ} {k : Cutter} {s : Answers} {x : List Float} {w : Placed} {cs′ : List ℕ} {ps′ : List Float} {es′ : List ℕ}
+module _ {cs : List ℕ} {ps : List Float} {es : List ℕ} {e : ℕ} {k : Cutter} {s : List (List ℕ)} {x : List Float} {w : Placed} {cs′ : List ℕ} {ps′ : List Float} {es′ : List ℕ}
     (N : VertexAdded cs ps es x w cs′ ps′ es′) where
   module _ {hs : List Float} {t : Table} {p q : List Float} {f : Float} {g : Gathered} (X : CrossedFit cs ps hs es e k s x t p q f g) where
     added : Came placedAt placed.Refused (Holds desk cs′ ps′ hs es′) t (addVertex desk (crossingPoint f p q) t) w
@@ -158,7 +111,7 @@ module _ {cs : List ℕ} {ps : List Float} {es : List ℕ} {e : ℕ} {k : Cutter
       left-low = le-trans (Q .kept .value .flush .0 .0) (Q .holds .fits .elementRoom)
 
       -- rule 6 may go on from its table
-      left-ready : {s′ : Answers} → Crossed s i s′ → Rule6Fit cs′ ps′ hs es′ 1 e k s′ (Q .table) (crossedOf i g)
+      left-ready : {s′ : List (List ℕ)} → Crossed s i s′ → Rule6Fit cs′ ps′ hs es′ 1 e k s′ (Q .table) (crossedOf i g)
       left-ready C = record {
         fit = fit-later (X .fit) (Q .kept .extends) (Q .kept .good) (Q .holds);
         some = lit≤ tt;
@@ -176,38 +129,43 @@ module _ {cs : List ℕ} {ps : List Float} {es : List ℕ} {e : ℕ} {k : Cutter
           ∙ ap₂ (λ (n : ℕ) (z : Element). rule6 desk (cutOf n k) z (crossedOf i g) (i ∷ []) (Q .table))
           (sym (Q .kept .extends .dimension)) (sym (element-same t (Q .table) e (Q .kept .extends) (X .fit .used)))
 
-      after-left : {y : ElementReply} {cs″ es″ : List ℕ} → Came reply.Answered reply.Refused (Holds desk cs″ ps′ hs es″) (Q .table) rest y
-          → Came reply.Answered reply.Refused (Holds desk cs″ ps′ hs es″) t whole y
+      after-left : {y : ElementReply} {cs″ es″ : List ℕ} → Came answeredBy reply.Refused (Holds desk cs″ ps′ hs es″) (Q .table) rest y
+          → Came answeredBy reply.Refused (Holds desk cs″ ps′ hs es″) t whole y
       after-left (went a u o l H) = went a u (same ∙ o) l H
       after-left (stopped n u o l z H) = stopped n u (same ∙ o) l (extends-trans (Q .kept .extends) z) H
 
     not-added : (n : ℕ) → w ≡ placed.Refused n → Came placedAt placed.Refused (Holds desk cs′ ps′ hs es′) t (addVertex desk (crossingPoint f p q) t) w
-        → Came reply.Answered reply.Refused (Holds desk cs′ ps′ hs es′) t whole (reply.Refused n)
+        → Came answeredBy reply.Refused (Holds desk cs′ ps′ hs es′) t whole (reply.Refused n)
     not-added n h (went j u o l H) = let r : _≡_ {A = ℕ} 0 1 = cc in absurd (omega arith)
     not-added n h (stopped j u o l z H) =
         let r : n ≡ j = cc in
         stopped j u (ap (λ (y : Outcome ℕ). afterEnds (cutOf (t .dimension) k) (element t e) (next y (λ v. give (crossedOf v g)))) o) (ap reply.Refused r) z H
 
-  pub crossed-refused : (n : ℕ) → w ≡ placed.Refused n → CrossedCut cs ps es e k s x (reply.Refused n) cs′ ps′ es′
-  crossed-refused n h = record { of = λ hs t p q f g X. not-added X n h (added X) }
+  pub crossed-refused : {ix′ : List ℕ} → CrossedReady cs ps es e k s x → Indexed es′ (getD cs′ 1 0) ix′ → (n : ℕ) → w ≡ placed.Refused n → CrossedLeft cs ps es e k s x (reply.Refused n) cs′ ps′ es′ ix′ s
+  crossed-refused R indexed n h = record {
+    cut = record { of = λ hs t p q f g X. not-added X n h (added X) };
+    indexed = indexed;
+    used = record { shaped = R .fit .sized .shaped; warning = refl };
+  }
 
   module _ (v : ElementId) (h : w ≡ placed.At v) where
     -- the number fits a word
     pub crossed-low : CrossedReady cs ps es e k s x → v .0 < 512
     crossed-low R = left-low (R .fit) (v .0) (left (R .fit) (v .0) h)
 
-    module _ {s′ : Answers} (C : Crossed s (v .0) s′) where
+    module _ {s′ : List (List ℕ)} (C : Crossed s (v .0) s′) where
       pub crossed-ready : {ix′ : List ℕ} → CrossedReady cs ps es e k s x → Indexed es′ (getD cs′ 1 0) ix′ → Rule6Ready cs′ es′ ix′ 1 e k s′
       crossed-ready R indexed =
           let Q = left (R .fit) (v .0) h in
           record { points = ps′; planes = R .planes; table = Q .table; gathered = crossedOf (v .0) (R .gathered); fit = left-ready (R .fit) (v .0) Q C; indexed = indexed }
 
-      pub crossed-done : {y : ElementReply} {cs″ es″ ix″ : List ℕ} → Rule6Done cs′ es′ 1 e k s′ y cs″ es″ ix″ → CrossedLeft cs ps es e k s x y cs″ ps′ es″ ix″
+      pub crossed-done : {y : ElementReply} {cs″ es″ ix″ : List ℕ} {s″ : List (List ℕ)} → Rule6Done cs′ es′ 1 e k s′ y cs″ es″ ix″ s″ → CrossedLeft cs ps es e k s x y cs″ ps′ es″ ix″ s″
       crossed-done D = record {
         cut = record {
           of = λ hs t p q f g X. (let Q = left X (v .0) h in after-left X (v .0) Q (D .of ps′ hs (Q .table) (crossedOf (v .0) g) (left-ready X (v .0) Q C)));
         };
         indexed = D .indexed;
+        used = record { shaped = D .used .shaped; warning = D .used .warning ∙ C .warning };
       }
 
 -- ---- what is read of an edge
@@ -254,14 +212,29 @@ module _ {ps : List Float} {es : List ℕ} {e : ℕ} (R : EndsReady ps es e) whe
   end-asked i x l h = vertex.point-asked (end-fit (R .fit) i x l h)
 
   -- both numbers are within the room
-  pub ends-asked : {r : EdgeEnds} {s : Answers} → EndsRead ps es e r → NothingYet s → EndsAsked (r .a .0) (r .b .0) s
-  ends-asked E N = record { first = end-asked 0 _ (lit≤ tt) (E .first) .low; second = end-asked 1 _ (lit≤ tt) (E .second) .low; nothing = N }
+  pub ends-asked : {r : EdgeEnds} {s : List (List ℕ)} → EndsRead ps es e r → Shaped s → EndsAsked (r .a .0) (r .b .0) s
+  ends-asked E S = record { first = end-asked 0 _ (lit≤ tt) (E .first) .low; second = end-asked 1 _ (lit≤ tt) (E .second) .low; shaped = S }
 
 -- ---- the edge
 
 -- what the edge test says of the two ends
-abbrev pub tested : ℕ → Cutter → EdgeEnds → Crossing
-tested d k r = crossingOf (distanceTo d (k .params .divider) (r .p)) (distanceTo d (k .params .divider) (r .q))
+abbrev pub tested : ℕ → Cutter → EdgeEnds → EdgeTest
+tested d k r = edgeTest (distanceTo d (k .params .divider) (r .p)) (distanceTo d (k .params .divider) (r .q))
+
+-- an edge's answer has the warning of what its ends answered
+crossed-warning : (c : Cutting) (y : Element) (p q : List Float) (z : Crossing) (g : Gathered) (t : Table) {u : Table} {a : ElementAnswer} → afterEnds c y (crossEdge desk p q z g t) ≡ done a u
+    → a .warning ≡ g .warning
+crossed-warning c y p q z g t o = subst (Done (Warns (g .warning))) o (after-gathered desk c (g .warning) y (crossEdge desk p q z g t) (crossed-warns desk c p q z g t))
+
+-- the crossing, by what the test is
+crossing-is : {z w : EdgeTest} {x : Crossing} → z ≡ w → z .crossing ≡ x → x ≡ w .crossing
+crossing-is says m = sym m ∙ ap (λ (y : EdgeTest). y .crossing) says
+
+-- and that is whether one of them was a close call
+ends-warning : (a b : ℕ) (sa sb : Float) → endsOf a b sa sb .warning ≡ (closeCall sa || closeCall sb)
+ends-warning a b sa sb =
+    let first = cornerAnswer a (sideTest sa) in
+    gathering-warns b (cornerAnswer b (sideTest sb)) (gathering a first nothingYet) ∙ ap (λ (w : Bool). w || closeCall sb) (gathering-warns a first nothingYet)
 
 module _ (k : Cutter) (d : ℕ) (r : EdgeEnds) (sa sb : Float) where
   abbrev a : ℕ
@@ -286,7 +259,7 @@ module _ (k : Cutter) (d : ℕ) (r : EdgeEnds) (sa sb : Float) where
       fb = end-fit F 1 b (lit≤ tt) (E .second)
 
       -- the rule, on the ends as they were read
-      opened : (z : Crossing) → z ≡ tested d k r → cutElement desk c 1 e t ≡ afterEnds c (element t e) (crossEdge desk (pointAt t a) (pointAt t b) z answered t)
+      opened : (z : Crossing) → z ≡ tested d k r .crossing → cutElement desk c 1 e t ≡ afterEnds c (element t e) (crossEdge desk (pointAt t a) (pointAt t b) z answered t)
       unfolding cutElement cutEdge cutEnds
       opened z h =
           ap₂ (λ (x y : ℕ). afterEnds c (element t e) (cutEnds desk c x y (pointAt t x) (pointAt t y) t))
@@ -295,6 +268,11 @@ module _ (k : Cutter) (d : ℕ) (r : EdgeEnds) (sa sb : Float) where
           (sym (ha ∙ vertex.distance-is fa d (r .p) hd (E .firstPoint))) (sym (hb ∙ vertex.distance-is fb d (r .q) hd (E .secondPoint)))
           ∙ ap (λ (x : Crossing). afterEnds c (element t e) (crossEdge desk (pointAt t a) (pointAt t b) x answered t)) (sym (h ∙ ap₂ crossingOf (sym ha) (sym hb)))
 
+      -- the answer's warning is that of the edge test
+      warned : (z : Crossing) → z ≡ tested d k r .crossing → {u : Table} {y : ElementAnswer} → cutElement desk c 1 e t ≡ done y u → y .warning ≡ tested d k r .warning
+      warned z h o =
+          crossed-warning c (element t e) (pointAt t a) (pointAt t b) z answered t (sym (opened z h) ∙ o) ∙ ends-warning a b sa sb ∙ (λ i. closeCall (ha i) || closeCall (hb i))
+
       ends-sets : Sets 0 answered t
       ends-sets =
           let ra = end-ranked F 0 a (lit≤ tt) (E .first) in
@@ -302,12 +280,19 @@ module _ (k : Cutter) (d : ℕ) (r : EdgeEnds) (sa sb : Float) where
           sets-gathering 0 b (cornerAnswer b (sideTest sb)) _ t rb (corner-answer t b (sideOf sb) rb)
           (sets-gathering 0 a (cornerAnswer a (sideTest sa)) nothingYet t ra (corner-answer t a (sideOf sa) ra) (sets-none 0 t))
 
-    module _ {s : Answers} (G : EndsGathered a b sa sb s) where
+    -- the room as it came, with the test's warning, and with what the ends answered; z and x are what the test says
+    module _ {s s₁ s₂ : List (List ℕ)} {z : EdgeTest} (says : z ≡ tested d k r) (N : Noted s (z .warning) s₁) (G : EndsGathered a b sa sb s₁ s₂) where
+      -- the cut's warning after it all
+      noted-by : {x : Crossing} (s₃ : List (List ℕ)) → z .crossing ≡ x → warningIn s₃ ≡ warningIn s₂ → {hs : List Float} {t : Table} → Fit cs ps hs es 1 e k t → (y : ElementAnswer) (u : Table)
+          → cutElement desk (cutOf (t .dimension) k) 1 e t ≡ done y u → warningIn s₃ ≡ (warningIn s || y .warning)
+      noted-by {x} s₃ m l F y u o =
+          l ∙ G .warning ∙ N .warning ∙ ap (λ (w : Bool). warningIn s || w) (ap (λ (q : EdgeTest). q .warning) says ∙ sym (warned F x (crossing-is says m) o))
+
       -- no crossing
-      missed-fit : {hs : List Float} {t : Table} → Fit cs ps hs es 1 e k t → Rule6Fit cs ps hs es 1 e k s t answered
+      missed-fit : {hs : List Float} {t : Table} → Fit cs ps hs es 1 e k t → Rule6Fit cs ps hs es 1 e k s₂ t answered
       missed-fit F = record { fit = F; some = lit≤ tt; gathers = G .of; sized = sized-more 2 32 (lit≤ tt) (G .sized); sets = ends-sets F }
 
-      pub missed-ready : {ix : List ℕ} → LowAsked cs ps es ix 1 e k → Rule6Ready cs es ix 1 e k s
+      pub missed-ready : {ix : List ℕ} → LowAsked cs ps es ix 1 e k s → Rule6Ready cs es ix 1 e k s₂
       missed-ready A = record {
         points = ps;
         planes = A .ready .planes;
@@ -317,20 +302,22 @@ module _ (k : Cutter) (d : ℕ) (r : EdgeEnds) (sa sb : Float) where
         indexed = A .indexed;
       }
 
-      pub missed-cut : {y : ElementReply} {cs′ es′ ix′ : List ℕ} → (z : Crossing) → z ≡ tested d k r → z ≡ NoCrossing → Rule6Done cs es 1 e k s y cs′ es′ ix′
-          → LowLeft cs ps es 1 e k y cs′ ps es′ ix′
-      missed-cut {y} {cs′} {es′} z h m D = record {
+      pub missed-cut : {y : ElementReply} {cs′ es′ ix′ : List ℕ} {s₃ : List (List ℕ)} → z .crossing ≡ NoCrossing → Rule6Done cs es 1 e k s₂ y cs′ es′ ix′ s₃
+          → LowLeft cs ps es 1 e k s y cs′ ps es′ ix′ s₃
+      missed-cut {y} {cs′} {es′} {s₃ = s₃} m D = record {
         cut = record {
           of = λ hs t F.
-              subst (λ (o : Outcome ElementAnswer). Came reply.Answered reply.Refused (Holds desk cs′ ps hs es′) t o y) (sym (opened F NoCrossing (sym m ∙ h)))
-              (D .of ps hs t answered (missed-fit F));
+              told-by (noted-by s₃ m (D .used .warning) F)
+              (subst (λ (o : Outcome ElementAnswer). Came answeredBy reply.Refused (Holds desk cs′ ps hs es′) t o y) (sym (opened F NoCrossing (crossing-is says m)))
+              (D .of ps hs t answered (missed-fit F)));
         };
         indexed = D .indexed;
+        shaped = D .used .shaped;
       }
 
       -- a crossing at parameter f
       module _ (f : Float) (x : List Float) (hx : x ≡ pad plusZero 4 (crossingPoint f (take d (r .p)) (take d (r .q)))) where
-        crossing-fit : {hs : List Float} {t : Table} → Fit cs ps hs es 1 e k t → CrossedFit cs ps hs es e k s x t (pointAt t a) (pointAt t b) f answered
+        crossing-fit : {hs : List Float} {t : Table} → Fit cs ps hs es 1 e k t → CrossedFit cs ps hs es e k s₂ x t (pointAt t a) (pointAt t b) f answered
         crossing-fit {t = t} F = record {
           fit = F;
           point = hx ∙ ap (λ (n : ℕ). pad plusZero 4 (crossingPoint f (take n (r .p)) (take n (r .q)))) (dimension-is d hd (F .holds))
@@ -342,7 +329,7 @@ module _ (k : Cutter) (d : ℕ) (r : EdgeEnds) (sa sb : Float) where
           sets = ends-sets F;
         }
 
-        pub crossing-ready : Ready cs ps es 1 e k → CrossedReady cs ps es e k s x
+        pub crossing-ready : Ready cs ps es 1 e k → CrossedReady cs ps es e k s₂ x
         crossing-ready R = record {
           planes = R .planes;
           table = R .table;
@@ -353,16 +340,21 @@ module _ (k : Cutter) (d : ℕ) (r : EdgeEnds) (sa sb : Float) where
           fit = crossing-fit (R .fit);
         }
 
-        pub crossing-cut : {y : ElementReply} {cs′ : List ℕ} {ps′ : List Float} {es′ : List ℕ} → (z : Crossing) → z ≡ tested d k r → z ≡ At f → CrossedCut cs ps es e k s x y cs′ ps′ es′
-            → ElementCut cs ps es 1 e k y cs′ ps′ es′
-        crossing-cut {y} {cs′} {ps′} {es′} z h m D = record {
-          of = λ hs t F.
-              subst (λ (o : Outcome ElementAnswer). Came reply.Answered reply.Refused (Holds desk cs′ ps′ hs es′) t o y) (sym (opened F (At f) (sym m ∙ h)))
-              (D .of hs t (pointAt t a) (pointAt t b) f answered (crossing-fit F));
+        pub crossing-cut : {y : ElementReply} {cs′ : List ℕ} {ps′ : List Float} {es′ ix′ : List ℕ} {s₃ : List (List ℕ)} → z .crossing ≡ At f → CrossedLeft cs ps es e k s₂ x y cs′ ps′ es′ ix′ s₃
+            → LowLeft cs ps es 1 e k s y cs′ ps′ es′ ix′ s₃
+        crossing-cut {y} {cs′} {ps′} {es′} {s₃ = s₃} m D = record {
+          cut = record {
+            of = λ hs t F.
+                told-by (noted-by s₃ m (D .used .warning) F)
+                (subst (λ (o : Outcome ElementAnswer). Came answeredBy reply.Refused (Holds desk cs′ ps′ hs es′) t o y) (sym (opened F (At f) (crossing-is says m)))
+                (D .cut .of hs t (pointAt t a) (pointAt t b) f answered (crossing-fit F)));
+          };
+          indexed = D .indexed;
+          shaped = D .used .shaped;
         }
 
 -- ---- an element of rank 1
 
-pub edge-left : {cs : List ℕ} {ps : List Float} {es : List ℕ} {r e : ℕ} {k : Cutter} {y : ElementReply} {cs′ : List ℕ} {ps′ : List Float} {es′ ix′ : List ℕ} → r ≡ 1
-    → LowLeft cs ps es 1 e k y cs′ ps′ es′ ix′ → LowLeft cs ps es r e k y cs′ ps′ es′ ix′
-edge-left {cs} {ps} {es} {r} {e} {k} {y} {cs′} {ps′} {es′} {ix′} q C = subst (λ (n : ℕ). LowLeft cs ps es n e k y cs′ ps′ es′ ix′) (sym q) C
+pub edge-left : {cs : List ℕ} {ps : List Float} {es : List ℕ} {r e : ℕ} {k : Cutter} {s : List (List ℕ)} {y : ElementReply} {cs′ : List ℕ} {ps′ : List Float} {es′ ix′ : List ℕ} {s′ : List (List ℕ)} → r ≡ 1
+    → LowLeft cs ps es 1 e k s y cs′ ps′ es′ ix′ s′ → LowLeft cs ps es r e k s y cs′ ps′ es′ ix′ s′
+edge-left {cs} {ps} {es} {r} {e} {k} {s} {y} {cs′} {ps′} {es′} {ix′} {s′} q C = subst (λ (n : ℕ). LowLeft cs ps es n e k s y cs′ ps′ es′ ix′ s′) (sym q) C

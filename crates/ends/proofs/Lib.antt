@@ -1,2 +1,3 @@
 pub mod Vertices
+pub mod EndsGathered
 pub mod Edges

@@ -1,7 +1,7 @@
 -- Rule 3: the words of a vertex's row and of its point are the table's, so its signed distance from the divider is the rules'.
 use Prim.Native.Nat.{ℕ, suc, _+_, _*_, _<_}
 use mathlib.Core.Path.{_≡_, refl, sym, ap, ap₂, _∙_, subst}
-use mathlib.Core.Bool.{true}
+use mathlib.Core.Bool.{true, _||_}
 use mathlib.Core.List.{List, [], _∷_}
 use native.Mathlib.Nat.{le-trans, add-zero}
 use lib.Dec.{lit≤}
@@ -12,9 +12,10 @@ use Rattle.rules.specs.Lists.{pad}
 use Rattle.rules.specs.Floats.{plusZero, signedDistance, sideTest}
 use Rattle.rules.specs.Table.{Element, corner, polytope, Table, element, pointAt, pointOf}
 use Rattle.rules.specs.Sound.{soundPoint}
-use Rattle.rules.specs.Held.{pointsOf, went}
-use Rattle.rules.specs.Cut.{cornerAnswer, distanceOf, done, cutElement, cutCorner}
-use Rattle.rules.specs.declared.ElementAnswer.{ElementAnswer}
+use Rattle.rules.specs.Held.{pointsOf}
+use Rattle.rules.specs.Cut.{cornerOutput, distanceOf, cutElement, cutCorner}
+use Rattle.rules.specs.declared.ElementCutOutput.{ElementCutOutput}
+use Rattle.rules.specs.declared.SideTest.{SideTest}
 use Rattle.gathered.specs.declared.answer.ElementReply.the-variants as reply
 use Rattle.hypermath.specs.Answers.{distanceTo}
 use Rattle.rules.proofs.Corners.{corner-named}
@@ -28,9 +29,10 @@ use Rattle.space.proofs.Room.{listOf, list-word, point-word-or}
 use Rattle.space.proofs.RowAdds.{readable-desk}
 use Rattle.space.proofs.VertexMemo.{four-is, dimension-is}
 use Rattle.space.proofs.Slices.{slices}
-use Rattle.gathered.specs.Cutting.{Fit, cutOf}
+use Rattle.gathered.specs.Sets.{warningIn, Noted}
+use Rattle.gathered.specs.Cutting.{Fit, cutOf, went}
 use Rattle.rules.specs.declared.Cutter.{Cutter}
-use Rattle.ends.specs.Ends.{PointAsked, CornerCut}
+use Rattle.ends.specs.Ends.{PointAsked, CornerReady, cornerAt, CornerCut}
 use Rattle.ends.specs.Elements.{LowAsked, LowLeft}
 
 module _ {cs : List ℕ} {ps hs : List Float} {es : List ℕ} {e : ℕ} {k : Cutter} {t : Table} (F : Fit cs ps hs es 0 e k t) where
@@ -87,27 +89,35 @@ module _ {cs : List ℕ} {ps hs : List Float} {es : List ℕ} {e : ℕ} {k : Cut
       ap (λ (n : ℕ). distanceTo n (k .params .divider) p) (dimension-is d hd (F .holds))
       ∙ ap (signedDistance (take (t .dimension) (k .params .divider .normal)) (k .params .divider .distance)) (taken-is p hp)
 
-pub corner-cut : {cs : List ℕ} {ps : List Float} {es : List ℕ} {e : ℕ} {k : Cutter} {r : ElementAnswer} (d : ℕ) (p : List Float) (s : Float) → d ≡ getD cs 0 0
-    → p ≡ storedPoint ps (getD es (e * 36 + 4) 0) → s ≡ distanceTo d (k .params .divider) p → r ≡ cornerAnswer e (sideTest s) → CornerCut cs ps es e k r
-corner-cut {e = e} d p s hd hp hs hr = record {
-  of = λ planes t F. hr ∙ ap (λ (x : Float). cornerAnswer e (sideTest x)) (hs ∙ distance-is F d p hd hp);
+pub corner-cut : {cs : List ℕ} {ps : List Float} {es : List ℕ} {e : ℕ} {k : Cutter} {s₀ s₁ : List (List ℕ)} {r : ElementCutOutput} (d : ℕ) (p : List Float) (s : Float) (test : SideTest) → d ≡ getD cs 0 0
+    → p ≡ storedPoint ps (getD es (e * 36 + 4) 0) → s ≡ distanceTo d (k .params .divider) p → test ≡ sideTest s → Noted s₀ (test .warning) s₁ → r ≡ cornerOutput e (test .side)
+    → CornerCut cs ps es e k s₀ r s₁
+corner-cut {cs} {ps} {es} {e} {k} {s₀} d p s test hd hp hs ht N hr = record {
+  of = λ planes t F. hr ∙ ap (λ (x : SideTest). cornerOutput e (x .side)) (tested F);
+  warning = λ planes t F. N .warning ∙ ap (λ (x : SideTest). warningIn s₀ || x .warning) (tested F);
+  shaped = N .shaped;
 }
+  where
+    tested : {planes : List Float} {t : Table} → Fit cs ps planes es 0 e k t → test ≡ sideTest (distanceOf (cutOf (t .dimension) k) (pointAt t e))
+    tested F = ht ∙ ap sideTest (hs ∙ distance-is F d p hd hp)
 
 -- ---- an element of rank 0
 
-pub low-at : {cs : List ℕ} {ps : List Float} {es ix : List ℕ} {r e : ℕ} {k : Cutter} (n : ℕ) → r ≡ n → LowAsked cs ps es ix r e k → LowAsked cs ps es ix n e k
-low-at {cs} {ps} {es} {ix} {r} {e} {k} n q A = subst (λ (i : ℕ). LowAsked cs ps es ix i e k) q A
+pub low-at : {cs : List ℕ} {ps : List Float} {es ix : List ℕ} {r e : ℕ} {k : Cutter} {s : List (List ℕ)} (n : ℕ) → r ≡ n → LowAsked cs ps es ix r e k s → LowAsked cs ps es ix n e k s
+low-at {cs} {ps} {es} {ix} {r} {e} {k} {s} n q A = subst (λ (i : ℕ). LowAsked cs ps es ix i e k s) q A
 
-pub corner-left : {cs : List ℕ} {ps : List Float} {es ix : List ℕ} {r e : ℕ} {k : Cutter} {a : ElementAnswer} → r ≡ 0 → CornerCut cs ps es e k a
-    → Indexed es (getD cs 1 0) ix → LowLeft cs ps es r e k (reply.Answered a) cs ps es ix
+pub corner-ready : {cs : List ℕ} {ps : List Float} {es ix : List ℕ} {e : ℕ} {k : Cutter} {s : List (List ℕ)} → LowAsked cs ps es ix 0 e k s → CornerReady cs ps es e k s
+corner-ready A = record { ready = A .ready; shaped = A .shaped }
+
+pub corner-left : {cs : List ℕ} {ps : List Float} {es ix : List ℕ} {r e : ℕ} {k : Cutter} {s s′ : List (List ℕ)} {y : ElementCutOutput} → r ≡ 0 → CornerCut cs ps es e k s y s′
+    → Indexed es (getD cs 1 0) ix → LowLeft cs ps es r e k s (reply.Answered y) cs ps es ix s′
 unfolding cutElement cutCorner
-corner-left {cs} {ps} {es} {ix} {r} {e} {k} {a} q C I = record {
+corner-left {cs} {ps} {es} {ix} {r} {e} {k} q C I = record {
   cut = record {
     of = λ hs t F.
         (let G : Fit cs ps hs es 0 e k t = subst (λ (n : ℕ). Fit cs ps hs es n e k t) q F in
-        went a t
-        (ap (λ (n : ℕ). cutElement desk (cutOf (t .dimension) k) n e t) q ∙ ap (λ (x : ElementAnswer). done x t) (sym (C .of hs t G)))
-        refl (F .holds));
+        went (cornerAt k t e) t (ap (λ (n : ℕ). cutElement desk (cutOf (t .dimension) k) n e t) q) (ap reply.Answered (C .of hs t G)) (C .warning hs t G) (F .holds));
   };
   indexed = I;
+  shaped = C .shaped;
 }

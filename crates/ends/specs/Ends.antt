@@ -1,7 +1,7 @@
 -- What rules 3 and 4 do: the cut of a vertex, and of an edge by its two ends. Definitions only.
 use Prim.Native.Nat.{ℕ, _+_, _*_, _<_}
 use mathlib.Core.Path.{_≡_}
-use mathlib.Core.Bool.{true}
+use mathlib.Core.Bool.{true, _||_}
 use mathlib.Core.List.{List, [], _∷_}
 use lib.ListN.{length, getD}
 use lib.Ieee.{Float}
@@ -13,15 +13,17 @@ use Rattle.rules.specs.Sound.{soundPoint}
 use Rattle.rules.specs.Held.{Holds, Came, Sets}
 use Rattle.rules.specs.Cut.{Outcome, next, Cutting, Gathered, cornerAnswer, distanceOf, gathering, nothingYet, crossEdge, rule6}
 use Rattle.rules.specs.declared.Crossing.the-variants.{At}
+use Rattle.rules.specs.declared.ElementCutOutput.{ElementCutOutput}
 use Rattle.rules.specs.declared.ElementAnswer.{ElementAnswer}
 use Rattle.gathered.specs.declared.answer.ElementReply.{ElementReply}
 use Rattle.gathered.specs.declared.answer.ElementReply.the-variants as reply
 use Rattle.space.specs.Chains.{Indexed}
 use Rattle.space.specs.Shared.{storedPoint}
-use Rattle.gathered.specs.Sets.{Answers, Gathers, Sized, NothingYet}
-use Rattle.gathered.specs.Cutting.{Fit, cutOf}
+use Rattle.gathered.specs.Sets.{Gathers, Shaped, Sized, Used, warningIn}
+use Rattle.gathered.specs.Cutting.{Fit, cutOf, answeredBy}
 use Rattle.rules.specs.declared.Cutter.{Cutter}
 use Rattle.ends.specs.declared.EdgeEnds.{EdgeEnds}
+use Rattle.ends.specs.Elements.{Ready}
 
 -- ---- a vertex
 
@@ -32,9 +34,20 @@ pub record PointAsked (ps : List Float) (es : List ℕ) (e : ℕ) : Type 0 where
   pub low : e < 512
   pub vertex : getD es (e * 36 + 4) 0 < 256
 
--- whatever table that may be cut the memory holds, in which element e is a vertex: its answer
-pub record CornerCut (cs : List ℕ) (ps : List Float) (es : List ℕ) (e : ℕ) (k : Cutter) (r : ElementAnswer) : Type 0 where
-  pub of : (hs : List Float) (t : Table) → Fit cs ps hs es 0 e k t → r ≡ cornerAnswer e (sideTest (distanceOf (cutOf (t .dimension) k) (pointAt t e)))
+-- there is a table that may be cut, in which element e is a vertex, and the room
+pub record CornerReady (cs : List ℕ) (ps : List Float) (es : List ℕ) (e : ℕ) (k : Cutter) (s : List (List ℕ)) : Type 0 where
+  pub ready : Ready cs ps es 0 e k
+  pub shaped : Shaped s
+
+-- what the rules answer for vertex e of table t
+abbrev pub cornerAt : Cutter → Table → ℕ → ElementAnswer
+cornerAt k t e = cornerAnswer e (sideTest (distanceOf (cutOf (t .dimension) k) (pointAt t e)))
+
+-- whatever table that may be cut the memory holds, in which element e is a vertex: its answer, and the cut's warning with its own
+pub record CornerCut (cs : List ℕ) (ps : List Float) (es : List ℕ) (e : ℕ) (k : Cutter) (s : List (List ℕ)) (r : ElementCutOutput) (s′ : List (List ℕ)) : Type 0 where
+  pub of : (hs : List Float) (t : Table) → Fit cs ps hs es 0 e k t → r ≡ cornerAt k t e .output
+  pub warning : (hs : List Float) (t : Table) → Fit cs ps hs es 0 e k t → warningIn s′ ≡ (warningIn s || cornerAt k t e .warning)
+  pub shaped : Shaped s′
 
 -- ---- the two ends of an edge
 
@@ -53,20 +66,21 @@ pub record EndsRead (ps : List Float) (es : List ℕ) (e : ℕ) (r : EdgeEnds) :
   pub firstPoint : r .p ≡ storedPoint ps (getD es (r .a .0 * 36 + 4) 0)
   pub secondPoint : r .q ≡ storedPoint ps (getD es (r .b .0 * 36 + 4) 0)
 
--- both ends fit a word, and nothing is gathered yet
-pub record EndsAsked (a b : ℕ) (s : Answers) : Type 0 where
+-- both ends fit a word, and the room is there, whatever it holds
+pub record EndsAsked (a b : ℕ) (s : List (List ℕ)) : Type 0 where
   pub first : a < 512
   pub second : b < 512
-  pub nothing : NothingYet s
+  pub shaped : Shaped s
 
 -- what the ends a and b answer, gathered
 abbrev pub endsOf : ℕ → ℕ → Float → Float → Gathered
 endsOf a b sa sb = gathering b (cornerAnswer b (sideTest sb)) (gathering a (cornerAnswer a (sideTest sa)) nothingYet)
 
--- the code holds what the two ends answer
-pub record EndsGathered (a b : ℕ) (sa sb : Float) (r : Answers) : Type 0 where
+-- the room holds what the two ends answer, and the cut's warning as it was
+pub record EndsGathered (a b : ℕ) (sa sb : Float) (s r : List (List ℕ)) : Type 0 where
   pub of : Gathers r (endsOf a b sa sb)
   pub sized : Sized r 2
+  pub warning : warningIn r ≡ warningIn s
 
 -- ---- a crossing
 
@@ -78,8 +92,8 @@ crossedOf v g = record { flush = v ∷ []; inside = g .inside; outside = g .outs
 abbrev pub afterEnds : Cutting → Element → Outcome Gathered → Outcome ElementAnswer
 afterEnds c y o = next o (λ g. rule6 desk c y g (g .flush))
 
--- in a table that may be cut, x is the point at parameter f of an edge with ends at p and q, and the code holds what the ends answered
-pub record CrossedFit (cs : List ℕ) (ps hs : List Float) (es : List ℕ) (e : ℕ) (k : Cutter) (s : Answers) (x : List Float) (t : Table)
+-- in a table that may be cut, x is the point at parameter f of an edge with ends at p and q, and the room holds what the ends answered
+pub record CrossedFit (cs : List ℕ) (ps hs : List Float) (es : List ℕ) (e : ℕ) (k : Cutter) (s : List (List ℕ)) (x : List Float) (t : Table)
     (p q : List Float) (f : Float) (g : Gathered) : Type 0 where
   pub fit : Fit cs ps hs es 1 e k t
   pub point : x ≡ pad plusZero 4 (crossingPoint f p q)
@@ -90,7 +104,7 @@ pub record CrossedFit (cs : List ℕ) (ps hs : List Float) (es : List ℕ) (e : 
   pub sets : Sets 0 g t
 
 -- there is such a table
-pub record CrossedReady (cs : List ℕ) (ps : List Float) (es : List ℕ) (e : ℕ) (k : Cutter) (s : Answers) (x : List Float) : Type 0 where
+pub record CrossedReady (cs : List ℕ) (ps : List Float) (es : List ℕ) (e : ℕ) (k : Cutter) (s : List (List ℕ)) (x : List Float) : Type 0 where
   pub planes : List Float
   pub table : Table
   pub low : List Float
@@ -100,18 +114,19 @@ pub record CrossedReady (cs : List ℕ) (ps : List Float) (es : List ℕ) (e : �
   pub fit : CrossedFit cs ps planes es e k s x table low high parameter gathered
 
 -- whatever such table the memory holds: the crossing is matched or appended, and then rule 6
-pub record CrossedCut (cs : List ℕ) (ps : List Float) (es : List ℕ) (e : ℕ) (k : Cutter) (s : Answers) (x : List Float) (y : ElementReply)
+pub record CrossedCut (cs : List ℕ) (ps : List Float) (es : List ℕ) (e : ℕ) (k : Cutter) (s : List (List ℕ)) (x : List Float) (y : ElementReply)
     (cs′ : List ℕ) (ps′ : List Float) (es′ : List ℕ) : Type 0 where
   pub of : (hs : List Float) (t : Table) (p q : List Float) (f : Float) (g : Gathered) → CrossedFit cs ps hs es e k s x t p q f g
-      → Came reply.Answered reply.Refused (Holds desk cs′ ps′ hs es′) t (afterEnds (cutOf (t .dimension) k) (element t e) (crossEdge desk p q (At f) g t)) y
+      → Came answeredBy reply.Refused (Holds desk cs′ ps′ hs es′) t (afterEnds (cutOf (t .dimension) k) (element t e) (crossEdge desk p q (At f) g t)) y
 
 -- such a memory, with its rows indexed
-pub record CrossedAsked (cs : List ℕ) (ps : List Float) (es ix : List ℕ) (e : ℕ) (k : Cutter) (s : Answers) (x : List Float) : Type 0 where
+pub record CrossedAsked (cs : List ℕ) (ps : List Float) (es ix : List ℕ) (e : ℕ) (k : Cutter) (s : List (List ℕ)) (x : List Float) : Type 0 where
   pub ready : CrossedReady cs ps es e k s x
   pub indexed : Indexed es (getD cs 1 0) ix
 
--- what stands afterwards, its rows indexed as well
-pub record CrossedLeft (cs : List ℕ) (ps : List Float) (es : List ℕ) (e : ℕ) (k : Cutter) (s : Answers) (x : List Float) (y : ElementReply)
-    (cs′ : List ℕ) (ps′ : List Float) (es′ ix′ : List ℕ) : Type 0 where
+-- what stands afterwards, its rows indexed as well, and the room with the cut's warning as it was
+pub record CrossedLeft (cs : List ℕ) (ps : List Float) (es : List ℕ) (e : ℕ) (k : Cutter) (s : List (List ℕ)) (x : List Float) (y : ElementReply)
+    (cs′ : List ℕ) (ps′ : List Float) (es′ ix′ : List ℕ) (s′ : List (List ℕ)) : Type 0 where
   pub cut : CrossedCut cs ps es e k s x y cs′ ps′ es′
   pub indexed : Indexed es′ (getD cs′ 1 0) ix′
+  pub used : Used s s′

@@ -2,10 +2,12 @@
 use gathered::answer;
 use gathered::answer::ElementReply;
 use gathered::sets;
+use gathered::sets::FLUSH;
+use gathered::sets::FLUSHES;
+use gathered::sets::ROOM;
 use gathered::sets::TALLY;
 use rules::Crossing;
 use rules::Cutter;
-use rules::ElementAnswer;
 use rules::ElementCutOutput;
 use rules::ElementId;
 use rules::ElementOrNone;
@@ -19,12 +21,11 @@ use space::words::wide;
 ghost use Prim.Native.Nat.{_+_, _*_};
 ghost use mathlib.Core.Path.{_≡_};
 ghost use lib.ListN.{getD};
-ghost use Rattle.rules.specs.Floats.{sideTest};
-ghost use Rattle.rules.specs.Cut.{cornerOutput, cornerAnswer};
+ghost use Rattle.rules.specs.Floats.{sideOf};
+ghost use Rattle.rules.specs.Cut.{cornerOutput};
 ghost use Rattle.space.specs.Shared.{storedPoint};
-ghost use Rattle.gathered.specs.Sets.{answersIn};
-ghost use Rattle.ends.specs.Ends.{PointAsked, CornerCut, EndsReady, EndsRead, EndsAsked, EndsGathered, CrossedAsked, CrossedLeft};
-ghost use Rattle.ends.specs.Elements.{Ready, LowAsked, LowLeft};
+ghost use Rattle.ends.specs.Ends.{PointAsked, CornerReady, CornerCut, EndsReady, EndsRead, EndsAsked, EndsGathered, CrossedAsked, CrossedLeft};
+ghost use Rattle.ends.specs.Elements.{LowAsked, LowLeft};
 
 // The ends a and b of an edge, a the lower-numbered, at p and q.
 struct EdgeEnds {
@@ -62,36 +63,27 @@ fn corner_output(e: ElementId, side: Side) -> ElementCutOutput
     }
 }
 
-// By the signed distance, with the warning of its side test.
-fn corner_answer(e: ElementId, s: f64) -> ElementAnswer
-    ensures { λ r. ⌜ r ≡ cornerAnswer (e .0) (sideTest s) ⌝ }
-{
-    let test = hypermath::side_of(s);
-    let side = test.side;
-    let output = corner_output(e, side);
-    ElementAnswer {
-        output,
-        warning: test.warning,
-    }
-}
-
-// A vertex adds nothing to the table.
+// A vertex adds nothing to the table; the warning of its side test is the cut's.
 fn cut_corner(
     counts: &[u16],
     points: &[f64],
     elements: &[u16],
     e: ElementId,
     k: Cutter,
-) -> ElementAnswer
-    requires { ⌜ Ready (now counts) (now points) (now elements) 0 (e .0) k ⌝ }
-    ensures { λ r. ⌜ CornerCut (now (counts .entry)) (now (points .entry)) (now (elements .entry)) (e .0) k r ⌝ }
+    room: &mut [[u16; SET]; ROOM],
+) -> ElementCutOutput
+    requires { ⌜ CornerReady (now counts) (now points) (now elements) (e .0) k (now room) ⌝ }
+    ensures { λ r. ⌜ CornerCut (now (counts .entry)) (now (points .entry)) (now (elements .entry)) (e .0) k (now (room .entry)) r (now (room .exit)) ⌝ }
 {
     let d = wide(counts[0]);
     let p = corner_point(points, elements, e);
     let params = k.params;
     let h = params.divider;
     let s = hypermath::signed_distance(d, h, p);
-    corner_answer(e, s)
+    let test = hypermath::side_of(s);
+    sets::note(room, test.warning);
+    let side = test.side;
+    corner_output(e, side)
 }
 
 // The two numbers of an edge's row, and the point of each.
@@ -106,24 +98,25 @@ fn read_ends(points: &[f64], elements: &[u16], e: ElementId) -> EdgeEnds
     EdgeEnds { a, b, p, q }
 }
 
-// Ends on the plane are flush, and other ends go to their side; the lower-numbered end comes first.
-fn gather_ends(
-    tally: &mut [u16; TALLY],
-    inside: &mut [u16; SET],
-    outside: &mut [u16; SET],
-    intersections: &mut [u16; SET],
-    a: ElementId,
-    sa: f64,
-    b: ElementId,
-    sb: f64,
-)
-    requires { ⌜ EndsAsked (a .0) (b .0) (answersIn (now tally) (now inside) (now outside) (now intersections)) ⌝ }
-    ensures { λ r. ⌜ EndsGathered (a .0) (b .0) sa sb (answersIn (now (tally .exit)) (now (inside .exit)) (now (outside .exit)) (now (intersections .exit))) ⌝ }
+// An end of an edge, by its signed distance.
+fn end_output(e: ElementId, s: f64) -> ElementCutOutput
+    ensures { λ r. ⌜ r ≡ cornerOutput (e .0) (sideOf s) ⌝ }
 {
-    let first = corner_answer(a, sa);
-    sets::gather_in(tally, inside, outside, intersections, a, first);
-    let second = corner_answer(b, sb);
-    sets::gather_in(tally, inside, outside, intersections, b, second);
+    let test = hypermath::side_of(s);
+    let side = test.side;
+    corner_output(e, side)
+}
+
+// Ends on the plane are flush, and other ends go to their side; the lower-numbered end comes first.
+fn gather_ends(room: &mut [[u16; SET]; ROOM], a: ElementId, sa: f64, b: ElementId, sb: f64)
+    requires { ⌜ EndsAsked (a .0) (b .0) (now room) ⌝ }
+    ensures { λ r. ⌜ EndsGathered (a .0) (b .0) sa sb (now (room .entry)) (now (room .exit)) ⌝ }
+{
+    sets::clear(room);
+    let first = end_output(a, sa);
+    sets::gather_in(room, a, first);
+    let second = end_output(b, sb);
+    sets::gather_in(room, b, second);
 }
 
 // The crossing is matched or appended: vertex, then its element. It counts as the flush one.
@@ -134,40 +127,25 @@ fn cut_crossed(
     index: &mut [u16],
     e: ElementId,
     k: Cutter,
-    tally: &mut [u16; TALLY],
-    inside: &mut [u16; SET],
-    outside: &mut [u16; SET],
-    intersections: &[u16; SET],
+    room: &mut [[u16; SET]; ROOM],
     x: [f64; 4],
 ) -> ElementReply
-    requires { ⌜ CrossedAsked (now counts) (now points) (now elements) (now index) (e .0) k (answersIn (now tally) (now inside) (now outside) (now intersections)) x ⌝ }
-    ensures { λ r. ⌜ CrossedLeft (now (counts .entry)) (now (points .entry)) (now (elements .entry)) (e .0) k
-        (answersIn (now (tally .entry)) (now (inside .entry)) (now (outside .entry)) (now (intersections .entry))) x r
-        (now (counts .exit)) (now (points .exit)) (now (elements .exit)) (now (index .exit)) ⌝ }
+    requires { ⌜ CrossedAsked (now counts) (now points) (now elements) (now index) (e .0) k (now room) x ⌝ }
+    ensures { λ r. ⌜ CrossedLeft (now (counts .entry)) (now (points .entry)) (now (elements .entry)) (e .0) k (now (room .entry)) x r
+        (now (counts .exit)) (now (points .exit)) (now (elements .exit)) (now (index .exit)) (now (room .exit)) ⌝ }
 {
     let placed = memo::add_vertex(counts, points, elements, index, x);
     match placed {
         Placed::Refused(no) => ElementReply::Refused(no),
         Placed::At(v) => {
-            tally[0] = 1;
-            tally[1] = v.0 as u16;
-            answer::rule6(
-                counts,
-                elements,
-                index,
-                e,
-                1,
-                k,
-                tally,
-                inside,
-                outside,
-                intersections,
-            )
+            room[TALLY][FLUSHES] = 1;
+            room[TALLY][FLUSH] = v.0 as u16;
+            answer::rule6(counts, elements, index, e, 1, k, room)
         }
     }
 }
 
-// Rule 4; the edge test finds no crossing where an end is flush.
+// Rule 4; the edge test finds no crossing where an end is flush, and its warning is the cut's.
 fn cut_edge(
     counts: &mut [u16],
     points: &mut [f64],
@@ -175,10 +153,11 @@ fn cut_edge(
     index: &mut [u16],
     e: ElementId,
     k: Cutter,
+    room: &mut [[u16; SET]; ROOM],
 ) -> ElementReply
-    requires { ⌜ LowAsked (now counts) (now points) (now elements) (now index) 1 (e .0) k ⌝ }
-    ensures { λ r. ⌜ LowLeft (now (counts .entry)) (now (points .entry)) (now (elements .entry)) 1 (e .0) k r
-        (now (counts .exit)) (now (points .exit)) (now (elements .exit)) (now (index .exit)) ⌝ }
+    requires { ⌜ LowAsked (now counts) (now points) (now elements) (now index) 1 (e .0) k (now room) ⌝ }
+    ensures { λ r. ⌜ LowLeft (now (counts .entry)) (now (points .entry)) (now (elements .entry)) 1 (e .0) k (now (room .entry)) r
+        (now (counts .exit)) (now (points .exit)) (now (elements .exit)) (now (index .exit)) (now (room .exit)) ⌝ }
 {
     let d = wide(counts[0]);
     let ends = read_ends(points, elements, e);
@@ -189,29 +168,14 @@ fn cut_edge(
     let sa = hypermath::signed_distance(d, h, p);
     let sb = hypermath::signed_distance(d, h, q);
     let test = hypermath::edge_test(d, h, [p, q]);
-    let mut f = [0u16; TALLY];
-    let mut i = [0u16; SET];
-    let mut o = [0u16; SET];
-    let mut x = [0u16; SET];
-    gather_ends(&mut f, &mut i, &mut o, &mut x, ends.a, sa, ends.b, sb);
+    sets::note(room, test.warning);
+    gather_ends(room, ends.a, sa, ends.b, sb);
     let crossing = test.crossing;
     match crossing {
-        Crossing::None => answer::rule6(counts, elements, index, e, 1, k, &f, &mut i, &mut o, &x),
+        Crossing::None => answer::rule6(counts, elements, index, e, 1, k, room),
         Crossing::At(t) => {
             let at = hypermath::crossing_point(d, [p, q], t);
-            cut_crossed(
-                counts,
-                points,
-                elements,
-                index,
-                e,
-                k,
-                &mut f,
-                &mut i,
-                &mut o,
-                &x,
-                at,
-            )
+            cut_crossed(counts, points, elements, index, e, k, room, at)
         }
     }
 }
@@ -225,14 +189,15 @@ pub fn cut_low(
     e: ElementId,
     rank: usize,
     k: Cutter,
+    room: &mut [[u16; SET]; ROOM],
 ) -> ElementReply
-    requires { ⌜ LowAsked (now counts) (now points) (now elements) (now index) rank (e .0) k ⌝ }
-    ensures { λ r. ⌜ LowLeft (now (counts .entry)) (now (points .entry)) (now (elements .entry)) rank (e .0) k r
-        (now (counts .exit)) (now (points .exit)) (now (elements .exit)) (now (index .exit)) ⌝ }
+    requires { ⌜ LowAsked (now counts) (now points) (now elements) (now index) rank (e .0) k (now room) ⌝ }
+    ensures { λ r. ⌜ LowLeft (now (counts .entry)) (now (points .entry)) (now (elements .entry)) rank (e .0) k (now (room .entry)) r
+        (now (counts .exit)) (now (points .exit)) (now (elements .exit)) (now (index .exit)) (now (room .exit)) ⌝ }
 {
     if rank == 0 {
-        let a = cut_corner(counts, points, elements, e, k);
+        let a = cut_corner(counts, points, elements, e, k, room);
         return ElementReply::Answered(a);
     }
-    cut_edge(counts, points, elements, index, e, k)
+    cut_edge(counts, points, elements, index, e, k, room)
 }

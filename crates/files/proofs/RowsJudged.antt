@@ -15,7 +15,7 @@ use Rattle.rules.specs.Lists.{pad}
 use Rattle.rules.specs.Table.{Table}
 use Rattle.rules.specs.Files.{elementIn}
 use Rattle.rules.proofs.Laws.{eq-test, unlike-eq}
-use Rattle.space.specs.Chains.{Indexed, storedRow}
+use Rattle.space.specs.Chains.{Indexed, indexWords, storedRow}
 use Rattle.space.specs.Closed.{Unmet}
 use Rattle.space.proofs.Indexing.{index-blank}
 use Rattle.space.proofs.Meetings.{unmet-new}
@@ -63,7 +63,7 @@ pub record SoFar (bs : List ℕ) (l : Laid) (past : List ℕ) (sp : Spacing) (en
   pub of : (t : Table) → Whole bs l t → Passed bs l t kept index k at i
 
 pub judged-start : (bs : List ℕ) (l : Laid) (past : List ℕ) (sp : Spacing) → Mask past → sp .width ≡ 4 → sp .ends ≡ 1
-    → SoFar bs l past sp (l .elements) (replicate 512 0) (replicate 32 0) (replicate 2048 0) (replicate 1536 0) 0 (l .«elements_at») 0
+    → SoFar bs l past sp (l .elements) (replicate 512 0) (replicate 32 0) (replicate 2048 0) (replicate indexWords 0) 0 (l .«elements_at») 0
 judged-start bs l past sp m w e = record {
   last = refl;
   within = omega arith;

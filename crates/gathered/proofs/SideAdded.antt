@@ -89,10 +89,11 @@ module _ {cs es : List ℕ} {r e : ℕ} {set : List ℕ} {x : ElementOrNone} whe
         index = R .indexed;
       }
 
-  pub side-removed : {ix : List ℕ} {keep : Bool} → SideReady cs es ix r e set x → keep ≡ false → SideMade cs es r e keep set x (added.Made None) cs es ix
+  pub side-removed : {ix : List ℕ} {keep : Bool} → SideReady cs es ix r e set x → keep ≡ false → SideMade cs es r e keep set x (added.Made None) cs es ix set
   side-removed R q = record {
     of = λ ps hs t F. went None t (ap (λ (b : Bool). sideOfCut desk b (element t e) x (numbersIn set) t) q) refl (F .holds);
     indexed = R .indexed;
+    long = R .fit .sized .long;
   }
 
   module _ {ps hs : List Float} {t : Table} (F : SideFit cs ps hs es r e set x t) where
@@ -154,20 +155,22 @@ module _ {cs es : List ℕ} {r e : ℕ} {set : List ℕ} {x : ElementOrNone} whe
   }
 
   pub side-own : {ix : List ℕ} {keep : Bool} → SideReady cs es ix r e set x → (all : List ℕ) (n : ℕ) → n ≡ sizeIn all → keep ≡ true → Included set x all → OwnBoundary es e all n
-      → SideMade cs es r e keep set x (added.Made (given e)) cs es ix
+      → SideMade cs es r e keep set x (added.Made (given e)) cs es ix all
   side-own R all n size q I O = record {
     of = λ ps hs t F.
         went (given e) t (ap (λ (b : Bool). sideOfCut desk b (element t e) x (numbersIn set) t) q ∙ own-found F all n size I O) refl (F .holds);
     indexed = R .indexed;
+    long = I .sized 32 (R .fit .sized) .long;
   }
 
-  pub side-kept : {keep : Bool} {y : Added} {cs′ es′ ix′ : List ℕ} (plane : ℕ) (mark : Bool) (all : List ℕ) (n : ℕ) → n ≡ sizeIn all → keep ≡ true
+  pub side-kept : {ix : List ℕ} {keep : Bool} {y : Added} {cs′ es′ ix′ : List ℕ} → SideReady cs es ix r e set x → (plane : ℕ) (mark : Bool) (all : List ℕ) (n : ℕ) → n ≡ sizeIn all → keep ≡ true
       → plane ≡ getD es (e * 36 + 2) 0 → mark ≡ eqb (getD es (e * 36 + 1) 0) 1 → Included set x all
-      → PolytopeAdded cs es r (take n all) plane mark y cs′ es′ → Indexed es′ (getD cs′ 1 0) ix′ → SideMade cs es r e keep set x y cs′ es′ ix′
-  side-kept {keep} {y} {cs′} {es′} plane mark all n size q p m I A indexed = record {
+      → PolytopeAdded cs es r (take n all) plane mark y cs′ es′ → Indexed es′ (getD cs′ 1 0) ix′ → SideMade cs es r e keep set x y cs′ es′ ix′ all
+  side-kept {ix} {keep} {y} {cs′} {es′} R plane mark all n size q p m I A indexed = record {
     of = λ ps hs t F.
         subst (λ (o : Outcome ElementOrNone). Came added.Made added.Refused (Holds desk cs′ ps hs es′) t o y)
         ((λ i. addPolytope desk (sym (F .ranked) i) (I .of i) (own-plane F plane p i) (own-mark F mark m i) t) ∙ sym (ap (λ (b : Bool). sideOfCut desk b (element t e) x (numbersIn set) t) q))
         (subst (λ (j : ℕ). PolytopeAdded cs es r (take j all) plane mark y cs′ es′) size A .of ps hs t (F .holds) (λ l. F .some) (side-edges F (numbersIn all) (I .of)));
     indexed = indexed;
+    long = I .sized 32 (R .fit .sized) .long;
   }

@@ -1,23 +1,24 @@
 -- When an element whose boundary has answered may go on, and what rules 6 to 8 then give: the steps of the rules. Definitions only.
 use Prim.Native.Nat.{ℕ, _+_, _-_, _*_, _≤_, _<_}
 use mathlib.Core.Path.{_≡_}
-use mathlib.Core.Bool.{Bool, true}
+use mathlib.Core.Bool.{Bool, true, _||_}
 use mathlib.Core.List.{List}
 use lib.ListN.{length, getD}
 use lib.Ieee.{Float}
 use Rattle.rules.specs.Limits.{desk}
 use Rattle.rules.specs.Table.{Table, elementCount, rank, element}
 use Rattle.rules.specs.Sound.{sound}
-use Rattle.rules.specs.Cut.{Cutting, Gathered, newIntersection, sideOfCut, rule7, rule6}
+use Rattle.rules.specs.Cut.{Outcome, refused, done, Cutting, Gathered, newIntersection, sideOfCut, rule7, rule6}
 use Rattle.rules.specs.Replies.{paramsOf}
-use Rattle.rules.specs.Held.{Holds, Came, Sets, SetOf, SomeOf}
+use Rattle.rules.specs.Held.{Extends, Holds, Came, Sets, SetOf, SomeOf}
+use Rattle.rules.specs.declared.ElementAnswer.{ElementAnswer}
 use Rattle.rules.specs.declared.ElementOrNone.{ElementOrNone}
 use Rattle.space.specs.Chains.{Indexed}
 use Rattle.space.specs.declared.memo.Added.{Added}
 use Rattle.space.specs.declared.memo.Added.the-variants as added
 use Rattle.gathered.specs.declared.answer.ElementReply.{ElementReply}
 use Rattle.gathered.specs.declared.answer.ElementReply.the-variants as reply
-use Rattle.gathered.specs.Sets.{numbersIn, SizedSet, Answers, Sized, Gathers}
+use Rattle.gathered.specs.Sets.{insideIn, outsideIn, numbersIn, SizedSet, Shaped, Sized, Gathers, Used}
 use Rattle.rules.specs.declared.Cutter.{Cutter}
 
 -- ---- the cut of one element
@@ -102,16 +103,28 @@ pub record OwnTold (es : List ℕ) (e : ℕ) (list : List ℕ) (n : ℕ) (r : Bo
   pub only : r ≡ true → OwnBoundary es e list n
   pub wherever : OwnBoundary es e list n → r ≡ true
 
--- whatever such table the memory holds: the side's step; and the index leads to the rows of after
-pub record SideMade (cs es : List ℕ) (r e : ℕ) (keep : Bool) (set : List ℕ) (x : ElementOrNone) (y : Added) (cs′ es′ ix′ : List ℕ) : Type 0 where
+-- whatever such table the memory holds: the side's step; the index leads to the rows of after, and the set has its words
+pub record SideMade (cs es : List ℕ) (r e : ℕ) (keep : Bool) (set : List ℕ) (x : ElementOrNone) (y : Added) (cs′ es′ ix′ set′ : List ℕ) : Type 0 where
   pub of : (ps hs : List Float) (t : Table) → SideFit cs ps hs es r e set x t
       → Came added.Made added.Refused (Holds desk cs′ ps hs es′) t (sideOfCut desk keep (element t e) x (numbersIn set) t) y
   pub indexed : Indexed es′ (getD cs′ 1 0) ix′
+  pub long : length set′ ≡ 34
+
+-- ---- an answer of the rules, as code gives it
+
+-- its output; its warning is in the room
+abbrev pub answeredBy : ElementAnswer → ElementReply
+answeredBy a = reply.Answered (a .output)
+
+-- the answer of a step, the cut's warning with its own, and the memory of the table that it gives; or its refusal, and the memory of some table that goes on from the one before
+pub data Told (H : Table → Type 0) (t : Table) (o : Outcome ElementAnswer) (y : ElementReply) (v w : Bool) : Type 0 where
+  went : (a : ElementAnswer) (u : Table) → o ≡ done a u → y ≡ answeredBy a → w ≡ (v || a .warning) → H u → Told H t o y v w
+  stopped : (n : ℕ) (u : Table) → o ≡ refused n → y ≡ reply.Refused n → Extends t u → H u → Told H t o y v w
 
 -- ---- rule 6
 
--- the boundary of element e has answered, and the code holds what is gathered, of elements in use
-pub record Rule6Fit (cs : List ℕ) (ps hs : List Float) (es : List ℕ) (r e : ℕ) (k : Cutter) (s : Answers) (t : Table) (g : Gathered) : Type 0 where
+-- the boundary of element e has answered, and the room holds what is gathered, of elements in use
+pub record Rule6Fit (cs : List ℕ) (ps hs : List Float) (es : List ℕ) (r e : ℕ) (k : Cutter) (s : List (List ℕ)) (t : Table) (g : Gathered) : Type 0 where
   pub fit : Fit cs ps hs es r e k t
   pub some : 1 ≤ r
   pub gathers : Gathers s g
@@ -119,7 +132,7 @@ pub record Rule6Fit (cs : List ℕ) (ps hs : List Float) (es : List ℕ) (r e : 
   pub sets : Sets (r - 1) g t
 
 -- there is such a table, and the index leads to its rows
-pub record Rule6Ready (cs es ix : List ℕ) (r e : ℕ) (k : Cutter) (s : Answers) : Type 0 where
+pub record Rule6Ready (cs es ix : List ℕ) (r e : ℕ) (k : Cutter) (s : List (List ℕ)) : Type 0 where
   pub points : List Float
   pub planes : List Float
   pub table : Table
@@ -127,11 +140,12 @@ pub record Rule6Ready (cs es ix : List ℕ) (r e : ℕ) (k : Cutter) (s : Answer
   pub fit : Rule6Fit cs points planes es r e k s table gathered
   pub indexed : Indexed es (getD cs 1 0) ix
 
--- whatever such table the memory holds, and whatever is gathered: rule 6; and the index leads to the rows of after
-pub record Rule6Done (cs es : List ℕ) (r e : ℕ) (k : Cutter) (s : Answers) (y : ElementReply) (cs′ es′ ix′ : List ℕ) : Type 0 where
+-- whatever such table the memory holds, and whatever is gathered: rule 6; the index leads to the rows of after, and the room is as it was but for its sets
+pub record Rule6Done (cs es : List ℕ) (r e : ℕ) (k : Cutter) (s : List (List ℕ)) (y : ElementReply) (cs′ es′ ix′ : List ℕ) (s′ : List (List ℕ)) : Type 0 where
   pub of : (ps hs : List Float) (t : Table) (g : Gathered) → Rule6Fit cs ps hs es r e k s t g
-      → Came reply.Answered reply.Refused (Holds desk cs′ ps hs es′) t (rule6 desk (cutOf (t .dimension) k) (element t e) g (g .flush) t) y
+      → Came answeredBy reply.Refused (Holds desk cs′ ps hs es′) t (rule6 desk (cutOf (t .dimension) k) (element t e) g (g .flush) t) y
   pub indexed : Indexed es′ (getD cs′ 1 0) ix′
+  pub used : Used s s′
 
 -- ---- rule 7
 
@@ -141,26 +155,27 @@ pub record SideSet (r : ℕ) (t : Table) (set xs : List ℕ) : Type 0 where
   pub sized : SizedSet set 32
   pub sets : SetOf t r xs
 
--- the boundary of element e has answered, the code holds the sides' sets and the warning, and the intersection is in use and of the rank below
-pub record Rule7Fit (cs : List ℕ) (ps hs : List Float) (es : List ℕ) (r e : ℕ) (k : Cutter) (i o : List ℕ) (x : ElementOrNone) (w : Bool) (t : Table) (g : Gathered) : Type 0 where
+-- the boundary of element e has answered, the room holds the sides' sets, and the intersection is in use and of the rank below
+pub record Rule7Fit (cs : List ℕ) (ps hs : List Float) (es : List ℕ) (r e : ℕ) (k : Cutter) (s : List (List ℕ)) (x : ElementOrNone) (t : Table) (g : Gathered) : Type 0 where
   pub fit : Fit cs ps hs es r e k t
   pub some : 1 ≤ r
-  pub inside : SideSet r t i (g .inside)
-  pub outside : SideSet r t o (g .outside)
+  pub shaped : Shaped s
+  pub inside : SideSet r t (insideIn s) (g .inside)
+  pub outside : SideSet r t (outsideIn s) (g .outside)
   pub intersection : SomeOf r x t
-  pub warning : w ≡ g .warning
 
 -- there is such a table, and the index leads to its rows
-pub record Rule7Ready (cs es ix : List ℕ) (r e : ℕ) (k : Cutter) (i o : List ℕ) (x : ElementOrNone) (w : Bool) : Type 0 where
+pub record Rule7Ready (cs es ix : List ℕ) (r e : ℕ) (k : Cutter) (s : List (List ℕ)) (x : ElementOrNone) : Type 0 where
   pub points : List Float
   pub planes : List Float
   pub table : Table
   pub gathered : Gathered
-  pub fit : Rule7Fit cs points planes es r e k i o x w table gathered
+  pub fit : Rule7Fit cs points planes es r e k s x table gathered
   pub indexed : Indexed es (getD cs 1 0) ix
 
--- whatever such table the memory holds, and whatever is gathered: rule 7; and the index leads to the rows of after
-pub record Rule7Done (cs es : List ℕ) (r e : ℕ) (k : Cutter) (i o : List ℕ) (x : ElementOrNone) (w : Bool) (y : ElementReply) (cs′ es′ ix′ : List ℕ) : Type 0 where
-  pub of : (ps hs : List Float) (t : Table) (g : Gathered) → Rule7Fit cs ps hs es r e k i o x w t g
-      → Came reply.Answered reply.Refused (Holds desk cs′ ps hs es′) t (rule7 desk (cutOf (t .dimension) k) (element t e) g x t) y
+-- whatever such table the memory holds, and whatever is gathered: rule 7; the index leads to the rows of after, and the room is as it was but for its sets
+pub record Rule7Done (cs es : List ℕ) (r e : ℕ) (k : Cutter) (s : List (List ℕ)) (x : ElementOrNone) (y : ElementReply) (cs′ es′ ix′ : List ℕ) (s′ : List (List ℕ)) : Type 0 where
+  pub of : (ps hs : List Float) (t : Table) (g : Gathered) → Rule7Fit cs ps hs es r e k s x t g
+      → Came answeredBy reply.Refused (Holds desk cs′ ps hs es′) t (rule7 desk (cutOf (t .dimension) k) (element t e) g x t) y
   pub indexed : Indexed es′ (getD cs′ 1 0) ix′
+  pub used : Used s s′

@@ -1,19 +1,18 @@
--- What code holds of a set, and of what rules 4 and 5 gather: lent words. Definitions only.
+-- What code holds of a set, and of what rules 4 and 5 gather: one lent room, which all elements of a cut use in turn. Definitions only.
 use Prim.Native.Nat.{ℕ, _+_, _-_, _≤_, _<_}
-use mathlib.Core.Bool.{Bool}
+use mathlib.Core.Bool.{Bool, _||_}
 use mathlib.Core.Path.{_≡_}
 use lib.Dec.{ltb}
-use mathlib.Core.List.{List, _++_}
+use mathlib.Core.List.{List, [], _++_}
 use lib.ListN.{length, getD, take, drop, set}
 use lib.Seq.{sets}
 use Rattle.rules.specs.Limits.{desk}
 use Rattle.rules.specs.Lists.{withMember}
-use Rattle.rules.specs.Cut.{Gathered, nothingYet, including, gathering, gatheringOutput}
+use Rattle.rules.specs.Cut.{Gathered, nothingYet, including, gatheringOutput}
 use Rattle.rules.specs.declared.ElementOrNone.{ElementOrNone}
 use Rattle.rules.specs.declared.ElementOrNone.the-variants.{None, Some}
 use Rattle.rules.specs.declared.ElementCutOutput.{ElementCutOutput}
 use Rattle.rules.specs.declared.ElementCutOutput.the-variants.{Flush, NonFlush}
-use Rattle.rules.specs.declared.ElementAnswer.{ElementAnswer}
 
 -- ---- what is held
 
@@ -25,47 +24,73 @@ sizeIn s = getD s 33 0
 abbrev pub numbersIn : List ℕ → List ℕ
 numbersIn s = take (sizeIn s) s
 
--- the words of the tally, and of the sets of all answers that are not flush
-pub record Answers : Type 0 where
-  pub tally : List ℕ
-  pub inside : List ℕ
-  pub outside : List ℕ
-  pub intersections : List ℕ
+-- the room: the words of the tally, and then of the sets of all answers that are not flush
+abbrev pub tallyIn : List (List ℕ) → List ℕ
+tallyIn s = getD s 0 []
 
--- as they are lent, one array each
-abbrev pub answersIn : List ℕ → List ℕ → List ℕ → List ℕ → Answers
-answersIn f i o x = record { tally = f; inside = i; outside = o; intersections = x }
+abbrev pub insideIn : List (List ℕ) → List ℕ
+insideIn s = getD s 1 []
 
--- the third word of the tally is not 0 once an answer came with a warning
-abbrev pub warningIn : List ℕ → Bool
-warningIn f = ltb 0 (getD f 2 0)
+abbrev pub outsideIn : List (List ℕ) → List ℕ
+outsideIn s = getD s 2 []
 
--- flush answers by their count and the last one, the others as sets, and the warning
-pub record Gathers (s : Answers) (g : Gathered) : Type 0 where
-  pub flushes : getD (s .tally) 0 0 ≡ length (g .flush)
-  pub flush : getD (s .tally) 1 0 ≡ getD (g .flush) 0 0
-  pub inside : numbersIn (s .inside) ≡ g .inside
-  pub outside : numbersIn (s .outside) ≡ g .outside
-  pub intersections : numbersIn (s .intersections) ≡ g .intersections
-  pub warning : warningIn (s .tally) ≡ g .warning
+abbrev pub intersectionsIn : List (List ℕ) → List ℕ
+intersectionsIn s = getD s 3 []
+
+-- the cut's warning: the third word of the tally is not 0 once a corner was a close call
+abbrev pub warningIn : List (List ℕ) → Bool
+warningIn s = ltb 0 (getD (tallyIn s) 2 0)
+
+-- flush answers by their count and the last one, and the others as sets; the warning of what is gathered is in the cut's
+pub record Gathers (s : List (List ℕ)) (g : Gathered) : Type 0 where
+  pub flushes : getD (tallyIn s) 0 0 ≡ length (g .flush)
+  pub flush : getD (tallyIn s) 1 0 ≡ getD (g .flush) 0 0
+  pub inside : numbersIn (insideIn s) ≡ g .inside
+  pub outside : numbersIn (outsideIn s) ≡ g .outside
+  pub intersections : numbersIn (intersectionsIn s) ≡ g .intersections
 
 -- no more than m numbers, in words of its room
 pub record SizedSet (s : List ℕ) (m : ℕ) : Type 0 where
   pub most : sizeIn s ≤ m
   pub long : length s ≡ 34
 
+-- a tally and three sets, whatever they hold
+pub record Shaped (s : List (List ℕ)) : Type 0 where
+  pub four : length s ≡ 4
+  pub tally : length (tallyIn s) ≡ 34
+  pub inside : length (insideIn s) ≡ 34
+  pub outside : length (outsideIn s) ≡ 34
+  pub intersections : length (intersectionsIn s) ≡ 34
+
 -- no more than m answers, of any kind
-pub record Sized (s : Answers) (m : ℕ) : Type 0 where
-  pub flushes : getD (s .tally) 0 0 ≤ m
-  pub tally : length (s .tally) ≡ 3
-  pub inside : SizedSet (s .inside) m
-  pub outside : SizedSet (s .outside) m
-  pub intersections : SizedSet (s .intersections) m
+pub record Sized (s : List (List ℕ)) (m : ℕ) : Type 0 where
+  pub shaped : Shaped s
+  pub flushes : getD (tallyIn s) 0 0 ≤ m
+  pub inside : sizeIn (insideIn s) ≤ m
+  pub outside : sizeIn (outsideIn s) ≤ m
+  pub intersections : sizeIn (intersectionsIn s) ≤ m
 
 -- the words before any answer
-pub record NothingYet (s : Answers) : Type 0 where
+pub record NothingYet (s : List (List ℕ)) : Type 0 where
   pub of : Gathers s nothingYet
   pub sized : Sized s 0
+
+-- ---- a room used again
+
+-- whatever was gathered is gone, and the warning stays
+pub record Cleared (s r : List (List ℕ)) : Type 0 where
+  pub nothing : NothingYet r
+  pub warning : warningIn r ≡ warningIn s
+
+-- a test's warning is the cut's
+pub record Noted (s : List (List ℕ)) (w : Bool) (r : List (List ℕ)) : Type 0 where
+  pub shaped : Shaped r
+  pub warning : warningIn r ≡ (warningIn s || w)
+
+-- other words, in the same room, and the warning stays
+pub record Used (s r : List (List ℕ)) : Type 0 where
+  pub shaped : Shaped r
+  pub warning : warningIn r ≡ warningIn s
 
 -- ---- a number put in
 
@@ -120,24 +145,14 @@ abbrev pub OutputInRoom : ElementCutOutput → Type 0
 OutputInRoom Flush = Unit {0}
 OutputInRoom (NonFlush i o x) = SidesInRoom i o x
 
--- words with place for one answer more, and the output of boundary element b
-pub record OutputReady (s : Answers) (b : ℕ) (a : ElementCutOutput) : Type 0 where
+-- a room with place for one answer more, and the answer of boundary element b
+pub record OutputReady (s : List (List ℕ)) (b : ℕ) (a : ElementCutOutput) : Type 0 where
   pub sized : Sized s 31
   pub element : b < desk .elements
   pub answer : OutputInRoom a
 
--- whatever is gathered: that, with the output of boundary element b, and its warning as it was
-pub record OutputGathered (s : Answers) (b : ℕ) (a : ElementCutOutput) (r : Answers) : Type 0 where
-  pub of : (g : Gathered) → Gathers s g → Gathers r (gatheringOutput b a (g .warning) g)
+-- whatever is gathered: that, with the answer of boundary element b, whatever its warning
+pub record OutputGathered (s : List (List ℕ)) (b : ℕ) (a : ElementCutOutput) (r : List (List ℕ)) : Type 0 where
+  pub of : (g : Gathered) (w : Bool) → Gathers s g → Gathers r (gatheringOutput b a w g)
   pub sized : (m : ℕ) → Sized s m → Sized r (m + 1)
-
--- words with place for one answer more, and that of boundary element b
-pub record GatherReady (s : Answers) (b : ℕ) (a : ElementAnswer) : Type 0 where
-  pub sized : Sized s 31
-  pub element : b < desk .elements
-  pub answer : OutputInRoom (a .output)
-
--- whatever is gathered: that, with the answer of boundary element b
-pub record AnswerGathered (s : Answers) (b : ℕ) (a : ElementAnswer) (r : Answers) : Type 0 where
-  pub of : (g : Gathered) → Gathers s g → Gathers r (gathering b a g)
-  pub sized : (m : ℕ) → Sized s m → Sized r (m + 1)
+  pub warning : warningIn r ≡ warningIn s

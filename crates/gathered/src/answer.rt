@@ -1,9 +1,13 @@
 // Rules 6 to 8: what a cut adds for an element whose boundary has answered, and the element's own answer.
 use crate::including::include;
+use crate::sets::FLUSH;
+use crate::sets::FLUSHES;
+use crate::sets::INSIDE;
+use crate::sets::INTERSECTIONS;
+use crate::sets::OUTSIDE;
+use crate::sets::ROOM;
 use crate::sets::TALLY;
-use crate::sets::has_warning;
 use rules::Cutter;
-use rules::ElementAnswer;
 use rules::ElementCutOutput;
 use rules::ElementId;
 use rules::ElementOrNone;
@@ -22,13 +26,12 @@ ghost use lib.ListN.{getD};
 ghost use Rattle.rules.specs.Limits.{noPlane};
 ghost use Rattle.rules.specs.Lists.{if_then_else_};
 ghost use Rattle.rules.specs.Replies.{isKept};
-ghost use Rattle.gathered.specs.Sets.{answersIn};
 ghost use Rattle.gathered.specs.Cutting.{PlaneReady, IntersectionReady, IntersectionMade, RowReadable, OwnTold, SideReady, SideMade, Rule7Ready, Rule7Done, Rule6Ready, Rule6Done};
 
-// How the cut of an element ended: what the functions of a cut hand each other.
+// How the cut of an element ended: what the functions of a cut hand each other. Its warning is in the room.
 pub enum ElementReply {
     Refused(u8),
-    Answered(ElementAnswer),
+    Answered(ElementCutOutput),
 }
 
 fn is_kept(fate: PolytopeFate) -> bool
@@ -100,7 +103,7 @@ fn side_of_cut(
 ) -> Added
     requires { ⌜ SideReady (now counts) (now elements) (now index) rank (e .0) (now set) x ⌝ }
     ensures { λ r. ⌜ SideMade (now (counts .entry)) (now (elements .entry)) rank (e .0) (isKept fate) (now (set .entry)) x r
-        (now (counts .exit)) (now (elements .exit)) (now (index .exit)) ⌝ }
+        (now (counts .exit)) (now (elements .exit)) (now (index .exit)) (now (set .exit)) ⌝ }
 {
     if !is_kept(fate) {
         return Added::Made(ElementOrNone::None);
@@ -124,33 +127,46 @@ fn rule7(
     e: ElementId,
     rank: usize,
     k: Cutter,
-    inside: &mut [u16; SET],
-    outside: &mut [u16; SET],
+    room: &mut [[u16; SET]; ROOM],
     x: ElementOrNone,
-    warning: bool,
 ) -> ElementReply
-    requires { ⌜ Rule7Ready (now counts) (now elements) (now index) rank (e .0) k (now inside) (now outside) x warning ⌝ }
-    ensures { λ r. ⌜ Rule7Done (now (counts .entry)) (now (elements .entry)) rank (e .0) k (now (inside .entry)) (now (outside .entry)) x warning r
-        (now (counts .exit)) (now (elements .exit)) (now (index .exit)) ⌝ }
+    requires { ⌜ Rule7Ready (now counts) (now elements) (now index) rank (e .0) k (now room) x ⌝ }
+    ensures { λ r. ⌜ Rule7Done (now (counts .entry)) (now (elements .entry)) rank (e .0) k (now (room .entry)) x r
+        (now (counts .exit)) (now (elements .exit)) (now (index .exit)) (now (room .exit)) ⌝ }
 {
     let params = k.params;
     let fate_inside = params.inside;
     let fate_outside = params.outside;
-    let first = side_of_cut(counts, elements, index, e, rank, fate_inside, inside, x);
+    let first = side_of_cut(
+        counts,
+        elements,
+        index,
+        e,
+        rank,
+        fate_inside,
+        &mut room[INSIDE],
+        x,
+    );
     match first {
         Added::Refused(no) => ElementReply::Refused(no),
         Added::Made(i) => {
-            let second = side_of_cut(counts, elements, index, e, rank, fate_outside, outside, x);
+            let second = side_of_cut(
+                counts,
+                elements,
+                index,
+                e,
+                rank,
+                fate_outside,
+                &mut room[OUTSIDE],
+                x,
+            );
             match second {
                 Added::Refused(no) => ElementReply::Refused(no),
-                Added::Made(o) => {
-                    let output = ElementCutOutput::NonFlush {
-                        inside: i,
-                        outside: o,
-                        intersection: x,
-                    };
-                    ElementReply::Answered(ElementAnswer { output, warning })
-                }
+                Added::Made(o) => ElementReply::Answered(ElementCutOutput::NonFlush {
+                    inside: i,
+                    outside: o,
+                    intersection: x,
+                }),
             }
         }
     }
@@ -164,51 +180,23 @@ pub fn rule6(
     e: ElementId,
     rank: usize,
     k: Cutter,
-    tally: &[u16; TALLY],
-    inside: &mut [u16; SET],
-    outside: &mut [u16; SET],
-    intersections: &[u16; SET],
+    room: &mut [[u16; SET]; ROOM],
 ) -> ElementReply
-    requires { ⌜ Rule6Ready (now counts) (now elements) (now index) rank (e .0) k (answersIn (now tally) (now inside) (now outside) (now intersections)) ⌝ }
-    ensures { λ r. ⌜ Rule6Done (now (counts .entry)) (now (elements .entry)) rank (e .0) k
-        (answersIn (now (tally .entry)) (now (inside .entry)) (now (outside .entry)) (now (intersections .entry))) r
-        (now (counts .exit)) (now (elements .exit)) (now (index .exit)) ⌝ }
+    requires { ⌜ Rule6Ready (now counts) (now elements) (now index) rank (e .0) k (now room) ⌝ }
+    ensures { λ r. ⌜ Rule6Done (now (counts .entry)) (now (elements .entry)) rank (e .0) k (now (room .entry)) r
+        (now (counts .exit)) (now (elements .exit)) (now (index .exit)) (now (room .exit)) ⌝ }
 {
-    let warning = has_warning(tally);
-    let flushes = tally[0];
+    let flushes = room[TALLY][FLUSHES];
     if 1 < flushes {
-        let output = ElementCutOutput::Flush;
-        return ElementReply::Answered(ElementAnswer { output, warning });
+        return ElementReply::Answered(ElementCutOutput::Flush);
     }
     if flushes == 1 {
-        let x = ElementOrNone::Some(ElementId(wide(tally[1])));
-        return rule7(
-            counts,
-            elements,
-            index,
-            e,
-            rank,
-            k,
-            inside,
-            outside,
-            x,
-            warning,
-        );
+        let x = ElementOrNone::Some(ElementId(wide(room[TALLY][FLUSH])));
+        return rule7(counts, elements, index, e, rank, k, room, x);
     }
-    let middle = new_intersection(counts, elements, index, rank, k, intersections);
+    let middle = new_intersection(counts, elements, index, rank, k, &room[INTERSECTIONS]);
     match middle {
         Added::Refused(no) => ElementReply::Refused(no),
-        Added::Made(x) => rule7(
-            counts,
-            elements,
-            index,
-            e,
-            rank,
-            k,
-            inside,
-            outside,
-            x,
-            warning,
-        ),
+        Added::Made(x) => rule7(counts, elements, index, e, rank, k, room, x),
     }
 }

@@ -12,7 +12,8 @@ use Rattle.rules.specs.Lists.{all}
 use Rattle.rules.specs.Floats.{plusZero, within, farthest, crossingPoint}
 use Rattle.rules.specs.Table.{Table, rank, boundary, elementCount}
 use Rattle.rules.specs.Sound.{sound, soundPoint}
-use Rattle.rules.specs.Promises.{Between, EndsOfEdge, InTheBox, border, endAt}
+use Rattle.rules.specs.Asking.{border}
+use Rattle.rules.specs.Promises.{Between, EndsOfEdge, InTheBox, endAt}
 use Rattle.rules.proofs.Borders.{sound-bordered}
 use Rattle.rules.proofs.Clamp.{clamp-between}
 use Rattle.rules.proofs.Each.{all-map}

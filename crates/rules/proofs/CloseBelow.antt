@@ -13,7 +13,7 @@ use Rattle.rules.specs.Table.{Plane, Table, Element, corner, polytope, e
 use Rattle.rules.specs.Sound.{sound}
 use Rattle.rules.specs.Questions.{vertexSet}
 use Rattle.rules.specs.Held.{Extends}
-use Rattle.rules.specs.Promises.{border, vertexBelow}
+use Rattle.rules.specs.Asking.{border, vertexBelow}
 use Rattle.rules.specs.Touch.{someCloseCall}
 use Rattle.rules.proofs.Borders.{sound-bordered}
 use Rattle.rules.proofs.Common.{vertex-set-is-the-union}

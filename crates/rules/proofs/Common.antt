@@ -13,7 +13,7 @@ use Rattle.rules.specs.Lists.{if_then_else_, all, any, keep, member, upT
 use Rattle.rules.specs.Table.{Table, vertexOf, element, boundary, rank, elementCount}
 use Rattle.rules.specs.Sound.{sound}
 use Rattle.rules.specs.Questions.{reaches, isBelow, subElements, withRank, vertexSet, commonWithRank, someOr, greatestFrom, greatestCommon, Asked, answer, no-answer}
-use Rattle.rules.specs.Promises.{border, Reaches, itself, lower, LeastSet, vertexBelow, isCommon, Greatest}
+use Rattle.rules.specs.Asking.{border, Reaches, itself, lower, LeastSet, vertexBelow, isCommon, Greatest}
 use Rattle.rules.proofs.Borders.{sound-bordered}
 use Rattle.rules.proofs.Corners.{any-up}
 use Rattle.rules.proofs.Laws.{both-ways, and-left, and-right, and-true, or-case, or-left, or-right, le-test, not-le, eq-test, test-eq, eqb-self}

@@ -14,7 +14,7 @@ use Rattle.rules.specs.Table.{Table, Element, corner, polytope, rankOf, 
 use Rattle.rules.specs.Walk.{endsOf, edgesAt, otherEnd, otherEdge, firstEdge, lowestOf, startOf, around, eachOnce, eachTwice}
 use Rattle.rules.specs.Sound.{sound}
 use Rattle.rules.specs.Questions.{reaches, isBelow, subElements, withRank, vertexSet}
-use Rattle.rules.specs.Promises.{border, Reaches, itself, lower, Runs, forth, back, lowest}
+use Rattle.rules.specs.Asking.{border, Reaches, itself, lower, Runs, forth, back, lowest}
 use Rattle.rules.proofs.Borders.{at-each, sound-bordered}
 use Rattle.rules.proofs.Common.{member-kept, kept-member, member-up}
 use Rattle.rules.proofs.Counting.{bit}

@@ -11,7 +11,7 @@ use Rattle.rules.specs.Lists.{any, member}
 use Rattle.rules.specs.Table.{Table, boundary, rank, elementCount, element, Element, corner, boundaryOf, polytope}
 use Rattle.rules.specs.Sound.{sound}
 use Rattle.rules.specs.Questions.{reaches, isBelow}
-use Rattle.rules.specs.Promises.{Reaches, itself, lower, border}
+use Rattle.rules.specs.Asking.{Reaches, itself, lower, border}
 use Rattle.rules.proofs.Borders.{sound-bordered}
 use Rattle.rules.proofs.Good.{above-zero, sound-good}
 use Rattle.rules.proofs.Laws.{or-case, or-left, or-right, eq-test, test-eq, eqb-self}

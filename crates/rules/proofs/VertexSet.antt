@@ -15,7 +15,7 @@ use Rattle.rules.specs.Sound.{sound}
 use Rattle.rules.specs.Questions.{vertexSet, withRank, subElements, isBelow, primordialFacet, Asked, no-answer, answer}
 use Rattle.rules.specs.Memory.{decode}
 use Rattle.rules.specs.Replies.{facetAnswer, facetValue, primordialFacetReply}
-use Rattle.rules.specs.Promises.{NoFacetInOneDimension, border}
+use Rattle.rules.specs.Asking.{NoFacetInOneDimension, border}
 use Rattle.rules.proofs.Borders.{sound-bordered}
 use Rattle.rules.proofs.Good.{above-zero, sound-good}
 use Rattle.rules.proofs.Laws.{and-right, and-true, and-left, test-le, eq-test, le-test, if-true, test-eq, neither}

@@ -13,7 +13,7 @@ use Rattle.rules.specs.Table.{Table, boundary, rank, elementCount}
 use Rattle.rules.specs.Sound.{sound}
 use Rattle.rules.specs.Walk.{otherEnd, otherEdge, walk, startOf, around, eachOnce}
 use Rattle.rules.specs.Questions.{Asked, answer, no-answer, pairs, edgesInOrder}
-use Rattle.rules.specs.Promises.{Paired, Chain, Walked, WalkGoesRound}
+use Rattle.rules.specs.Asking.{Paired, Chain, Walked, WalkGoesRound}
 use Rattle.rules.proofs.Common.{member-kept, kept-member}
 use Rattle.rules.proofs.FaceEdges.{of-all, number, On, Face, startEdge, is-face, linked, starts, start-lowest}
 use Rattle.rules.proofs.Laws.{eq-test, unlike-eq, or-case}

@@ -69,7 +69,7 @@ warns-as (done a t) e h = h ∙ e
 
 -- ---- rules 4 to 7
 
-gathering-warns : (b : ℕ) (a : ElementAnswer) (g : Gathered) → gathering b a g .warning ≡ (g .warning || a .warning)
+pub gathering-warns : (b : ℕ) (a : ElementAnswer) (g : Gathered) → gathering b a g .warning ≡ (g .warning || a .warning)
 gathering-warns b a g = go (a .output)
   where
     go : (out : ElementCutOutput) → gatheringOutput b out (g .warning || a .warning) g .warning ≡ (g .warning || a .warning)
@@ -83,18 +83,18 @@ module _ (L : Limits) (c : Cutting) where
       any-next (Warns (g .warning)) (sideOfCut L (c .params .keepInside) e x (g .inside) t) _ (λ i t₁.
       any-next (Warns (g .warning)) (sideOfCut L (c .params .keepOutside) e x (g .outside) t₁) _ (λ o t₂. refl))
 
-  rule6-warns : (e : Element) (g : Gathered) (fs : List ℕ) (t : Table) → Done (Warns (g .warning)) (rule6 L c e g fs t)
+  pub rule6-warns : (e : Element) (g : Gathered) (fs : List ℕ) (t : Table) → Done (Warns (g .warning)) (rule6 L c e g fs t)
   unfolding rule6
   rule6-warns e g [] t = any-next (Warns (g .warning)) (newIntersection L c (rankOf e) (g .intersections) t) _ (λ x s. rule7-warns e g x s)
   rule6-warns e g (f ∷ []) t = rule7-warns e g (given f) t
   rule6-warns e g (f ∷ f′ ∷ fs) t = refl
 
   -- rule 6 after what is gathered
-  after-gathered : (w : Bool) (e : Element) (o : Outcome Gathered) → Done (Gathers w) o → Done (Warns w) (next o (λ g. rule6 L c e g (g .flush)))
+  pub after-gathered : (w : Bool) (e : Element) (o : Outcome Gathered) → Done (Gathers w) o → Done (Warns w) (next o (λ g. rule6 L c e g (g .flush)))
   after-gathered w e (refused n) h = tt
   after-gathered w e (done g t) h = warns-as (rule6 L c e g (g .flush) t) h (rule6-warns e g (g .flush) t)
 
-  crossed-warns : (p q : List Float) (x : Crossing) (g : Gathered) (t : Table) → Done (Gathers (g .warning)) (crossEdge L p q x g t)
+  pub crossed-warns : (p q : List Float) (x : Crossing) (g : Gathered) (t : Table) → Done (Gathers (g .warning)) (crossEdge L p q x g t)
   crossed-warns p q NoCrossing g t = refl
   crossed-warns p q (At s) g t = any-next (Gathers (g .warning)) (addVertex L (crossingPoint s p q) t) _ (λ v u. refl)
 

@@ -15,7 +15,7 @@ use Rattle.rules.specs.Lists.{alike, find, rows}
 use Rattle.rules.proofs.Indexed.{sought-on, sought-here, sought-none}
 use Rattle.rules.proofs.Laws.{refute, eq-test, unlike-eq}
 use Rattle.rules.proofs.Selves.{alike-eq}
-use Rattle.space.specs.Chains.{storedRow, keyOf, numberOf, Last, Indexed, newStart}
+use Rattle.space.specs.Chains.{keys, spread, indexWords, storedRow, keyOf, numberOf, Last, Indexed, newStart}
 use Rattle.space.proofs.RowWords.{rowFrom, row-start}
 
 -- ---- the search
@@ -48,7 +48,7 @@ module _ (es : List ℕ) (n : ℕ) (row : List ℕ) where
   low m k zero L = omega arith
   low m k (suc x) L = L .there (omega arith) .0
 
-  pub met-start : (ix : List ℕ) (x : ℕ) → Indexed es n ix → keyOf row < 1024 → x ≡ getD ix (keyOf row) 0 → Met 0 x
+  pub met-start : (ix : List ℕ) (x : ℕ) → Indexed es n ix → keyOf row < keys → x ≡ getD ix (keyOf row) 0 → Met 0 x
   met-start ix x I k e =
       let L = subst (Last es n (keyOf row)) (sym e) (I .starts (keyOf row) k) in
       let l = low n (keyOf row) x L in
@@ -59,7 +59,7 @@ module _ (es : List ℕ) (n : ℕ) (row : List ℕ) where
       }
 
   -- the row before x, and where it leads
-  module _ (ix : List ℕ) (met x y : ℕ) (I : Indexed es n ix) (M : Met met x) (h : 0 < x) (e : y ≡ getD ix (1024 + (x - 1)) 0) where
+  module _ (ix : List ℕ) (met x y : ℕ) (I : Indexed es n ix) (M : Met met x) (h : 0 < x) (e : y ≡ getD ix (keys + (x - 1)) 0) where
     link : Last es (x - 1) (keyOf row) y
     link = subst (λ (k : ℕ). Last es (x - 1) k y) (M .key h) (subst (Last es (x - 1) (keyOf (storedRow es (x - 1)))) (sym e) (I .links (x - 1) (let m = M .room in omega (arith, m, h))))
 
@@ -107,26 +107,26 @@ index-same es es′ n ix s I = record {
   long = I .long;
   starts = λ k l. last-same es es′ n k (getD ix k 0) s (I .starts k l);
   links = λ j l.
-      subst (λ (k : ℕ). Last es′ j k (getD ix (1024 + j) 0)) (ap keyOf (sym (s j l)))
-      (last-same es es′ j (keyOf (storedRow es j)) (getD ix (1024 + j) 0) (λ i m. s i (omega (arith, m, l))) (I .links j l));
+      subst (λ (k : ℕ). Last es′ j k (getD ix (keys + j) 0)) (ap keyOf (sym (s j l)))
+      (last-same es es′ j (keyOf (storedRow es j)) (getD ix (keys + j) 0) (λ i m. s i (omega (arith, m, l))) (I .links j l));
 }
 
 -- of no rows: every chain is at its end
-pub index-blank : (es : List ℕ) → Indexed es 0 (replicate 1536 0)
+pub index-blank : (es : List ℕ) → Indexed es 0 (replicate indexWords 0)
 index-blank es = record {
   long = refl;
-  starts = λ k h. (let e = getD-replicate {A = ℕ} 1536 k 0 0 (le-trans h (lit≤ tt)) in record { there = λ g. absurd (let q : ⊥ = omega (arith, e, g) in q); over = λ j g. absurd (let q : ⊥ = omega (arith, g) in q) });
+  starts = λ k h. (let e = getD-replicate {A = ℕ} indexWords k 0 0 (le-trans h (lit≤ tt)) in record { there = λ g. absurd (let q : ⊥ = omega (arith, e, g) in q); over = λ j g. absurd (let q : ⊥ = omega (arith, g) in q) });
   links = λ j h. absurd (let q : ⊥ = omega (arith, h) in q);
 }
 
-module _ (es : List ℕ) (n : ℕ) (ix : List ℕ) (k : ℕ) (I : Indexed es n ix) (q : k ≡ keyOf (storedRow es n)) (kl : k < 1024) (nl : n < 512) where
+module _ (es : List ℕ) (n : ℕ) (ix : List ℕ) (k : ℕ) (I : Indexed es n ix) (q : k ≡ keyOf (storedRow es n)) (kl : k < keys) (nl : n < 512) where
   abbrev ix₁ : List ℕ
-  ix₁ = set ix (1024 + n) (getD ix k 0)
+  ix₁ = set ix (keys + n) (getD ix k 0)
 
-  long₁ : length ix₁ ≡ 1536
-  long₁ = length-set ix (1024 + n) (getD ix k 0) ∙ I .long
+  long₁ : length ix₁ ≡ indexWords
+  long₁ = length-set ix (keys + n) (getD ix k 0) ∙ I .long
 
-  start : (m : ℕ) → m < 1024 → (b : Bool) → eqb m k ≡ b → Last es (n + 1) m (getD (newStart ix k n) m 0)
+  start : (m : ℕ) → m < keys → (b : Bool) → eqb m k ≡ b → Last es (n + 1) m (getD (newStart ix k n) m 0)
   start m l true t =
       let f = eq-test m k t in
       let e : getD (newStart ix k n) m 0 ≡ n + 1 = ap (λ (r : ℕ). getD (newStart ix k n) r 0) f ∙ getD-set-same ix₁ k (n + 1) 0 (let g = long₁ in omega (arith, g, kl)) in
@@ -136,7 +136,7 @@ module _ (es : List ℕ) (n : ℕ) (ix : List ℕ) (k : ℕ) (I : Indexed es n i
       })
   start m l false t =
       let f = unlike-eq m k t in
-      let e : getD (newStart ix k n) m 0 ≡ getD ix m 0 = getD-set-other ix₁ k m (n + 1) 0 f ∙ getD-set-other ix (1024 + n) m (getD ix k 0) 0 (λ z. omega (arith, z, l)) in
+      let e : getD (newStart ix k n) m 0 ≡ getD ix m 0 = getD-set-other ix₁ k m (n + 1) 0 f ∙ getD-set-other ix (keys + n) m (getD ix k 0) 0 (λ z. omega (arith, z, l)) in
       let L = I .starts m l in
       subst (Last es (n + 1) m) (sym e) (record {
         there = λ h. (let p = L .there h in let z = p .0 in (omega (arith, z), p .1));
@@ -147,15 +147,15 @@ module _ (es : List ℕ) (n : ℕ) (ix : List ℕ) (k : ℕ) (I : Indexed es n i
       below L j h g true s = absurd (unlike-eq m k t (sym g ∙ ap (λ (i : ℕ). keyOf (storedRow es i)) (eq-test j n s) ∙ sym q))
       below L j h g false s = let u = unlike-eq j n s in L .over j (omega (arith, u, h)) g
 
-  linked : (j : ℕ) → j < n + 1 → (b : Bool) → eqb j n ≡ b → Last es j (keyOf (storedRow es j)) (getD (newStart ix k n) (1024 + j) 0)
+  linked : (j : ℕ) → j < n + 1 → (b : Bool) → eqb j n ≡ b → Last es j (keyOf (storedRow es j)) (getD (newStart ix k n) (keys + j) 0)
   linked j h true t =
       let f = eq-test j n t in
-      let e : getD (newStart ix k n) (1024 + n) 0 ≡ getD ix k 0 = getD-set-other ix₁ k (1024 + n) (n + 1) 0 (λ z. omega (arith, z, kl)) ∙ getD-set-same ix (1024 + n) (getD ix k 0) 0 (let g = I .long in omega (arith, g, nl)) in
-      subst (λ (i : ℕ). Last es i (keyOf (storedRow es i)) (getD (newStart ix k n) (1024 + i) 0)) (sym f)
+      let e : getD (newStart ix k n) (keys + n) 0 ≡ getD ix k 0 = getD-set-other ix₁ k (keys + n) (n + 1) 0 (λ z. omega (arith, z, kl)) ∙ getD-set-same ix (keys + n) (getD ix k 0) 0 (let g = I .long in omega (arith, g, nl)) in
+      subst (λ (i : ℕ). Last es i (keyOf (storedRow es i)) (getD (newStart ix k n) (keys + i) 0)) (sym f)
       (subst (Last es n (keyOf (storedRow es n))) (sym e) (subst (λ (m : ℕ). Last es n m (getD ix k 0)) q (I .starts k kl)))
   linked j h false t =
       let u = unlike-eq j n t in
-      let e : getD (newStart ix k n) (1024 + j) 0 ≡ getD ix (1024 + j) 0 = getD-set-other ix₁ k (1024 + j) (n + 1) 0 (λ z. omega (arith, z, kl)) ∙ getD-set-other ix (1024 + n) (1024 + j) (getD ix k 0) 0 (λ z. u (omega (arith, z))) in
+      let e : getD (newStart ix k n) (keys + j) 0 ≡ getD ix (keys + j) 0 = getD-set-other ix₁ k (keys + j) (n + 1) 0 (λ z. omega (arith, z, kl)) ∙ getD-set-other ix (keys + n) (keys + j) (getD ix k 0) 0 (λ z. u (omega (arith, z))) in
       subst (Last es j (keyOf (storedRow es j))) (sym e) (I .links j (omega (arith, u, h)))
 
   pub index-joined : Indexed es (n + 1) (newStart ix k n)
@@ -204,7 +204,7 @@ module _ (es row : List ℕ) (n : ℕ) (fit : n * 36 + 36 ≤ length es) (r : le
       ∙ ap (take 36) (drop-at front row (n * 36) front-long)
       ∙ take-all 36 row (omega (arith, r))
 
-  pub index-appended : (ix : List ℕ) (k : ℕ) → Indexed es n ix → k ≡ keyOf (take 36 row) → k < 1024 → n < 512 → (es′ ix′ : List ℕ) → es′ ≡ sets es (n * 36) row → ix′ ≡ newStart ix k n → Indexed es′ (n + 1) ix′
+  pub index-appended : (ix : List ℕ) (k : ℕ) → Indexed es n ix → k ≡ keyOf (take 36 row) → k < keys → n < 512 → (es′ ix′ : List ℕ) → es′ ≡ sets es (n * 36) row → ix′ ≡ newStart ix k n → Indexed es′ (n + 1) ix′
   index-appended ix k I q kl nl es′ ix′ e j =
       subst (λ (l : List ℕ). Indexed l (n + 1) ix′) (sym e)
       (subst (λ (l : List ℕ). Indexed (sets es (n * 36) row) (n + 1) l) (sym j)
@@ -219,9 +219,9 @@ pub number-less : (x : ℕ) → (x ≡ 0 → ⊥) → some (x - 1) ≡ numberOf 
 number-less zero h = absurd (h refl)
 number-less (suc x) h = ap some (let q : suc x - 1 ≡ x = omega arith in q)
 
-pub key-words : (words : List ℕ) (at : ℕ) → (getD words (at + 4) 0 * 37 + getD words (at + 5) 0) % 1024 ≡ keyOf (take 36 (drop at words))
+pub key-words : (words : List ℕ) (at : ℕ) → (getD words (at + 4) 0 * spread + getD words (at + 5) 0) % keys ≡ keyOf (take 36 (drop at words))
 unfolding keyOf
-key-words words at = sym (ap₂ (λ (a b : ℕ). (a * 37 + b) % 1024) (word 4 (omega arith)) (word 5 (omega arith)))
+key-words words at = sym (ap₂ (λ (a b : ℕ). (a * spread + b) % keys) (word 4 (omega arith)) (word 5 (omega arith)))
   where
     word : (i : ℕ) → i < 36 → getD (take 36 (drop at words)) i 0 ≡ getD words (at + i) 0
     word i h = getD-take 36 (drop at words) i 0 h ∙ getD-drop at words i 0

@@ -9,10 +9,14 @@ use Rattle.space.specs.Numbers.{rowWidth}
 
 -- how many keys there are, and how far a first number is spread over them
 abbrev pub keys : ℕ
-keys = 1024
+keys = 512
+
+-- the words of the index: a chain's start for each key, and a link for each row
+abbrev pub indexWords : ℕ
+indexWords = keys + desk .elements
 
 abbrev pub spread : ℕ
-spread = 37
+spread = 91
 
 -- the row of element j, as the memory has it
 abbrev pub storedRow : List ℕ → ℕ → List ℕ
@@ -32,9 +36,9 @@ pub record Last (es : List ℕ) (m k x : ℕ) : Type 0 where
   pub there : 0 < x → (x ≤ m) × (keyOf (storedRow es (x - 1)) ≡ k)
   pub over : (j : ℕ) → j < m → keyOf (storedRow es j) ≡ k → j < x
 
--- the index of the first n rows: a chain's start for each key, and a link for each row
+-- the index of the first n rows
 pub record Indexed (es : List ℕ) (n : ℕ) (ix : List ℕ) : Type 0 where
-  pub long : length ix ≡ keys + desk .elements
+  pub long : length ix ≡ indexWords
   pub starts : (k : ℕ) → k < keys → Last es n k (getD ix k 0)
   pub links : (j : ℕ) → j < n → Last es j (keyOf (storedRow es j)) (getD ix (keys + j) 0)
 

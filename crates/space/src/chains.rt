@@ -1,5 +1,6 @@
 // The index of the rows: from a key to the last row that has it, and from each row to the one before it with its key.
 // Numbers in it are one more than a row's, so that 0 is the end of a chain. It is no part of the table: it lasts for one call.
+use crate::words::ELEMENTS;
 use crate::words::WIDTH;
 use crate::words::wide;
 use rules::ElementId;
@@ -14,13 +15,13 @@ ghost use Rattle.space.specs.Numbers.{rowWidth, NumberBelow};
 ghost use Rattle.space.specs.Ready.{SearchReady, SameRowReady, JoinReady};
 
 // Room for a chain's start for each key, and for a link for each row behind them.
-pub const KEYS: usize = 1024;
+pub const KEYS: usize = 512;
 
 // A first number is spread so far over the keys, so that rows that share it stand on other chains.
-const SPREAD: usize = 37;
+const SPREAD: usize = 91;
 
 // The words of the index.
-pub const INDEX: usize = 1536;
+pub const INDEX: usize = KEYS + ELEMENTS;
 
 // The lowest element whose row is the given one, or none.
 pub enum FoundElement {

@@ -10,13 +10,13 @@ ghost use lib.Dec.{eqb};
 ghost use lib.ListN.{getD, take};
 ghost use Rattle.rules.specs.Limits.{desk};
 ghost use Rattle.space.specs.Numbers.{NumberBelow};
-ghost use Rattle.space.specs.Closed.{few, metNext, metTwice, farEnd, inside, stampRoom, ringRaw, closedRaw};
+ghost use Rattle.space.specs.Closed.{few, metNext, metTwice, farEnd, inside, joinCode, stampRoom, ringRaw, closedRaw};
 ghost use Rattle.space.specs.Closed.{MeetReady, CornerMet, EdgeReady, EndsMet, PathReady, PathsReady, PathsJoined, JoinEndsReady, EndsJoined, FaceReady, BoundaryReady};
 
 // What a corner's word is above the stamp once it is met twice: no path ends there.
 pub const INSIDE: usize = ELEMENTS;
 
-// What `join_ends` answers in place of a count.
+// What joining answers in place of a count.
 pub const CLOSES: usize = 3;
 
 pub const THRICE: usize = 4;
@@ -104,14 +104,11 @@ fn one_unless_same(a: usize, b: usize) -> usize
     if a == b { 0 } else { 1 }
 }
 
-// An edge from a to b joins the two paths that end there: how many of its ends were met before. CLOSES where they are the ends of one path, THRICE where one
-// is met for the third time; then nothing is written.
-pub fn join_paths(a: usize, b: usize, paths: &mut [u32; ELEMENTS], stamp: u32) -> usize
-    requires { ⌜ PathsReady a b stamp (now paths) ⌝ }
-    ensures { λ r. ⌜ PathsJoined stamp (now (paths .entry)) a b r (now (paths .exit)) ⌝ }
+// What an edge from a to b does to the paths that end there, x and y being their other ends: how many of a and b were met before where it joins them,
+// CLOSES where they are the ends of one path, THRICE where one is met for the third time.
+fn joins(a: usize, b: usize, x: usize, y: usize) -> usize
+    ensures { λ r. ⌜ NumberBelow r (joinCode a b x y) 5 ⌝ }
 {
-    let x = far_end(paths, a, stamp);
-    let y = far_end(paths, b, stamp);
     if x == INSIDE {
         return THRICE;
     }
@@ -121,22 +118,65 @@ pub fn join_paths(a: usize, b: usize, paths: &mut [u32; ELEMENTS], stamp: u32) -
     if x == b {
         return CLOSES;
     }
+    one_unless_same(x, a) + one_unless_same(y, b)
+}
+
+// An edge from a to b joins the two paths that end there, or nothing is written.
+pub fn join_paths(a: usize, b: usize, paths: &mut [u32; ELEMENTS], stamp: u32) -> usize
+    requires { ⌜ PathsReady a b stamp (now paths) ⌝ }
+    ensures { λ r. ⌜ PathsJoined stamp (now (paths .entry)) a b r (now (paths .exit)) ⌝ }
+{
+    let x = far_end(paths, a, stamp);
+    let y = far_end(paths, b, stamp);
+    let met = joins(a, b, x, y);
+    if CLOSES <= met {
+        return met;
+    }
     let inside = stamp + INSIDE as u32;
     paths[a] = inside;
     paths[b] = inside;
     paths[x] = stamp + y as u32;
     paths[y] = stamp + x as u32;
-    one_unless_same(x, a) + one_unless_same(y, b)
+    met
+}
+
+// The same where one face alone is tested: its words are cleared, the stamp is 1, and 16 bits hold them.
+fn far_end_in_face(paths: &[u16; ELEMENTS], v: usize) -> usize
+    requires { ⌜ PathReady 1 (now paths) v ⌝ }
+    ensures { λ r. ⌜ NumberBelow r (farEnd 1 (now (paths .entry)) v) (suc inside) ⌝ }
+{
+    let m = wide(paths[v]);
+    if m < 1 {
+        return v;
+    }
+    m - 1
+}
+
+fn join_in_face(a: usize, b: usize, paths: &mut [u16; ELEMENTS]) -> usize
+    requires { ⌜ PathsReady a b 1 (now paths) ⌝ }
+    ensures { λ r. ⌜ PathsJoined 1 (now (paths .entry)) a b r (now (paths .exit)) ⌝ }
+{
+    let x = far_end_in_face(paths, a);
+    let y = far_end_in_face(paths, b);
+    let met = joins(a, b, x, y);
+    if CLOSES <= met {
+        return met;
+    }
+    paths[a] = (1 + INSIDE) as u16;
+    paths[b] = (1 + INSIDE) as u16;
+    paths[x] = (1 + y) as u16;
+    paths[y] = (1 + x) as u16;
+    met
 }
 
 // The edge that a row holds joins its paths.
-fn join_ends(elements: &[u16], e: ElementId, paths: &mut [u32; ELEMENTS], stamp: u32) -> usize
-    requires { ⌜ JoinEndsReady (now elements) (e .0) stamp (now paths) ⌝ }
-    ensures { λ r. ⌜ EndsJoined stamp (now (elements .entry)) (now (paths .entry)) (e .0) r (now (paths .exit)) ⌝ }
+fn join_ends_in_face(elements: &[u16], e: ElementId, paths: &mut [u16; ELEMENTS]) -> usize
+    requires { ⌜ JoinEndsReady (now elements) (e .0) 1 (now paths) ⌝ }
+    ensures { λ r. ⌜ EndsJoined 1 (now (elements .entry)) (now (paths .entry)) (e .0) r (now (paths .exit)) ⌝ }
 {
     let a = wide(boundary_at(elements, e, 0));
     let b = wide(boundary_at(elements, e, 1));
-    join_paths(a, b, paths, stamp)
+    join_in_face(a, b, paths)
 }
 
 // Whether the edges make one ring: no corner is met three times, none but the last edge closes a path, and then n ends were met for the second time.
@@ -144,11 +184,11 @@ fn is_ring(elements: &[u16], list: &[u16], n: usize) -> bool
     requires { ⌜ FaceReady (now elements) (now list) n ⌝ }
     ensures { λ r. ⌜ r ≡ ringRaw (now (elements .entry)) (take n (now (list .entry))) ⌝ }
 {
-    let mut paths = [0u32; ELEMENTS];
+    let mut paths = [0u16; ELEMENTS];
     let mut twice = 0usize;
     for k in 0..n {
         let e = ElementId(wide(list[k]));
-        let met = join_ends(elements, e, &mut paths, 1);
+        let met = join_ends_in_face(elements, e, &mut paths);
         if met == THRICE {
             return false;
         }

@@ -15,7 +15,7 @@ use Rattle.rules.specs.Table.{Table, elementCount, rank, boundary}
 use Rattle.rules.specs.Sound.{sound}
 use Rattle.rules.specs.Held.{Holds, AllOf}
 use Rattle.rules.specs.Questions.{isBelow, subElements, withRank}
-use Rattle.rules.specs.Promises.{Reaches, itself, lower, border}
+use Rattle.rules.specs.Asking.{Reaches, itself, lower, border}
 use Rattle.rules.proofs.Borders.{sound-bordered}
 use Rattle.rules.proofs.Laws.{if-true, if-false, test-eq, eq-test, unlike-eq, not-le, either}
 use Rattle.rules.proofs.Reach.{is-below}

@@ -1,6 +1,7 @@
 -- The vertex is refused, or is the flush one of the edge, and rule 6 goes on from its table.
 use native.Mathlib.Omega.{arith}
-use Rattle.ends.proofs.Edges.{crossed, vertex-asked, crossed-refused, crossed-low, crossed-ready, crossed-done}
+use Rattle.ends.proofs.EndsGathered.{crossed}
+use Rattle.ends.proofs.Edges.{vertex-asked, crossed-refused, crossed-low, crossed-ready, crossed-done}
 use borrow.Author.Needs.{needs}
 use Rattle.ends.proofs.cut_crossed.Statement.{statement}
 use Rattle.ends.proofs.cut_crossed.Tie as tie
@@ -21,8 +22,8 @@ added c = given-back c .before .before
 abbrev placed : tie.After-struct-known → tie.After-placed2
 placed c = c .before .before
 
-abbrev asked : tie.After-rule6-arg6 → tie.After-struct-known
-asked c = c .before .before .before .before .before .before
+abbrev asked : tie.After-rule6-arg4 → tie.After-struct-known
+asked c = c .before .before .before .before
 
 abbrev answered : tie.After-slice-known11 → tie.After-rule6
 answered c = c .before .before .before .before .before .before
@@ -36,24 +37,30 @@ enum-known-placed c = search needs
 enum-known-placed-2 : tie.Need-enum-known-placed-2
 enum-known-placed-2 c = search needs
 
-element-write-tally : tie.Need-element-write-tally
-element-write-tally c = search needs
+index-1-room : tie.Need-index-1-room
+index-1-room c = search needs
 
-cast-tally : tie.Need-cast-tally
-cast-tally c =
+index-2-room : tie.Need-index-2-room
+index-2-room c = search needs
+
+cast-room : tie.Need-cast-room
+cast-room c =
     let p = placed c in
     let a = added (p .before .before) in
     omega (arith, crossed-low (a .add-vertex .ensures .added) _ (p .placed2 .given .1) (start (a .before) .pre .ready))
 
-element-write-tally-2 : tie.Need-element-write-tally-2
-element-write-tally-2 c = search needs
+index-1-room-2 : tie.Need-index-1-room-2
+index-1-room-2 c = search needs
+
+index-2-room-2 : tie.Need-index-2-room-2
+index-2-room-2 c = search needs
 
 rule6-requires : tie.Need-rule6-requires
 rule6-requires c κs =
     let p = placed (asked c) in
     let a = added (p .before .before) in
     let R = start (a .before) .pre .ready in
-    crossed-ready (a .add-vertex .ensures .added) _ (p .placed2 .given .1) (crossed _ _ _ _ _ (R .fit .sized .tally)) R (a .add-vertex .ensures .index)
+    crossed-ready (a .add-vertex .ensures .added) _ (p .placed2 .given .1) (crossed _ _ (R .fit .sized .shaped)) R (a .add-vertex .ensures .index)
 
 same-length : tie.Need-same-length
 same-length c = search needs
@@ -70,7 +77,7 @@ same-length-4 c = search needs
 returns : tie.Need-returns
 returns c =
     let a = added (c .before .before .before) in
-    record { cut = crossed-refused (a .add-vertex .ensures .added) _ (c .before .placed .given .1); indexed = a .add-vertex .ensures .index }
+    crossed-refused (a .add-vertex .ensures .added) (start (a .before) .pre .ready) (a .add-vertex .ensures .index) _ (c .before .placed .given .1)
 
 same-length-5 : tie.Need-same-length-5
 same-length-5 c = search needs
@@ -90,7 +97,7 @@ returns-2 c =
     let p = placed (asked (r .before)) in
     let a = added (p .before .before) in
     let R = start (a .before) .pre .ready in
-    crossed-done (a .add-vertex .ensures .added) _ (p .placed2 .given .1) (crossed _ _ _ _ _ (R .fit .sized .tally)) (r .rule6 .ensures)
+    crossed-done (a .add-vertex .ensures .added) _ (p .placed2 .given .1) (crossed _ _ (R .fit .sized .shaped)) (r .rule6 .ensures)
 
 pub cut-crossed-spec : {M : Type 1} → statement M
 cut-crossed-spec =
@@ -99,9 +106,11 @@ cut-crossed-spec =
     add-vertex-requires
     enum-known-placed
     enum-known-placed-2
-    element-write-tally
-    cast-tally
-    element-write-tally-2
+    index-1-room
+    index-2-room
+    cast-room
+    index-1-room-2
+    index-2-room-2
     rule6-requires
     same-length
     same-length-2

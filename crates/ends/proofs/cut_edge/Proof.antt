@@ -1,15 +1,12 @@
 -- Two ways, by the edge test: rule 6 on what the ends answered, or the crossing first.
-use mathlib.Core.Path.{ap}
 use native.Mathlib.Omega.{arith}
 use Rattle.space.proofs.Slices.{slices}
-use Rattle.gathered.proofs.Gathering.{nothing-gathered}
 use Rattle.ends.proofs.Edges.{ends-ready, ends-asked, missed-ready, missed-cut, crossing-ready, crossing-cut}
-use Rattle.rules.specs.declared.EdgeTest.{EdgeTest}
 use borrow.Author.Needs.{needs}
 use Rattle.ends.proofs.cut_edge.Statement.{statement}
 use Rattle.ends.proofs.cut_edge.Tie as tie
 
--- where the function began, where the dimension was known, and where the ends were read, tested and gathered
+-- where the function began, where the dimension was known, and where the ends were read, tested, warned of and gathered
 abbrev start : tie.After-wide → tie.Start
 start c = c .before .before .before .before .before .before
 
@@ -22,32 +19,29 @@ measured c = c .before .before
 abbrev ends-read : tie.After-edge-test → tie.After-read-ends
 ends-read c = measured c .before .before .before .before .before
 
-abbrev tested : tie.After-x → tie.After-edge-test
-tested c = c .before .before .before .before
+abbrev tested : tie.After-note-arg → tie.After-edge-test
+tested c = c .before
+
+abbrev noted : tie.After-gather-ends → tie.After-note
+noted c = c .before .before
 
 -- of the ends that were gathered: where they were tested, and what was asked of the function
 abbrev ends-tested : tie.After-gather-ends → tie.After-edge-test
-ends-tested c = tested (c .before)
+ends-tested c = tested (noted c .before)
 
 abbrev asked-for : tie.After-gather-ends → tie.Start
 asked-for c = start (counted (ends-read (ends-tested c)))
 
 -- no crossing: where it was known, and where rule 6 had answered
-abbrev lent : tie.After-x2 → tie.After-rule6-arg
-lent c = c .before .before .before .before .before .before
-
-abbrev missed : tie.After-x2 → tie.After-enum-told
-missed c = lent c .before
+abbrev missed : tie.After-rule6-arg4 → tie.After-enum-told
+missed c = c .before .before .before .before
 
 abbrev answered : tie.After-slice-known8 → tie.After-rule6
 answered c = c .before .before .before .before .before .before
 
--- a crossing: where it was known, where its point was, and where it had been cut at
-abbrev lent-crossed : tie.After-x3 → tie.After-cut-crossed-arg2
-lent-crossed c = c .before .before .before .before .before .before
-
-abbrev pointed : tie.After-x3 → tie.After-crossing-point
-pointed c = lent-crossed c .before .before
+-- a crossing: where its point was, where it was known, and where it had been cut at
+abbrev pointed : tie.After-cut-crossed-arg5 → tie.After-crossing-point
+pointed c = c .before .before .before .before .before
 
 abbrev met : tie.After-crossing-point → tie.After-crossing
 met c = c .before .before
@@ -76,10 +70,14 @@ signed-distance-requires-2 c κs = search needs
 edge-test-requires : tie.Need-edge-test-requires
 edge-test-requires c κs = search needs
 
+note-requires : tie.Need-note-requires
+note-requires c κs = start (counted (ends-read (tested c))) .pre .shaped
+
 gather-ends-requires : tie.Need-gather-ends-requires
 gather-ends-requires c κs =
-    let r = ends-read (tested c) in
-    ends-asked (ends-ready (start (counted r) .pre .ready)) (r .read-ends .ensures) nothing-gathered
+    let n = c .before in
+    let r = ends-read (tested (n .before)) in
+    ends-asked (ends-ready (start (counted r) .pre .ready)) (r .read-ends .ensures) (n .note .ensures .shaped)
 
 enum-told : tie.Need-enum-told
 enum-told c = search needs
@@ -87,10 +85,12 @@ enum-told c = search needs
 rule6-requires : tie.Need-rule6-requires
 rule6-requires c κs =
     let g = missed c .before .before in
+    let n = noted g in
     let z = ends-tested g in
     let r = ends-read z in
     missed-ready _ _ _ _ _ (counted r .wide .ensures .value) (r .read-ends .ensures) (z .before .before .signed-distance .ensures) (z .before .signed-distance2 .ensures)
-    (g .gather-ends .ensures) (asked-for g .pre)
+    (z .edge-test .ensures) (n .note .ensures) (g .gather-ends .ensures)
+    (asked-for g .pre)
 
 enum-known-crossing : tie.Need-enum-known-crossing
 enum-known-crossing c = search needs
@@ -102,11 +102,13 @@ cut-crossed-requires : tie.Need-cut-crossed-requires
 cut-crossed-requires c κs =
     let x = pointed c in
     let g = met x .before .before in
+    let n = noted g in
     let z = ends-tested g in
     let r = ends-read z in
     record {
       ready = crossing-ready _ _ _ _ _ (counted r .wide .ensures .value) (r .read-ends .ensures) (z .before .before .signed-distance .ensures) (z .before .signed-distance2 .ensures)
-          (g .gather-ends .ensures) _ _ (x .crossing-point .ensures) (asked-for g .pre .ready);
+          (z .edge-test .ensures) (n .note .ensures) (g .gather-ends .ensures) _ _
+          (x .crossing-point .ensures) (asked-for g .pre .ready);
       indexed = asked-for g .pre .indexed;
     }
 
@@ -127,10 +129,12 @@ returns c =
     let a = answered c in
     let m = missed (a .before) in
     let g = m .before .before in
+    let n = noted g in
     let z = ends-tested g in
     let r = ends-read z in
     missed-cut _ _ _ _ _ (counted r .wide .ensures .value) (r .read-ends .ensures) (z .before .before .signed-distance .ensures) (z .before .signed-distance2 .ensures)
-    (g .gather-ends .ensures) _ (ap (λ (x : EdgeTest). x .crossing) (z .edge-test .ensures)) (m .enum-told .given .1) (a .rule6 .ensures)
+    (z .edge-test .ensures) (n .note .ensures) (g .gather-ends .ensures)
+    (m .enum-told .given .1) (a .rule6 .ensures)
 
 same-length-5 : tie.Need-same-length-5
 same-length-5 c = search needs
@@ -150,13 +154,12 @@ returns-2 c =
     let x = pointed (l .before) in
     let m = met x in
     let g = m .before .before in
+    let n = noted g in
     let z = ends-tested g in
     let r = ends-read z in
-    record {
-      cut = crossing-cut _ _ _ _ _ (counted r .wide .ensures .value) (r .read-ends .ensures) (z .before .before .signed-distance .ensures) (z .before .signed-distance2 .ensures)
-          (g .gather-ends .ensures) _ _ (x .crossing-point .ensures) _ (ap (λ (x : EdgeTest). x .crossing) (z .edge-test .ensures)) (m .crossing .given .1) (l .cut-crossed .ensures .cut);
-      indexed = l .cut-crossed .ensures .indexed;
-    }
+    crossing-cut _ _ _ _ _ (counted r .wide .ensures .value) (r .read-ends .ensures) (z .before .before .signed-distance .ensures) (z .before .signed-distance2 .ensures)
+    (z .edge-test .ensures) (n .note .ensures) (g .gather-ends .ensures) _ _
+    (x .crossing-point .ensures) (m .crossing .given .1) (l .cut-crossed .ensures)
 
 pub cut-edge-spec : {M : Type 1} → statement M
 cut-edge-spec =
@@ -168,6 +171,7 @@ cut-edge-spec =
     signed-distance-requires
     signed-distance-requires-2
     edge-test-requires
+    note-requires
     gather-ends-requires
     enum-told
     rule6-requires

@@ -1,7 +1,7 @@
 -- Rank 0 is a vertex, and what is left is rank 1.
 use native.Mathlib.Omega.{arith}
 use Rattle.ends.proofs.Edges.{edge-left}
-use Rattle.ends.proofs.Vertices.{low-at, corner-left}
+use Rattle.ends.proofs.Vertices.{low-at, corner-ready, corner-left}
 use borrow.Author.Needs.{needs}
 use Rattle.ends.proofs.cut_low.Statement.{statement}
 use Rattle.ends.proofs.cut_low.Tie as tie
@@ -10,11 +10,11 @@ use Rattle.ends.proofs.cut_low.Tie as tie
 abbrev start : tie.After-slice-known4 → tie.Start
 start c = c .before .before .before .before
 
-abbrev corner-asked : tie.After-cut-corner-arg3 → tie.Then1
-corner-asked c = c .before .before .before
+abbrev corner-asked : tie.After-cut-corner-arg4 → tie.Then1
+corner-asked c = c .before .before .before .before
 
-abbrev edge-asked : tie.After-cut-edge-arg4 → tie.Else1
-edge-asked c = c .before .before .before .before
+abbrev edge-asked : tie.After-cut-edge-arg5 → tie.Else1
+edge-asked c = c .before .before .before .before .before
 
 abbrev given-back : tie.After-slice-known8 → tie.After-slice-known5
 given-back c = c .before .before .before .before .before .before
@@ -23,7 +23,7 @@ abbrev edge-cut : tie.After-slice-known8 → tie.After-cut-edge
 edge-cut c = given-back c .before .before
 
 cut-corner-requires : tie.Need-cut-corner-requires
-cut-corner-requires c κs = low-at 0 (corner-asked c .if1 .taken) (start (corner-asked c .before) .pre) .ready
+cut-corner-requires c κs = corner-ready (low-at 0 (corner-asked c .if1 .taken) (start (corner-asked c .before) .pre))
 
 same-length : tie.Need-same-length
 same-length c = search needs

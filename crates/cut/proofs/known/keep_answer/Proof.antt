@@ -1,75 +1,61 @@
 -- An answer is written by its kind.
-use Rattle.cut.proofs.Words.{sides-room, third-low, answer-flush-kept, answer-sides-kept}
+use Rattle.cut.proofs.Words.{sides-room, answer-flush-kept, answer-sides-kept}
 use borrow.Author.Needs.{needs}
 use Rattle.cut.proofs.known.keep_answer.Statement.{statement}
 use Rattle.cut.proofs.known.keep_answer.Tie as tie
 
--- where the output is known to have three places, and where the function began
-abbrev sides : tie.After-known-told → tie.After-output
+-- where the answer is known to have three places, and where the function began
+abbrev sides : tie.After-known-told → tie.After-answer
 sides c = c .before
 
-abbrev start : tie.After-output → tie.Start
+abbrev start : tie.After-answer → tie.Start
 start c = c .before .before
 
 enum-told : tie.Need-enum-told
 enum-told c = search needs
 
-third-word-requires : tie.Need-third-word-requires
-third-word-requires c κs = search needs
-
 put-words-requires : tie.Need-put-words-requires
-put-words-requires c κs = start-flush (c .before .before) .pre .low
-  where
-    start-flush : tie.After-enum-told → tie.Start
-    start-flush d = d .before .before
+put-words-requires c κs = search needs
 
-enum-known-output : tie.Need-enum-known-output
-enum-known-output c = search needs
+enum-known-answer : tie.Need-enum-known-answer
+enum-known-answer c = search needs
 
 word-of-requires : tie.Need-word-of-requires
-word-of-requires c κs = let s = sides c in sides-room _ _ _ _ (s .output .given .1) (start s .pre .room) .inside
+word-of-requires c κs = let s = sides c in sides-room _ _ _ _ (s .answer .given .1) (start s .pre .room) .inside
 
 word-of-requires-2 : tie.Need-word-of-requires-2
-word-of-requires-2 c κs = let s = sides (c .before) in sides-room _ _ _ _ (s .output .given .1) (start s .pre .room) .outside
+word-of-requires-2 c κs = let s = sides (c .before) in sides-room _ _ _ _ (s .answer .given .1) (start s .pre .room) .outside
 
 word-of-requires-3 : tie.Need-word-of-requires-3
-word-of-requires-3 c κs = let s = sides (c .before .before) in sides-room _ _ _ _ (s .output .given .1) (start s .pre .room) .intersection
-
-third-word-requires-2 : tie.Need-third-word-requires-2
-third-word-requires-2 c κs =
-    let s = sides (c .before .before .before) in third-low _ (c .word-of3 .ensures) (sides-room _ _ _ _ (s .output .given .1) (start s .pre .room))
+word-of-requires-3 c κs = let s = sides (c .before .before) in sides-room _ _ _ _ (s .answer .given .1) (start s .pre .room) .intersection
 
 put-words-requires-2 : tie.Need-put-words-requires-2
-put-words-requires-2 c κs = start (sides (c .before .before .before .before .before)) .pre .low
+put-words-requires-2 c κs = search needs
 
 returns : tie.Need-returns
 returns c =
-    let third = c .before .before in
-    let told = third .before in
+    let told = c .before .before in
     let a = told .before .before .args in
-    answer-flush-kept (a .known .now) (a .e .0) _ _ _ _ (told .enum-told .given .1) (third .third-word .ensures) (c .put-words .ensures)
+    answer-flush-kept (a .known .now) (a .e .0) _ _ (told .enum-told .given .1) (c .put-words .ensures)
 
 returns-2 : tie.Need-returns-2
 returns-2 c =
-    let third = c .before .before in
-    let words = third .before in
+    let words = c .before .before in
     let s = sides (words .before .before .before) in
     let a = start s .args in
-    answer-sides-kept (a .known .now) (a .e .0) _ _ _ _ _ _ _ _ _ _ (s .output .given .1)
-    (words .before .before .word-of .ensures) (words .before .word-of2 .ensures) (words .word-of3 .ensures) (third .third-word2 .ensures) (c .put-words2 .ensures)
+    answer-sides-kept (a .known .now) (a .e .0) _ _ _ _ _ _ _ _ (s .answer .given .1)
+    (words .before .before .word-of .ensures) (words .before .word-of2 .ensures) (words .word-of3 .ensures) (c .put-words2 .ensures)
 
 pub keep-answer-spec : {M : Type 1} → statement M
 keep-answer-spec =
     tie.close
     (tie.spec
     enum-told
-    third-word-requires
     put-words-requires
-    enum-known-output
+    enum-known-answer
     word-of-requires
     word-of-requires-2
     word-of-requires-3
-    third-word-requires-2
     put-words-requires-2
     returns
     returns-2)

@@ -91,7 +91,7 @@ same-length-10 : tie.Need-same-length-10
 same-length-10 c = search needs
 
 returns-2 : tie.Need-returns-2
-returns-2 c = whole-done (tried (c .before .before .before) .cut-named .ensures) _ (c .before .reply2 .given .1)
+returns-2 c = whole-done (tried (c .before .before .before) .cut-named .ensures) _ _ (c .before .reply2 .given .1)
 
 pub cut-finite-spec : {M : Type 1} → statement M
 cut-finite-spec =

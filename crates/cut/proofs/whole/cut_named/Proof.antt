@@ -1,5 +1,5 @@
 -- The hyperplane is refused, or has a number, and the root is cut; nothing is known before, and its answer is after.
-use Rattle.cut.proofs.WholeCuts.{plane-asked, rank-asked, root-low, root-ready, plane-refused, root-cut, root-refused, root-answered}
+use Rattle.cut.proofs.WholeCuts.{plane-asked, rank-asked, root-low, root-ready, plane-refused, root-refused, root-answered}
 use borrow.Author.Needs.{needs}
 use Rattle.cut.proofs.whole.cut_named.Statement.{statement}
 use Rattle.cut.proofs.whole.cut_named.Tie as tie
@@ -17,8 +17,8 @@ added c = c .before .before .before .before
 abbrev numbered : tie.After-rank-of → tie.After-named2
 numbered c = c .before .before .before
 
-abbrev ranked : tie.After-known → tie.After-rank-of
-ranked c = c .before .before .before .before .before
+abbrev ranked : tie.After-room → tie.After-rank-of
+ranked c = c .before .before .before .before .before .before
 
 -- where the root was asked: the lengths of the slices are known again after it
 abbrev half-known : tie.After-slice-known11 → tie.After-slice-known9
@@ -26,6 +26,10 @@ half-known c = c .before .before .before .before
 
 abbrev asked : tie.After-slice-known11 → tie.After-cut-element
 asked c = half-known c .before .before .before .before
+
+-- and where its answer is known
+abbrev told : tie.After-output-at → tie.After-enum-told
+told c = c .before .before
 
 add-hyperplane-requires : tie.Need-add-hyperplane-requires
 add-hyperplane-requires c κs = plane-asked (lent (c .before .before .before) .pre)
@@ -54,10 +58,13 @@ enum-known-asked c = search needs
 enum-told : tie.Need-enum-told
 enum-told c = search needs
 
-answer-at-requires : tie.Need-answer-at-requires
-answer-at-requires c κs =
+output-at-requires : tie.Need-output-at-requires
+output-at-requires c κs =
     let n = numbered (ranked (asked (c .before .before .before) .before)) in
     root-low (start (added (n .before .before)) .pre)
+
+has-warning-requires : tie.Need-has-warning-requires
+has-warning-requires c κs = search needs
 
 same-length : tie.Need-same-length
 same-length c = search needs
@@ -91,7 +98,7 @@ returns-2 c =
     let r = ranked (s .before) in
     let n = numbered r in
     let p = added (n .before .before) in
-    root-cut (start p .args .params) (p .add-hyperplane .ensures) _ (n .named2 .given .1) _ (r .rank-of .ensures) (s .cut-element .ensures) _ (root-refused _ _ (c .before .asked .given .1))
+    root-refused (start p .args .params) (p .add-hyperplane .ensures) _ (n .named2 .given .1) _ (r .rank-of .ensures) (s .cut-element .ensures) _ (c .before .asked .given .1)
 
 same-length-8 : tie.Need-same-length-8
 same-length-8 c = search needs
@@ -110,13 +117,14 @@ same-length-12 c = search needs
 
 returns-3 : tie.Need-returns-3
 returns-3 c =
-    let told = c .before .before in
-    let s = asked (told .before .before) in
+    let o = c .before .before in
+    let e = told o in
+    let s = asked (e .before .before) in
     let r = ranked (s .before) in
     let n = numbered r in
     let p = added (n .before .before) in
-    root-cut (start p .args .params) (p .add-hyperplane .ensures) _ (n .named2 .given .1) _ (r .rank-of .ensures) (s .cut-element .ensures) _
-    (root-answered _ _ (told .enum-told .given .1) (c .answer-at .ensures))
+    root-answered (start p .args .params) (p .add-hyperplane .ensures) _ (n .named2 .given .1) _ (r .rank-of .ensures) (s .cut-element .ensures) (e .enum-told .given .1) _ _
+    (o .output-at .ensures) (c .has-warning .ensures)
 
 pub cut-named-spec : {M : Type 1} → statement M
 cut-named-spec =
@@ -129,7 +137,8 @@ cut-named-spec =
     cut-element-requires
     enum-known-asked
     enum-told
-    answer-at-requires
+    output-at-requires
+    has-warning-requires
     same-length
     same-length-2
     returns

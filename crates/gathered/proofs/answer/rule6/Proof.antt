@@ -1,5 +1,4 @@
 -- Four ways: more than one flush answer, exactly one, and without one the intersection refused or known.
-use native.Mathlib.Omega.{arith}
 use Rattle.gathered.proofs.Answering.{rule6-flush, flush-ready, rule6-one, intersection-ready, intersection-refused, intersection-known, rule6-none}
 use borrow.Author.Needs.{needs}
 use Rattle.gathered.proofs.answer.rule6.Statement.{statement}
@@ -7,35 +6,34 @@ use Rattle.gathered.proofs.answer.rule6.Tie as tie
 
 -- where the function began; the one flush answer; no flush answer, and the intersection worked out and known
 abbrev start : tie.After-flushes → tie.Start
-start c = c .before .before .before .before .before
+start c = c .before .before .before .before
 
--- the warning is read
-abbrev warned : tie.After-flushes → tie.After-has-warning
-warned c = c .before
+abbrev one : tie.After-rule7-arg4 → tie.After-wide
+one c = c .before .before .before .before
 
-abbrev one : tie.After-rule7-arg5 → tie.After-wide
-one c = c .before .before .before .before .before
-
-abbrev none : tie.After-new-intersection-arg3 → tie.Else2
-none c = c .before .before .before
+abbrev none : tie.After-new-intersection-arg4 → tie.Else2
+none c = c .before .before .before .before
 
 abbrev worked-out : tie.After-slice-known9 → tie.After-new-intersection
 worked-out c = c .before .before .before .before .before .before
 
-abbrev known : tie.After-rule7-arg10 → tie.After-middle2
-known c = c .before .before .before .before .before .before
+abbrev known : tie.After-rule7-arg8 → tie.After-middle2
+known c = c .before .before .before .before .before
 
-has-warning-requires : tie.Need-has-warning-requires
-has-warning-requires c κs = search needs
+index-1-flushes : tie.Need-index-1-flushes
+index-1-flushes c = search needs
 
-element-copy-out-flushes : tie.Need-element-copy-out-flushes
-element-copy-out-flushes c = omega (arith, c .before .before .before .before .pre .fit .sized .tally)
+index-2-flushes : tie.Need-index-2-flushes
+index-2-flushes c = search needs
 
 returns : tie.Need-returns
-returns c = rule6-flush (warned (c .before) .has-warning .ensures) (c .if1 .taken) (start (c .before) .pre .indexed)
+returns c = rule6-flush (c .if1 .taken) (start (c .before) .pre)
 
-element-copy-out-wide : tie.Need-element-copy-out-wide
-element-copy-out-wide c = omega (arith, start (c .before .before) .pre .fit .sized .tally)
+index-1-wide : tie.Need-index-1-wide
+index-1-wide c = search needs
+
+index-2-wide : tie.Need-index-2-wide
+index-2-wide c = search needs
 
 wide-requires : tie.Need-wide-requires
 wide-requires c κs = search needs
@@ -44,7 +42,7 @@ rule7-requires : tie.Need-rule7-requires
 rule7-requires c κs =
     let read = one c in
     let single = read .before .before in
-    flush-ready (warned (single .before .before) .has-warning .ensures) (single .if2 .taken) _ (read .wide .ensures .value) (start (single .before .before) .pre)
+    flush-ready (single .if2 .taken) _ (read .wide .ensures .value) (start (single .before .before) .pre)
 
 same-length : tie.Need-same-length
 same-length c = search needs
@@ -59,12 +57,13 @@ returns-2 : tie.Need-returns-2
 returns-2 c =
     let answered = c .before .before .before .before .before .before in
     let read = one (answered .before) in
-    rule6-one (warned (read .before .before .before .before) .has-warning .ensures) (read .before .before .if2 .taken) _ (read .wide .ensures .value) (answered .rule7 .ensures)
+    rule6-one (read .before .before .if2 .taken) _ (read .wide .ensures .value) (answered .rule7 .ensures)
+
+index-1-new-intersection : tie.Need-index-1-new-intersection
+index-1-new-intersection c = search needs
 
 new-intersection-requires : tie.Need-new-intersection-requires
-new-intersection-requires c κs =
-    let read = none c .before .before in
-    intersection-ready (warned read .has-warning .ensures) (start read .pre)
+new-intersection-requires c κs = intersection-ready (start (none c .before .before) .pre)
 
 enum-known-middle : tie.Need-enum-known-middle
 enum-known-middle c = search needs
@@ -77,7 +76,7 @@ rule7-requires-2 c κs =
     let middle = known c in
     let worked = worked-out (middle .before .before) in
     let asked = none (worked .before) in
-    intersection-known (warned (asked .before .before) .has-warning .ensures) (asked .before .if1 .left) (asked .if2 .left) (worked .new-intersection .ensures) _ (middle .middle2 .given .1) (start (asked .before .before) .pre)
+    intersection-known (asked .before .if1 .left) (asked .if2 .left) (worked .new-intersection .ensures) _ (middle .middle2 .given .1) (start (asked .before .before) .pre)
 
 same-length-4 : tie.Need-same-length-4
 same-length-4 c = search needs
@@ -93,7 +92,7 @@ returns-3 c =
     let refused = c .before in
     let worked = worked-out (refused .before .before) in
     let asked = none (worked .before) in
-    intersection-refused (warned (asked .before .before) .has-warning .ensures) (asked .before .if1 .left) (asked .if2 .left) (worked .new-intersection .ensures) _ (refused .middle .given .1)
+    intersection-refused (asked .before .if1 .left) (asked .if2 .left) (worked .new-intersection .ensures) (start (asked .before .before) .pre) _ (refused .middle .given .1)
 
 same-length-7 : tie.Need-same-length-7
 same-length-7 c = search needs
@@ -110,22 +109,24 @@ returns-4 c =
     let middle = known (answered .before) in
     let worked = worked-out (middle .before .before) in
     let asked = none (worked .before) in
-    rule6-none (warned (asked .before .before) .has-warning .ensures) (asked .before .if1 .left) (asked .if2 .left) (worked .new-intersection .ensures) _ (middle .middle2 .given .1) (answered .rule72 .ensures)
+    rule6-none (asked .before .if1 .left) (asked .if2 .left) (worked .new-intersection .ensures) _ (middle .middle2 .given .1) (answered .rule72 .ensures)
 
 pub rule6-spec : {M : Type 1} → statement M
 rule6-spec =
     tie.close
     (tie.spec
-    has-warning-requires
-    element-copy-out-flushes
+    index-1-flushes
+    index-2-flushes
     returns
-    element-copy-out-wide
+    index-1-wide
+    index-2-wide
     wide-requires
     rule7-requires
     same-length
     same-length-2
     same-length-3
     returns-2
+    index-1-new-intersection
     new-intersection-requires
     enum-known-middle
     enum-known-middle-2

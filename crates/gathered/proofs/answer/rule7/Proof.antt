@@ -20,6 +20,9 @@ inside-known c = c .before .before .before .before .before
 abbrev outside-answered : tie.After-slice-known9 → tie.After-side-of-cut2
 outside-answered c = c .before .before .before .before .before .before
 
+index-1-side-of-cut : tie.Need-index-1-side-of-cut
+index-1-side-of-cut c = search needs
+
 side-of-cut-requires : tie.Need-side-of-cut-requires
 side-of-cut-requires c κs = inside-ready (start c .pre)
 
@@ -28,6 +31,9 @@ enum-known-first c = search needs
 
 enum-known-first-2 : tie.Need-enum-known-first-2
 enum-known-first-2 c = search needs
+
+index-1-side-of-cut-2 : tie.Need-index-1-side-of-cut-2
+index-1-side-of-cut-2 c = search needs
 
 side-of-cut-requires-2 : tie.Need-side-of-cut-requires-2
 side-of-cut-requires-2 c κs =
@@ -54,7 +60,7 @@ returns : tie.Need-returns
 returns c =
     let refused = c .before in
     let inside = inside-answered (refused .before .before) in
-    inside-refused (inside .side-of-cut .ensures) _ (refused .first .given .1)
+    inside-refused (inside .side-of-cut .ensures) (start (inside .before) .pre .fit .shaped) _ (refused .first .given .1)
 
 same-length-4 : tie.Need-same-length-4
 same-length-4 c = search needs
@@ -71,7 +77,7 @@ returns-2 c =
     let outside = outside-answered (refused .before .before) in
     let known = inside-known (outside .before) in
     let inside = inside-answered (known .before .before) in
-    outside-refused (inside .side-of-cut .ensures) _ (known .first2 .given .1) (outside .side-of-cut2 .ensures) _ (refused .second .given .1)
+    outside-refused (inside .side-of-cut .ensures) _ (known .first2 .given .1) (outside .side-of-cut2 .ensures) (start (inside .before) .pre .fit .shaped) _ (refused .second .given .1)
 
 same-length-7 : tie.Need-same-length-7
 same-length-7 c = search needs
@@ -88,15 +94,17 @@ returns-3 c =
     let outside = outside-answered (both .before .before) in
     let known = inside-known (outside .before) in
     let inside = inside-answered (known .before .before) in
-    rule7-answered (inside .side-of-cut .ensures) _ (known .first2 .given .1) (outside .side-of-cut2 .ensures) _ (both .second2 .given .1)
+    rule7-answered (inside .side-of-cut .ensures) _ (known .first2 .given .1) (outside .side-of-cut2 .ensures) (start (inside .before) .pre .fit .shaped) _ (both .second2 .given .1)
 
 pub rule7-spec : {M : Type 1} → statement M
 rule7-spec =
     tie.close
     (tie.spec
+    index-1-side-of-cut
     side-of-cut-requires
     enum-known-first
     enum-known-first-2
+    index-1-side-of-cut-2
     side-of-cut-requires-2
     enum-known-second
     enum-known-second-2

@@ -96,7 +96,7 @@ returns-3 c =
     let set = with size in
     let marked = mark set in
     let named = plane marked in
-    side-kept _ _ _ _ (size .wide .ensures .value) (sym (is-kept (kept named) .is-kept .ensures) ∙ not-false _ (kept named .if1 .left)) (named .plane-of .ensures) (marked .is-primordial .ensures) (set .include .ensures)
+    side-kept (first set .pre) _ _ _ _ (size .wide .ensures .value) (sym (is-kept (kept named) .is-kept .ensures) ∙ not-false _ (kept named .if1 .left)) (named .plane-of .ensures) (marked .is-primordial .ensures) (set .include .ensures)
     (added .add-polytope .ensures .added) (added .add-polytope .ensures .index)
 
 pub side-of-cut-spec : {M : Type 1} → statement M

@@ -2,6 +2,7 @@
 use Prim.Native.Nat.{ℕ, _+_, _*_, _%_}
 use mathlib.Core.Path.{ap₂, _∙_}
 use native.Mathlib.Omega.{arith}
+use Rattle.space.specs.Chains.{keys, spread}
 use Rattle.space.proofs.Indexing.{key-words}
 use borrow.Author.Needs.{needs}
 use Rattle.space.proofs.chains.key_of.Statement.{statement}
@@ -41,7 +42,7 @@ returns : tie.Need-returns
 returns c =
     let a = c .before .before .before .before .before .args in
     record {
-      value = ap₂ (λ (v w : ℕ). (v * 37 + w) % 1024) (c .before .before .wide .ensures .value) (c .wide2 .ensures .value) ∙ key-words (a .words .now) (a .at);
+      value = ap₂ (λ (v w : ℕ). (v * spread + w) % keys) (c .before .before .wide .ensures .value) (c .wide2 .ensures .value) ∙ key-words (a .words .now) (a .at);
       bound = omega arith;
     }
 

@@ -1,12 +1,11 @@
 -- Below the stamp the corner is its own path; else its word says the other end.
-use Prim.Native.Nat.{suc, _-_, _≤_, _<_}
-use mathlib.Core.Bool.{Bool, cond}
-use mathlib.Core.Path.{ap, sym}
+use Prim.Native.Nat.{_-_, _≤_}
+use mathlib.Core.Path.{refl}
 use native.Mathlib.Omega.{arith}
 use lib.ListN.{getD}
 use borrow.Author.Needs.{needs}
-use borrow.Author.Tests.{lt-ltb, le-ltb}
 use Rattle.space.specs.Closed.{inside}
+use Rattle.space.proofs.Across.{far-own, far-other}
 use Rattle.space.proofs.closed.far_end.Statement.{statement}
 use Rattle.space.proofs.closed.far_end.Tie as tie
 
@@ -17,14 +16,7 @@ element-copy-out-m : tie.Need-element-copy-out-m
 element-copy-out-m c = search needs
 
 returns : tie.Need-returns
-returns c =
-    let a = c .before .before .args in
-    let p = c .before .before .pre in
-    let l = p .room in
-    record {
-      value = sym (ap (λ (b : Bool). cond b (a .v) (getD (a .paths .now) (a .v) 0 - a .stamp)) (lt-ltb (getD (a .paths .now) (a .v) 0) (a .stamp) (c .if1 .taken)));
-      bound = let z : a .v < suc inside = omega (arith, l) in z;
-    }
+returns c = far-own (c .before .before .pre) _ refl (c .if1 .taken)
 
 cast-result : tie.Need-cast-result
 cast-result c =
@@ -35,14 +27,7 @@ cast-result c =
     search (needs, z)
 
 returns-2 : tie.Need-returns-2
-returns-2 c =
-    let a = c .before .before .args in
-    let p = c .before .before .pre in
-    let u = p .stamped .under (a .v) (p .room) in
-    record {
-      value = sym (ap (λ (b : Bool). cond b (a .v) (getD (a .paths .now) (a .v) 0 - a .stamp)) (le-ltb (getD (a .paths .now) (a .v) 0) (a .stamp) (c .if1 .left)));
-      bound = let z : getD (a .paths .now) (a .v) 0 - a .stamp < suc inside = omega (arith, u) in z;
-    }
+returns-2 c = far-other (c .before .before .pre) _ refl (c .if1 .left)
 
 pub far-end-spec : {M : Type 1} → statement M
 far-end-spec = tie.close (tie.spec mul-m element-copy-out-m returns cast-result returns-2)

@@ -80,7 +80,7 @@ module _ {es list : List ℕ} {n : ℕ} {paths : List ℕ} {twice k x : ℕ} (T 
 abbrev start : tie.At-loop Inv-loop μ-loop → tie.Start Inv-loop μ-loop
 start c = c .before .before .before
 
-abbrev read-at : tie.After-join-ends Inv-loop μ-loop → tie.After-wide Inv-loop μ-loop
+abbrev read-at : tie.After-join-ends-in-face Inv-loop μ-loop → tie.After-wide Inv-loop μ-loop
 read-at c = c .before .before
 
 -- the facts there
@@ -107,17 +107,17 @@ shared-slice-read-wide c = search needs
 wide-requires : tie.Need-wide-requires Inv-loop μ-loop
 wide-requires c κs = search needs
 
-join-ends-requires : tie.Need-join-ends-requires Inv-loop μ-loop
-join-ends-requires c κs = record { edge = taken-ready (taken (c .before) .edge); stamped = stamped (taken (c .before)) }
+join-ends-in-face-requires : tie.Need-join-ends-in-face-requires Inv-loop μ-loop
+join-ends-in-face-requires c κs = record { edge = taken-ready (taken (c .before) .edge); stamped = stamped (taken (c .before)) }
 
 returns : tie.Need-returns Inv-loop μ-loop
-returns c = let j = c .before in thrice (taken (read-at j)) (j .join-ends .ensures .code) (c .if1 .taken)
+returns c = let j = c .before in thrice (taken (read-at j)) (j .join-ends-in-face .ensures .code) (c .if1 .taken)
 
 add-if3 : tie.Need-add-if3 Inv-loop μ-loop
 add-if3 c = search needs
 
 returns-2 : tie.Need-returns-2 Inv-loop μ-loop
-returns-2 c = let j = c .before .before .before in early (taken (read-at j)) (j .join-ends .ensures .code) (c .before .if2 .taken) (c .if3 .taken)
+returns-2 c = let j = c .before .before .before in early (taken (read-at j)) (j .join-ends-in-face .ensures .code) (c .before .if2 .taken) (c .if3 .taken)
 
 add-result : tie.Need-add-result Inv-loop μ-loop
 add-result c =
@@ -126,14 +126,14 @@ add-result c =
     omega (arith, most, T .edge .ready .size, T .so .bound)
 
 returns-3 : tie.Need-returns-3 Inv-loop μ-loop
-returns-3 c = let j = c .before .before .before in last (taken (read-at j)) (j .join-ends .ensures .code) (c .before .if2 .taken) (c .if3 .left)
+returns-3 c = let j = c .before .before .before in last (taken (read-at j)) (j .join-ends-in-face .ensures .code) (c .before .if2 .taken) (c .if3 .left)
 
 add-twice : tie.Need-add-twice Inv-loop μ-loop
 add-twice c =
     let j = c .before .before in
     let T = taken (read-at j) in
     let most = few T in
-    omega (arith, most, j .join-ends .ensures .most, T .edge .ready .size, T .so .bound)
+    omega (arith, most, j .join-ends-in-face .ensures .most, T .edge .ready .size, T .so .bound)
 
 add-k : tie.Need-add-k Inv-loop μ-loop
 add-k c = search needs
@@ -144,11 +144,11 @@ loop-less c = search needs
 loop-again : tie.Need-loop-again Inv-loop μ-loop
 loop-again c =
     let j = c .before .before in
-    let most = j .join-ends .ensures .most in
+    let most = j .join-ends-in-face .ensures .most in
     let not-four = c .before .if1 .left in
     let not-three = c .if2 .left in
-    let small : j .join-ends .result < 3 = omega (arith, most, not-four, not-three) in
-    goes-on (taken (read-at j)) (j .join-ends .ensures .code) small _ (j .join-ends .ensures .words small)
+    let small : j .join-ends-in-face .result < 3 = omega (arith, most, not-four, not-three) in
+    goes-on (taken (read-at j)) (j .join-ends-in-face .ensures .code) small _ (j .join-ends-in-face .ensures .words small)
 
 returns-4 : tie.Need-returns-4 Inv-loop μ-loop
 returns-4 c =
@@ -170,7 +170,7 @@ is-ring-spec =
     mul-wide
     shared-slice-read-wide
     wide-requires
-    join-ends-requires
+    join-ends-in-face-requires
     returns
     add-if3
     returns-2

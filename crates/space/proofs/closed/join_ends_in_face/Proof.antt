@@ -2,8 +2,8 @@
 use mathlib.Core.Path.{_∙_}
 use borrow.Author.Needs.{needs}
 use Rattle.space.proofs.PathsJoined.{edge-joined, edge-paths}
-use Rattle.space.proofs.closed.join_ends.Statement.{statement}
-use Rattle.space.proofs.closed.join_ends.Tie as tie
+use Rattle.space.proofs.closed.join_ends_in_face.Statement.{statement}
+use Rattle.space.proofs.closed.join_ends_in_face.Tie as tie
 
 -- where the function began, where the first end was read, and where both were
 abbrev start : tie.After-wide → tie.Start
@@ -24,8 +24,8 @@ boundary-at-requires-2 c κs = search needs
 wide-requires-2 : tie.Need-wide-requires-2
 wide-requires-2 c κs = search needs
 
-join-paths-requires : tie.Need-join-paths-requires
-join-paths-requires c κs =
+join-in-face-requires : tie.Need-join-in-face-requires
+join-in-face-requires c κs =
     let t = c .before in
     let w = first t in
     let p = start w .pre in
@@ -35,15 +35,15 @@ returns : tie.Need-returns
 returns c =
     let t = c .before .before in
     let w = first t in
-    edge-joined (w .wide .ensures .value ∙ w .before .boundary-at .ensures) (t .wide2 .ensures .value ∙ t .before .boundary-at2 .ensures) (c .join-paths .ensures)
+    edge-joined (w .wide .ensures .value ∙ w .before .boundary-at .ensures) (t .wide2 .ensures .value ∙ t .before .boundary-at2 .ensures) (c .join-in-face .ensures)
 
-pub join-ends-spec : {M : Type 1} → statement M
-join-ends-spec =
+pub join-ends-in-face-spec : {M : Type 1} → statement M
+join-ends-in-face-spec =
     tie.close
     (tie.spec
     boundary-at-requires
     wide-requires
     boundary-at-requires-2
     wide-requires-2
-    join-paths-requires
+    join-in-face-requires
     returns)

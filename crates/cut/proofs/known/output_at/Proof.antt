@@ -1,9 +1,8 @@
--- A second word of 0 is flush; else each word is an element or none. The warning is the lowest bit of the third.
-use mathlib.Core.Path.{refl}
-use Rattle.cut.proofs.Words.{answer-flush, answer-sides}
+-- A second word of 0 is flush; else each word is an element or none.
+use Rattle.cut.proofs.Words.{output-flush, output-sides}
 use borrow.Author.Needs.{needs}
-use Rattle.cut.proofs.known.answer_at.Statement.{statement}
-use Rattle.cut.proofs.known.answer_at.Tie as tie
+use Rattle.cut.proofs.known.output_at.Statement.{statement}
+use Rattle.cut.proofs.known.output_at.Tie as tie
 
 -- where the function began
 abbrev start : tie.After-c → tie.Start
@@ -39,7 +38,7 @@ element-copy-out-c c = search needs
 returns : tie.Need-returns
 returns c =
     let a = start (c .before) .args in
-    answer-flush (a .known .now) (a .e .0) _ (c .if1 .taken) refl
+    output-flush (a .known .now) (a .e .0) (c .if1 .taken)
 
 some-of-requires : tie.Need-some-of-requires
 some-of-requires c κs = search needs
@@ -53,10 +52,10 @@ some-of-requires-3 c κs = search needs
 returns-2 : tie.Need-returns-2
 returns-2 c =
     let a = start (c .before .before .before .before) .args in
-    answer-sides (a .known .now) (a .e .0) _ _ _ _ (search needs) refl (c .before .before .some-of .ensures) (c .before .some-of2 .ensures) (c .some-of3 .ensures)
+    output-sides (a .known .now) (a .e .0) _ _ _ (search needs) (c .before .before .some-of .ensures) (c .before .some-of2 .ensures) (c .some-of3 .ensures)
 
-pub answer-at-spec : {M : Type 1} → statement M
-answer-at-spec =
+pub output-at-spec : {M : Type 1} → statement M
+output-at-spec =
     tie.close
     (tie.spec
     mul-at
