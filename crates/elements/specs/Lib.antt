@@ -2,3 +2,4 @@
 pub mod Marks
 pub mod Below
 pub mod Ranks
+pub mod Touches

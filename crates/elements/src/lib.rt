@@ -5,3 +5,4 @@ mod listing;
 mod marks;
 pub mod questions;
 mod ranks;
+pub mod touch;
