@@ -10,9 +10,12 @@ use borrow.Author.Needs.{needs}
 use Rattle.soundness.proofs.asked.divider_asked.Statement.{statement}
 use Rattle.soundness.proofs.asked.divider_asked.Tie as tie
 
--- where the function began
+-- where the memory was lent, and where the function began
+abbrev lent : tie.After-memory-indexed → tie.After-slice-known
+lent c = c .before .before
+
 abbrev start : tie.After-slice-known2 → tie.Start
-start c = c .before .before .before .before .before .before .before .before .before
+start c = lent (c .before .before) .before .before .before .before .before
 
 abbrev isSound : tie.Start → Bool
 isSound c = soundMemory desk (memoryOf (c .args .counts .now) (c .args .points .now) (c .args .planes .now) (c .args .elements .now))
