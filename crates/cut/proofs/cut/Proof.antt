@@ -20,11 +20,11 @@ abbrev tested : tie.After-index2 → tie.After-divider-asked
 tested c = c .before
 
 -- where the cut was made, and where it was begun
-abbrev half-known : tie.After-index4 → tie.After-slice-known8
-half-known c = c .before
+abbrev half-known : tie.After-index4 → tie.After-slice-known6
+half-known c = c .before .before .before .before .before
 
 abbrev made : tie.After-index4 → tie.After-cut-finite
-made c = half-known c .before .before .before .before .before .before .before .before
+made c = half-known c .before .before .before .before
 
 -- an answer is what the rules ask
 told : (c : tie.After-index2) {x : Asking} → tested c .divider-asked .result ≡ x
