@@ -61,7 +61,7 @@ module _ (m : Memory) where
   unfolding subElementsReply subElements
   sub-fits e room = list-fits (asked desk m (e ∷ []) (answer (subElements t e))) room (asked-fits m (e ∷ []) (answer (subElements t e)) (λ s u. kept-fits (isBelow t e) s))
 
-  rank-fits-list : (k e : ℕ) → soundMemory desk m ≡ true → length (withRank t k e) ≤ desk .elements
+  pub rank-fits-list : (k e : ℕ) → soundMemory desk m ≡ true → length (withRank t k e) ≤ desk .elements
   unfolding withRank subElements
   rank-fits-list k e s = le-trans (kept-length (λ x. eqb (rank t x) k) (subElements t e)) (kept-fits (isBelow t e) s)
 

@@ -6,6 +6,7 @@ use lib.Dec.{eqb, leb}
 use lib.Ieee.{Float}
 use Rattle.rules.specs.Memory.{Memory}
 use Rattle.rules.specs.Replies.{fateOf}
+use Rattle.rules.specs.Touch.{touchValue}
 use Rattle.rules.specs.declared.Hyperplane.{Hyperplane}
 use Rattle.rules.specs.declared.PolytopeFate.{PolytopeFate}
 use Rattle.rules.specs.declared.ElementOrNone.{ElementOrNone}
@@ -18,6 +19,8 @@ use Rattle.rules.specs.declared.ListReply.{ListReply}
 use Rattle.rules.specs.declared.ListReply.the-variants.{Refused as ListRefused, Listed}
 use Rattle.rules.specs.declared.FacetReply.{FacetReply}
 use Rattle.rules.specs.declared.FacetReply.the-variants.{Refused as FacetRefused, Has}
+use Rattle.rules.specs.declared.TouchReply.{TouchReply}
+use Rattle.rules.specs.declared.TouchReply.the-variants.{Refused as TouchRefused, Touched}
 
 -- an element's number, FFFF for none
 abbrev pub elementWord : ElementOrNone → ℕ
@@ -52,6 +55,11 @@ abbrev pub facetWord : FacetReply → ℕ
 facetWord (FacetRefused n) = n
 facetWord (Has b) = cond b 0x100 0
 
+-- bits 0 to 7 are the reply's number, bits 8 and 9 the answer, and from bit 16 on stands how many corners were tested
+abbrev pub touchWord : TouchReply → ℕ
+touchWord (TouchRefused n) = n
+touchWord (Touched a k) = touchValue a * 0x100 + k * 0x10000
+
 -- the divider, of its four components and its distance
 abbrev pub dividerWith : Float → Float → Float → Float → Float → Hyperplane
 dividerWith n0 n1 n2 n3 distance = record { normal = n0 ∷ n1 ∷ n2 ∷ n3 ∷ []; distance = distance }
@@ -72,3 +80,8 @@ longest = 65535
 abbrev pub SizeFits : ListReply → Type 0
 SizeFits (ListRefused n) = Unit {0}
 SizeFits (Listed n) = n ≤ longest
+
+-- no more corners tested than that, or a refusal
+abbrev pub CountFits : TouchReply → Type 0
+CountFits (TouchRefused n) = Unit {0}
+CountFits (Touched a k) = k ≤ longest

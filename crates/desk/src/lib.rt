@@ -1,5 +1,6 @@
 // Every entry point for hosts: slices as a pointer and a length, and numbers of 32 bits, so that none is cut to another on its way.
 use elements::questions;
+use elements::touch;
 use rules::CutParams;
 use rules::CutReply;
 use rules::ElementCutOutput;
@@ -9,6 +10,8 @@ use rules::FacetReply;
 use rules::Hyperplane;
 use rules::ListReply;
 use rules::PolytopeFate;
+use rules::Touch;
+use rules::TouchReply;
 use walk::facet;
 ghost use mathlib.Core.Path.{_≡_};
 ghost use Rattle.rules.specs.Limits.{desk};
@@ -16,8 +19,9 @@ ghost use Rattle.rules.specs.Held.{memoryOf};
 ghost use Rattle.rules.specs.Files.{saveReply, openReply};
 ghost use Rattle.rules.specs.Replies.{isSoundReply, cubeReply, cutBy, cutReply, subElementsReply, withRankReply, vertexSetReply, greatestCommonReply, edgesInOrderReply, primordialFacetReply};
 ghost use Rattle.rules.specs.Promises.{OneBelow, NamesBelow};
+ghost use Rattle.rules.specs.Touch.{touchValue, touchReply};
 ghost use Rattle.space.specs.Numbers.{NumberBelow};
-ghost use Rattle.desk.specs.Words.{elementWord, warningWord, outputWord, cutWord, sizeWord, SizeFits, listWord, facetWord, dividerWith, fateBy, rankByte};
+ghost use Rattle.desk.specs.Words.{elementWord, warningWord, outputWord, cutWord, sizeWord, SizeFits, listWord, facetWord, touchWord, CountFits, dividerWith, fateBy, rankByte};
 
 // 0 removes a side, and any other number keeps it.
 fn fate(kept: u32) -> PolytopeFate
@@ -150,6 +154,53 @@ pub extern "C" fn desk_cut(
         CutReply::Refused(no) => no as u64,
         CutReply::Answered { output, warning } => output_word(output, warning),
     }
+}
+
+fn touch_value(answer: Touch) -> u32
+    ensures { λ r. ⌜ NumberBelow r (touchValue answer) 4 ⌝ }
+{
+    match answer {
+        Touch::AllOn => 0,
+        Touch::InsideOrOn => 1,
+        Touch::OutsideOrOn => 2,
+        Touch::Both => 3,
+    }
+}
+
+fn touch_word(reply: TouchReply) -> u32
+    requires { ⌜ CountFits reply ⌝ }
+    ensures { λ r. ⌜ r ≡ touchWord reply ⌝ }
+{
+    match reply {
+        TouchReply::Refused(no) => no as u32,
+        TouchReply::Touched { answer, tested } => {
+            let value = touch_value(answer);
+            value * 0x100 + tested as u32 * 0x10000
+        }
+    }
+}
+
+// Bits 0 to 7 are the reply's number, bits 8 and 9 the answer, and from bit 16 on stands how many corners were tested.
+#[no_mangle]
+pub extern "C" fn desk_touch(
+    counts: &[u16],
+    points: &[f64],
+    planes: &[f64],
+    elements: &[u16],
+    n0: f64,
+    n1: f64,
+    n2: f64,
+    n3: f64,
+    distance: f64,
+    root: u32,
+) -> u32
+    ensures { λ r. ⌜ r ≡ touchWord (touchReply desk (dividerWith n0 n1 n2 n3 distance) root (memoryOf (now (counts .entry)) (now (points .entry)) (now (planes .entry)) (now (elements .entry)))) ⌝ }
+{
+    let normal = [n0, n1, n2, n3];
+    let divider = Hyperplane { normal, distance };
+    let root = ElementId(root as usize);
+    let reply = touch::touch(counts, points, planes, elements, divider, root);
+    touch_word(reply)
 }
 
 #[no_mangle]

@@ -261,9 +261,12 @@ reached-earlier es t lent (lower e n x l h) u =
     let r = reached-earlier es t lent h (omega (arith, b, u)) in
     omega (arith, b, r)
 
--- nothing that is not in use lies below
+-- nothing past the root lies below it, and nothing that is not in use
+pub none-above : (es : List ℕ) (t : Table) (root x : ℕ) → Lent es t → root < elementCount t → root < x → isBelow t root x ≡ false
+none-above es t root x lent u h = refute (isBelow t root x) (λ k. let r = reached-earlier es t lent (is-below desk t (lent .sound) root x u .0 k) u in omega (arith, r, h))
+
 pub none-below : (es : List ℕ) (t : Table) (root x : ℕ) → Lent es t → root < elementCount t → elementCount t ≤ x → isBelow t root x ≡ false
-none-below es t root x lent u h = refute (isBelow t root x) (λ k. let r = reached-earlier es t lent (is-below desk t (lent .sound) root x u .0 k) u in omega (arith, r, u, h))
+none-below es t root x lent u h = none-above es t root x lent u (omega (arith, u, h))
 
 pub sub-elements-marked : (es : List ℕ) (t : Table) (root : ℕ) (ws : List ℕ) → Lent es t → root < elementCount t → Below es root ws → markedNumbers ws ≡ subElements t root
 unfolding subElements

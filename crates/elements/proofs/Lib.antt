@@ -6,3 +6,5 @@ pub mod RankLoops
 pub mod CommonLoops
 pub mod VertexLoops
 pub mod QuestionReplies
+pub mod TouchLoops
+pub mod TouchReplies

@@ -18,7 +18,7 @@ use Rattle.elements.specs.Marks.{bit, isMarked, put, bitsFrom, wordsFrom
 
 -- ---- what is kept of numbers that rise
 
-keep-same : (p q : ℕ → Bool) → ((x : ℕ) → p x ≡ q x) → (xs : List ℕ) → keep p xs ≡ keep q xs
+pub keep-same : (p q : ℕ → Bool) → ((x : ℕ) → p x ≡ q x) → (xs : List ℕ) → keep p xs ≡ keep q xs
 keep-same p q h [] = refl
 keep-same p q h (x ∷ xs) = ap₂ (λ (b : Bool) (ys : List ℕ). if b then x ∷ ys else ys) (h x) (keep-same p q h xs)
 

@@ -112,7 +112,7 @@ module _ (es ws : List ℕ) (rank : ℕ) (out : List ℕ) (y : ℕ) (r : Ranking
 
 -- ---- sub-elements of a rank
 
-keep-keep : (p q : ℕ → Bool) (xs : List ℕ) → keep (λ x. p x && q x) xs ≡ keep q (keep p xs)
+pub keep-keep : (p q : ℕ → Bool) (xs : List ℕ) → keep (λ x. p x && q x) xs ≡ keep q (keep p xs)
 keep-keep p q [] = refl
 keep-keep p q (x ∷ xs) = go (p x) (keep-keep p q xs)
   where
@@ -121,18 +121,43 @@ keep-keep p q (x ∷ xs) = go (p x) (keep-keep p q xs)
     go true e = ap (λ (ys : List ℕ). if q x then x ∷ ys else ys) e
     go false e = e
 
-module _ (es : List ℕ) (t : Table) (lent : Lent es t) (root : ℕ) (u : root < elementCount t) (ws : List ℕ) (b : Below es root ws) (k : ℕ) (out : List ℕ) (r : OfRank es ws k out) where
-  below-used : (x : ℕ) → isBelow t root x ≡ true → x < elementCount t
+-- what is alike wherever p holds makes the same of what is kept
+pub map-kept : {A : Type 0} (p : ℕ → Bool) (f g : ℕ → A) → ((x : ℕ) → p x ≡ true → f x ≡ g x) → (xs : List ℕ) → map f (keep p xs) ≡ map g (keep p xs)
+map-kept p f g h [] = refl
+map-kept {A} p f g h (x ∷ xs) = both (p x) refl (map-kept p f g h xs)
+  where
+    both : (c : Bool) → p x ≡ c → map f (keep p xs) ≡ map g (keep p xs) → map f (if c then x ∷ keep p xs else keep p xs) ≡ map g (if c then x ∷ keep p xs else keep p xs)
+    both true q e = ap₂ (λ (y : A) (ys : List A). y ∷ ys) (h x q) e
+    both false q e = e
+
+-- the row of a vertex element has its vertex's number
+pub vertex-named : (es : List ℕ) (t : Table) → Lent es t → (x : ℕ) → x < elementCount t → rank t x ≡ 0 → vertexWord es x ≡ vertexOf (element t x)
+vertex-named es t lent x v z = ap (λ (l : List ℕ). getD l (x * 36 + (4 + 0)) 0) (lent .elements) ∙ go (element t x) refl
+  where
+    go : (y : Element) → element t x ≡ y → getD (elementsOf desk t) (x * 36 + (4 + 0)) 0 ≡ vertexOf y
+    go (corner c) q =
+        list-word desk t (lent .fits) x v 0 (subst (λ (y : Element). 0 < length (listOf y)) (sym q) (omega arith)) (omega arith)
+        ∙ ap (λ (y : Element). getD (listOf y) 0 0) q
+    go (polytope p c h m) q = absurd (above-zero desk t x p c h m (sound-good desk t (lent .sound)) v q z)
+
+module _ (es : List ℕ) (t : Table) (lent : Lent es t) (root : ℕ) (u : root < elementCount t) (ws : List ℕ) (b : Below es root ws) where
+  pub below-used : (x : ℕ) → isBelow t root x ≡ true → x < elementCount t
   below-used = true-below (isBelow t root) (elementCount t) (λ x h. none-below es t root x lent u h)
 
+  -- the marks and the words of the rows are the table's
+  pub ranked-is : (k x : ℕ) → isOfRank es ws k x ≡ (isBelow t root x && eqb (rank t x) k)
+  ranked-is k x =
+      ap (λ (c : Bool). c && eqb (getD es (x * 36) 0) k) (b .of t lent u x)
+      ∙ and-when (isBelow t root x) (eqb (getD es (x * 36) 0) k) (eqb (rank t x) k) (λ h. ap (λ (n : ℕ). eqb n k) (lent-rank es t lent x (below-used x h)))
+
+module _ (es : List ℕ) (t : Table) (lent : Lent es t) (root : ℕ) (u : root < elementCount t) (ws : List ℕ) (b : Below es root ws) (k : ℕ) (out : List ℕ) (r : OfRank es ws k out) where
   abbrev wanted : ℕ → Bool
   wanted x = isBelow t root x && eqb (rank t x) k
 
   ranked-kept : markedNumbers out ≡ keep wanted (upTo (elementCount t))
   ranked-kept =
       members-are out (elementCount t) wanted (lent .fits .elementRoom)
-      (λ x. r .of x ∙ ap (λ (c : Bool). c && eqb (getD es (x * 36) 0) k) (b .of t lent u x)
-      ∙ and-when (isBelow t root x) (eqb (getD es (x * 36) 0) k) (eqb (rank t x) k) (λ h. ap (λ (n : ℕ). eqb n k) (lent-rank es t lent x (below-used x h))))
+      (λ x. r .of x ∙ ranked-is es t lent root u ws b k x)
       (λ x h. ap (λ (c : Bool). c && eqb (rank t x) k) (none-below es t root x lent u h))
 
   kept-ranked : keep wanted (upTo (elementCount t)) ≡ withRank t k root
@@ -144,30 +169,14 @@ module _ (es : List ℕ) (t : Table) (lent : Lent es t) (root : ℕ) (u : root <
 
   -- ---- vertices
 
-  named : (x : ℕ) → k ≡ 0 → wanted x ≡ true → vertexWord es x ≡ vertexOf (element t x)
-  named x z h =
-      let v = below-used x (and-left (isBelow t root x) (eqb (rank t x) k) h) in
-      let zero-rank : rank t x ≡ 0 = eq-test (rank t x) k (and-right (isBelow t root x) (eqb (rank t x) k) h) ∙ z in
-      ap (λ (l : List ℕ). getD l (x * 36 + (4 + 0)) 0) (lent .elements) ∙ go v zero-rank (element t x) refl
-    where
-      go : (v : x < elementCount t) → rank t x ≡ 0 → (y : Element) → element t x ≡ y → getD (elementsOf desk t) (x * 36 + (4 + 0)) 0 ≡ vertexOf y
-      go v z (corner c) q =
-          list-word desk t (lent .fits) x v 0 (subst (λ (y : Element). 0 < length (listOf y)) (sym q) (omega arith)) (omega arith)
-          ∙ ap (λ (y : Element). getD (listOf y) 0 0) q
-      go v z (polytope p c h m) q = absurd (above-zero desk t x p c h m (sound-good desk t (lent .sound)) v q z)
+  named : k ≡ 0 → (x : ℕ) → wanted x ≡ true → vertexWord es x ≡ vertexOf (element t x)
+  named z x h =
+      vertex-named es t lent x (below-used es t lent root u ws b x (and-left (isBelow t root x) (eqb (rank t x) k) h))
+      (eq-test (rank t x) k (and-right (isBelow t root x) (eqb (rank t x) k) h) ∙ z)
 
   pub vertices-named : k ≡ 0 → map (vertexWord es) (markedNumbers out) ≡ vertexSet t root
   unfolding vertexSet
   vertices-named z =
       ap (map (vertexWord es)) ranked-kept
-      ∙ map-kept wanted (λ x h. named x z h) (upTo (elementCount t))
+      ∙ map-kept wanted (vertexWord es) (λ x. vertexOf (element t x)) (named z) (upTo (elementCount t))
       ∙ ap (map (λ x. vertexOf (element t x))) (kept-ranked ∙ ap (λ (j : ℕ). withRank t j root) z)
-    where
-      map-kept : (p : ℕ → Bool) → ((x : ℕ) → p x ≡ true → vertexWord es x ≡ vertexOf (element t x)) → (xs : List ℕ) → map (vertexWord es) (keep p xs) ≡ map (λ x. vertexOf (element t x)) (keep p xs)
-      map-kept p f [] = refl
-      map-kept p f (x ∷ xs) = both (p x) refl (map-kept p f xs)
-        where
-          both : (c : Bool) → p x ≡ c → map (vertexWord es) (keep p xs) ≡ map (λ y. vertexOf (element t y)) (keep p xs)
-              → map (vertexWord es) (if c then x ∷ keep p xs else keep p xs) ≡ map (λ y. vertexOf (element t y)) (if c then x ∷ keep p xs else keep p xs)
-          both true q e = ap₂ (λ (y : ℕ) (ys : List ℕ). y ∷ ys) (f x q) e
-          both false q e = e

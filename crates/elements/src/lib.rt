@@ -1,8 +1,8 @@
 // Questions over a table in the lent memory, which is read only.
-mod asked;
 mod below;
 mod common;
 mod listing;
 mod marks;
 pub mod questions;
 mod ranks;
+pub mod touch;

@@ -1,4 +1,4 @@
--- The tables of specs/Examples, Sessions and FileExamples: what the rules give is what the documents say. antt computes both sides.
+-- The tables of specs/Examples, Sessions, FileExamples and TouchExamples: what the rules give is what the documents say. antt computes both sides.
 -- The table of M1 to M11 has its theorem in crate marked, which no edit of the rules checks again.
 use mathlib.Core.Path.{_≡_, refl}
 use mathlib.Core.List.{List, map}
@@ -12,6 +12,7 @@ use Rattle.rules.specs.Cut.{addElement, addPolytope, addVertex, planeMat
 use Rattle.rules.specs.Questions.{reaches, subElements, withRank, vertexSet, commonWithRank, greatestFrom, greatestCommon, edgesInOrder, primordialFacet}
 use Rattle.rules.specs.Walk.{walk}
 use Rattle.rules.specs.Replies.{isSoundReply, cubeReply, dividerFits, cutReply, subElementsReply, withRankReply, vertexSetReply, greatestCommonReply, edgesInOrderReply, primordialFacetReply}
+use Rattle.rules.specs.Touch.{cornerSides, touchOf, testedFrom, touch, touchReply}
 use Rattle.rules.specs.Bytes.{decimal}
 use Rattle.rules.specs.Files.{header, pointRecord, planeRecord, elementRecord, fileOf, afterMark, number, float, pointIn, planeIn, elementIn, layout, tableIn, saveReply, openReply}
 use Rattle.rules.specs.Session.{blank, turn, cutlist}
@@ -19,6 +20,7 @@ use Rattle.rules.specs.Marked.{Shown}
 use Rattle.rules.specs.Examples.{smallQ, closeCalls, zigzag, pinched, square, triangles, besideTriangle, tetrahedra, doubled, triangle, line, bent, soundness, choices, refusals}
 use Rattle.rules.specs.Sessions.{sessions}
 use Rattle.rules.specs.FileExamples.{files}
+use Rattle.rules.specs.TouchExamples.{nearCorner, straight, dart, touches}
 
 -- every row of a table says the same on both sides
 abbrev pub Agree : List (Shown × Shown) → Type 0
@@ -75,3 +77,12 @@ unfolding neg add sub mul div lt eq le isNan ofBits toBits within dotFrom dot un
     facetNormal facetPlane header pointRecord planeRecord elementRecord fileOf afterMark number float pointIn planeIn elementIn layout tableIn
     saveReply openReply blank files
 files-hold = refl
+
+pub touches-hold : Agree touches
+unfolding neg add sub mul div lt eq le isNan ofBits within dotFrom dot signedDistance sideOf closeCall unit crossingOf clamp crossingPoint matches pointMatches
+    sameElement sound roomFits soundPoint soundPlane cornersInOrder soundBoundary soundFacet elementRow planeRow encode readElement readPlane decode
+    rightSize sameMemory soundMemory cube cubeElement cubePoint facetNormal facetPlane radiusFits addElement addPolytope addVertex planeMatches
+    addPlane cutCorner rule7 rule6 cutEnds cutEdge cutHigher cutElement cut reaches subElements withRank vertexSet commonWithRank greatestFrom
+    greatestCommon walk edgesInOrder primordialFacet isSoundReply cubeReply dividerFits cutReply subElementsReply withRankReply vertexSetReply
+    greatestCommonReply edgesInOrderReply primordialFacetReply touchOf testedFrom cornerSides touch touchReply smallQ square nearCorner straight dart touches
+touches-hold = refl

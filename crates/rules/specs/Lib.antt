@@ -21,6 +21,7 @@ pub mod Marked
 pub mod Examples
 pub mod Sessions
 pub mod FileExamples
+pub mod TouchExamples
 pub mod Asking
 pub mod Calls
 pub mod Rooms
