@@ -22,6 +22,7 @@ pub mod Examples
 pub mod Sessions
 pub mod FileExamples
 pub mod Calls
+pub mod CutLists
 pub mod Rooms
 pub mod Promises
 pub mod Held
