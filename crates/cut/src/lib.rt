@@ -3,9 +3,6 @@ mod elements;
 mod known;
 mod whole;
 
-use hypermath::DistanceKind;
-use hypermath::distance_kind;
-use hypermath::is_unit;
 use rules::CutParams;
 use rules::CutReply;
 use rules::ElementCutOutput;
@@ -13,9 +10,9 @@ use rules::ElementId;
 use rules::ElementOrNone;
 use rules::Hyperplane;
 use rules::PolytopeFate;
-use soundness::sound::memory_indexed;
+use soundness::asked::Asking;
+use soundness::asked::divider_asked;
 use space::chains::INDEX;
-use space::words::wide;
 use whole::cut_finite;
 ghost use mathlib.Core.Bool.{false};
 ghost use mathlib.Core.Path.{_≡_};
@@ -52,31 +49,20 @@ pub fn cut(
         ≡ cutReply desk params (root .0) (memoryOf (now (counts .entry)) (now (points .entry)) (now (planes .entry)) (now (elements .entry))) ⌝ }
 {
     let mut index = [0u16; INDEX];
-    if !memory_indexed(counts, points, planes, elements, &mut index) {
-        return CutReply::Refused(3);
-    }
-    if wide(counts[1]) <= root.0 {
-        return CutReply::Refused(4);
-    }
-    let divider = params.divider;
-    let normal = divider.normal;
-    if !is_unit(wide(counts[0]), normal) {
-        return CutReply::Refused(5);
-    }
-    let kind = distance_kind(divider.distance);
-    match kind {
-        DistanceKind::Unfit => CutReply::Refused(5),
-        DistanceKind::PlusInfinity => all_on(ElementOrNone::Some(root), ElementOrNone::None),
-        DistanceKind::MinusInfinity => all_on(ElementOrNone::None, ElementOrNone::Some(root)),
-        DistanceKind::Finite => cut_finite(
-            counts,
-            points,
-            planes,
-            elements,
-            &mut index,
-            params,
-            root,
-        ),
+    let asked = divider_asked(
+        counts,
+        points,
+        planes,
+        elements,
+        &mut index,
+        params.divider,
+        root,
+    );
+    match asked {
+        Asking::Refused(n) => CutReply::Refused(n),
+        Asking::AllInside => all_on(ElementOrNone::Some(root), ElementOrNone::None),
+        Asking::AllOutside => all_on(ElementOrNone::None, ElementOrNone::Some(root)),
+        Asking::Finite => cut_finite(counts, points, planes, elements, &mut index, params, root),
     }
 }
 

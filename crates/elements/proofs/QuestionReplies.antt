@@ -1,27 +1,25 @@
 -- The public reply, by the tests in their order; and a sound memory lends the elements of the table that it holds.
-use Prim.Native.Nat.{ℕ, suc, _<_, _≤_}
-use mathlib.Core.Bool.{Bool, true, false, not}
+use Prim.Native.Nat.{ℕ, suc, _<_}
+use mathlib.Core.Bool.{true}
 use mathlib.Core.List.{List, [], _∷_}
-use mathlib.Core.Path.{_≡_, refl, sym, ap, _∙_}
-use native.Mathlib.Omega.{arith}
+use mathlib.Core.Path.{_≡_, refl, ap, _∙_}
 use lib.Dec.{ltb}
 use lib.Ieee.{Float}
-use lib.ListN.{length, getD}
 use Rattle.rules.specs.Limits.{desk}
-use Rattle.rules.specs.Lists.{if_then_else_, all}
+use Rattle.rules.specs.Lists.{all}
 use Rattle.rules.specs.Table.{Table, elementCount}
 use Rattle.rules.specs.Memory.{Memory, decode, soundMemory}
-use Rattle.rules.specs.Held.{memoryOf, Holds}
-use Rattle.rules.specs.Questions.{Asked, no-answer, answer, subElements, withRank, vertexSet, greatestCommon}
+use Rattle.rules.specs.Held.{memoryOf}
+use Rattle.rules.specs.Questions.{Asked, answer, subElements, withRank, vertexSet, greatestCommon}
 use Rattle.rules.specs.Replies.{asked, listed, subElementsReply, withRankReply, vertexSetReply, greatestCommonReply}
 use Rattle.rules.specs.declared.ListReply.{ListReply}
 use Rattle.rules.specs.declared.ListReply.the-variants.{Refused}
-use Rattle.rules.proofs.Laws.{le-test, test-le, test-above, and-left}
-use Rattle.space.proofs.Lent.{memory-holds, memory-sound-table}
+use Rattle.rules.proofs.Laws.{le-test, and-left}
+use Rattle.space.proofs.Lent.{memory-sound-table}
 use Rattle.space.proofs.RowAdds.{readable-desk}
-use Rattle.space.proofs.Slices.{slices}
-use Rattle.soundness.proofs.ReadBack.{and-one}
-use Rattle.elements.specs.Asking.{refusal}
+use Rattle.soundness.specs.Asked.{refusal}
+use Rattle.soundness.proofs.AskedOnce as once
+use Rattle.soundness.proofs.AskedOnce.{table, held, goes-on, question-is}
 use Rattle.elements.specs.Below.{Lent, Used}
 use Rattle.elements.specs.Ranks.{AllUsed}
 
@@ -29,81 +27,23 @@ module _ (cs : List ℕ) (ps hs : List Float) (es : List ℕ) where
   abbrev memory : Memory
   memory = memoryOf cs ps hs es
 
-  abbrev pub table : Table
-  table = decode desk (memoryOf cs ps hs es)
+  pub memory-lent : soundMemory desk memory ≡ true → Lent es (table cs ps hs es)
+  memory-lent s =
+      let H = held cs ps hs es s in record { elements = H .elements; fits = H .fits; sound = memory-sound-table desk readable-desk memory s }
 
-  abbrev pub inUse : List ℕ → Bool
-  inUse roots = all (λ e. ltb e (elementCount (decode desk (memoryOf cs ps hs es)))) roots
+  -- r is what the code found
+  module _ (roots : List ℕ) (r : ℕ) (e : r ≡ refusal memory roots) where
+    pub refused : (q : Asked (List ℕ)) (l : List ℕ) → (r ≡ 0 → ⊥) → (Refused r, l) ≡ listed (asked desk memory roots q) l
+    refused q l z = ap (λ (x : Asked (List ℕ)). listed x l) (once.refused cs ps hs es roots r e q z)
 
-  -- ---- a sound memory
+    module _ (z : r ≡ 0) where
+      pub answered : (q : Asked (List ℕ)) (l : List ℕ) (x : ListReply × List ℕ) → x ≡ listed q l → x ≡ listed (asked desk memory roots q) l
+      answered q l x h = h ∙ ap (λ (y : Asked (List ℕ)). listed y l) (question-is cs ps hs es roots r e z q)
 
-  module _ (s : soundMemory desk memory ≡ true) where
-    held : Holds desk cs ps hs es table
-    held = memory-holds desk readable-desk memory s
-
-    pub memory-lent : Lent es table
-    memory-lent = record { elements = held .elements; fits = held .fits; sound = memory-sound-table desk readable-desk memory s }
-
-    pub counts-long : length cs ≡ 4
-    counts-long = slices held .counts
-
-    pub count-known : getD cs 1 0 ≡ elementCount table
-    count-known = slices held .elementCount
-
-    pub counted : (roots : List ℕ) {b : Bool} → all (λ e. ltb e (getD cs 1 0)) roots ≡ b → inUse roots ≡ b
-    counted roots e = sym (ap (λ (n : ℕ). all (λ y. ltb y n) roots) count-known) ∙ e
-
-  -- ---- what every question refuses
-
-  module _ (roots : List ℕ) where
-    refusal-by : (a b : Bool) → soundMemory desk memory ≡ a → inUse roots ≡ b → (if not a then 3 else if not b then 4 else 0) ≡ refusal memory roots
-    unfolding refusal
-    refusal-by a b p r i = if not (sym p i) then 3 else if not (sym r i) then 4 else 0
-
-    pub three : soundMemory desk memory ≡ false → 3 ≡ refusal memory roots
-    three s = refusal-by false _ s refl
-
-    pub four : soundMemory desk memory ≡ true → inUse roots ≡ false → 4 ≡ refusal memory roots
-    four s u = refusal-by true false s u
-
-    pub none-refused : soundMemory desk memory ≡ true → inUse roots ≡ true → 0 ≡ refusal memory roots
-    none-refused s u = refusal-by true true s u
-
-    asked-by : (q : Asked (List ℕ)) (a b : Bool) → soundMemory desk memory ≡ a → inUse roots ≡ b → (if not a then no-answer 3 else if not b then no-answer 4 else q) ≡ asked desk memory roots q
-    asked-by q a b p r i = if not (sym p i) then no-answer 3 else if not (sym r i) then no-answer 4 else q
-
-    -- r is what the code found
-    module _ (r : ℕ) (e : r ≡ refusal memory roots) where
-      pub refused : (q : Asked (List ℕ)) (l : List ℕ) → (r ≡ 0 → ⊥) → (Refused r, l) ≡ listed (asked desk memory roots q) l
-      refused q l z = go (soundMemory desk memory) (inUse roots) refl refl
-        where
-          go : (a b : Bool) → soundMemory desk memory ≡ a → inUse roots ≡ b → (Refused r, l) ≡ listed (asked desk memory roots q) l
-          go false b p u = ap (λ (n : ℕ). (Refused n, l)) (e ∙ sym (refusal-by false b p u)) ∙ ap (λ (x : Asked (List ℕ)). listed x l) (asked-by q false b p u)
-          go true false p u = ap (λ (n : ℕ). (Refused n, l)) (e ∙ sym (refusal-by true false p u)) ∙ ap (λ (x : Asked (List ℕ)). listed x l) (asked-by q true false p u)
-          go true true p u = absurd (z (e ∙ sym (refusal-by true true p u)))
-
-      module _ (z : r ≡ 0) where
-        pub goes-on : (soundMemory desk memory ≡ true) × (inUse roots ≡ true)
-        goes-on = go (soundMemory desk memory) (inUse roots) refl refl
-          where
-            go : (a b : Bool) → soundMemory desk memory ≡ a → inUse roots ≡ b → (a ≡ true) × (b ≡ true)
-            go false b p u = let q = refusal-by false b p u ∙ sym e in absurd (omega (arith, q, z))
-            go true false p u = let q = refusal-by true false p u ∙ sym e in absurd (omega (arith, q, z))
-            go true true p u = (refl, refl)
-
-        pub answered : (q : Asked (List ℕ)) (l : List ℕ) (x : ListReply × List ℕ) → x ≡ listed q l → x ≡ listed (asked desk memory roots q) l
-        answered q l x h = h ∙ ap (λ (y : Asked (List ℕ)). listed y l) (asked-by q true true (goes-on .0) (goes-on .1))
-
-        pub roots-used : AllUsed es roots
-        roots-used = record { table = table; lent = memory-lent (goes-on .0); used = goes-on .1 }
+      pub roots-used : AllUsed es roots
+      roots-used = let g = goes-on cs ps hs es roots r e z in record { table = table cs ps hs es; lent = memory-lent (g .0); used = g .1 }
 
 -- ---- one root
-
-pub root-unused : (root n k : ℕ) → n ≤ root → n ≡ k → all (λ e. ltb e k) (root ∷ []) ≡ false
-root-unused root n k h e = and-one (ltb root k) ∙ test-above (suc root) k (omega (arith, h, e))
-
-pub root-in-use : (root n k : ℕ) → root < n → n ≡ k → all (λ e. ltb e k) (root ∷ []) ≡ true
-root-in-use root n k h e = and-one (ltb root k) ∙ test-le (suc root) k (omega (arith, h, e))
 
 -- what is asked of a table and a root, and the whole reply
 pub record RootQuestion : Type 0 where

@@ -1,5 +1,4 @@
 -- What the contracts of this crate cite beside the rules.
 pub mod Marks
 pub mod Below
-pub mod Asking
 pub mod Ranks

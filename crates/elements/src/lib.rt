@@ -1,5 +1,4 @@
 // Questions over a table in the lent memory, which is read only.
-mod asked;
 mod below;
 mod common;
 mod listing;

@@ -1,6 +1,4 @@
 // Document 01, "Questions": 3, then 4, then a question's own refusals, and 12 last; refused, the list room is as it came.
-use crate::asked::root_refusal;
-use crate::asked::roots_refusal;
 use crate::below::below;
 use crate::common::all_of_rank;
 use crate::common::common;
@@ -10,6 +8,8 @@ use crate::ranks::greatest;
 use crate::ranks::with_rank;
 use rules::ElementId;
 use rules::ListReply;
+use soundness::asked::root_refusal;
+use soundness::asked::roots_refusal;
 use space::rows::rank_of;
 use space::words::wide;
 ghost use mathlib.Core.Path.{_≡_};

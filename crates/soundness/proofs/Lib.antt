@@ -16,3 +16,4 @@ pub mod Distinct
 pub mod RowsRead
 pub mod FaceLoops
 pub mod EdgesRead
+pub mod AskedOnce

@@ -1,4 +1,4 @@
--- The reply of the edges in order: of the numbers that the code wrote, and then, test by test, of the memory.
+-- The reply of the edges in order: of the numbers that the code wrote, and then of the memory, by what was asked.
 use Prim.Native.Nat.{ℕ, zero, suc, _+_, _*_, _≤_, _<_}
 use mathlib.Core.Path.{_≡_, refl, sym, ap, ap₂, _∙_, subst}
 use mathlib.Core.Bool.{Bool, true, false, not}
@@ -13,7 +13,6 @@ use Rattle.rules.specs.Limits.{desk}
 use Rattle.rules.specs.Lists.{if_then_else_}
 use Rattle.rules.specs.Table.{Table, elementCount, rank, boundary}
 use Rattle.rules.specs.Sound.{sound}
-use Rattle.rules.specs.Memory.{soundMemory}
 use Rattle.rules.specs.Held.{Holds, AllOf, memoryOf}
 use Rattle.rules.specs.Walk.{walk, firstEdge, startOf, around}
 use Rattle.rules.specs.Questions.{Asked, no-answer, answer, pairs, edgesInOrder}
@@ -24,10 +23,12 @@ use Rattle.rules.proofs.FaceEdges.{start-first, takes-all}
 use Rattle.rules.proofs.Good.{Good, sound-good}
 use Rattle.rules.proofs.Laws.{if-true, if-false, test-eq, not-eq, test-le, test-above}
 use Rattle.rules.proofs.WalkRound.{taken}
+use Rattle.soundness.specs.Asked.{refusal}
+use Rattle.soundness.proofs.AskedOnce as once
+use Rattle.soundness.proofs.AskedOnce.{table}
 use Rattle.walk.specs.Boundaries.{rowBoundary, BoundaryFits}
 use Rattle.walk.specs.Walks.{endAcross, edgeBeside, lowestEnd, noEdge, firstWay, numbersFrom, wordsInOrder, EdgeFits, FaceFits}
 use Rattle.walk.proofs.Asking as ask
-use Rattle.walk.proofs.Asking.{tableOf}
 use Rattle.walk.proofs.Boundaries.{row-size, bounds, boundary-fits, boundary-is}
 use Rattle.walk.proofs.Faces.{CornerAt, Met, EdgeAt, edges-at, none-met}
 use Rattle.walk.proofs.Starts.{start-corner, start-is}
@@ -140,48 +141,39 @@ module _ {cs : List ℕ} {ps hs : List Float} {es : List ℕ} {t : Table} (H : H
       (subst (λ (ss : List (ℕ × ℕ)). length (boundary t f) ≤ length (taken ss)) around-is (all-steps t s f u q)))
       ∙ ap (λ (l : List ℕ). answer (wordsInOrder es l)) (sym same)
 
--- ---- test by test
+-- ---- what was asked, and then the walk
 
-module _ (root : ℕ) (cs : List ℕ) (ps hs : List Float) (es room : List ℕ) where
+-- n is what the code found
+module _ (root : ℕ) (cs : List ℕ) (ps hs : List Float) (es room : List ℕ) (n : ℕ) (e : n ≡ refusal (memoryOf cs ps hs es) (root ∷ [])) where
   abbrev t : Table
-  t = tableOf cs ps hs es
+  t = table cs ps hs es
 
   abbrev reply : ListReply × List ℕ
   reply = edgesInOrderReply desk (memoryOf cs ps hs es) root room
 
-  pub unsound : soundMemory desk (memoryOf cs ps hs es) ≡ false → (Refused 3, room) ≡ reply
+  pub refused : (n ≡ 0 → ⊥) → (Refused n, room) ≡ reply
   unfolding edgesInOrderReply
-  unsound s = ap (λ (a : Asked (List ℕ)). listed a room) (ask.unsound cs ps hs es root (inNumbers (edgesInOrder t root)) s)
+  refused z = ap (λ (a : Asked (List ℕ)). listed a room) (once.refused cs ps hs es (root ∷ []) n e (inNumbers (edgesInOrder t root)) z)
 
-  module _ (s : soundMemory desk (memoryOf cs ps hs es) ≡ true) where
-    module _ (n : ℕ) (e : n ≡ getD cs 1 0) where
-      pub unused : n ≤ root → (Refused 4, room) ≡ reply
-      unfolding edgesInOrderReply
-      unused l = ap (λ (a : Asked (List ℕ)). listed a room) (ask.unused cs ps hs es s root (inNumbers (edgesInOrder t root)) n e l)
+  module _ (z : n ≡ 0) where
+    goes : listed (inNumbers (edgesInOrder t root)) room ≡ reply
+    unfolding edgesInOrderReply
+    goes = ap (λ (a : Asked (List ℕ)). listed a room) (once.question-is cs ps hs es (root ∷ []) n e z (inNumbers (edgesInOrder t root)))
 
-      module _ (l : root < n) where
-        used : root < elementCount t
-        used = ask.in-use cs ps hs es s root n e l
+    module _ (r : ℕ) (er : r ≡ getD es (root * 36) 0) where
+      rank-is : r ≡ rank t root
+      rank-is = ask.rank-is cs ps hs es root n e z r er
 
-        H : Holds desk cs ps hs es t
-        H = ask.holds cs ps hs es s
+      pub no-face : (r ≡ 2 → ⊥) → (Refused 6, room) ≡ reply
+      unfolding edgesInOrder
+      no-face w =
+          ap (λ (a : Asked (List (ℕ × ℕ))). listed (inNumbers a) room) (sym (if-true (not (eqb (rank t root) 2)) (no-answer 6) _ (ap not (not-eq (rank t root) 2 (λ y. w (rank-is ∙ y)))))) ∙ goes
 
-        goes : listed (inNumbers (edgesInOrder t root)) room ≡ reply
-        unfolding edgesInOrderReply
-        goes = ap (λ (a : Asked (List ℕ)). listed a room) (ask.asked-of cs ps hs es s root (inNumbers (edgesInOrder t root)) n e l)
+      module _ (w : r ≡ 2) where
+        pub face-asked : FaceFits es root
+        face-asked = face-fits (ask.holds cs ps hs es root n e z) (ask.table-sound cs ps hs es root n e z) root (ask.in-use cs ps hs es root n e z) (sym rank-is ∙ w)
 
-        module _ (r : ℕ) (er : r ≡ getD es (root * 36) 0) where
-          rank-is : r ≡ rank t root
-          rank-is = ask.rank-is cs ps hs es s root n e l r er
-
-          pub no-face : (r ≡ 2 → ⊥) → (Refused 6, room) ≡ reply
-          unfolding edgesInOrder
-          no-face w =
-              ap (λ (a : Asked (List (ℕ × ℕ))). listed (inNumbers a) room) (sym (if-true (not (eqb (rank t root) 2)) (no-answer 6) _ (ap not (not-eq (rank t root) 2 (λ z. w (rank-is ∙ z)))))) ∙ goes
-
-          module _ (w : r ≡ 2) where
-            pub face-asked : FaceFits es root
-            face-asked = face-fits H (ask.table-sound cs ps hs es s) root used (sym rank-is ∙ w)
-
-            pub face-replied : {x : ListReply × List ℕ} → x ≡ listed (answer (wordsInOrder es (rowBoundary es root))) room → x ≡ reply
-            face-replied h = h ∙ ap (λ (a : Asked (List ℕ)). listed a room) (sym (order-is H (ask.table-sound cs ps hs es s) root used (sym rank-is ∙ w))) ∙ goes
+        pub face-replied : {x : ListReply × List ℕ} → x ≡ listed (answer (wordsInOrder es (rowBoundary es root))) room → x ≡ reply
+        face-replied h =
+            h ∙ ap (λ (a : Asked (List ℕ)). listed a room)
+            (sym (order-is (ask.holds cs ps hs es root n e z) (ask.table-sound cs ps hs es root n e z) root (ask.in-use cs ps hs es root n e z) (sym rank-is ∙ w))) ∙ goes

@@ -1,7 +1,7 @@
 // Whether an element of full rank has a primordial facet.
 use rules::ElementId;
 use rules::FacetReply;
-use soundness::sound::memory_sound;
+use soundness::asked::root_refusal;
 use space::rows;
 use space::words::wide;
 ghost use mathlib.Core.Path.{_≡_};
@@ -37,11 +37,9 @@ pub fn has_primordial_facet(
 ) -> FacetReply
     ensures { λ r. ⌜ r ≡ primordialFacetReply desk (memoryOf (now (counts .entry)) (now (points .entry)) (now (planes .entry)) (now (elements .entry))) (root .0) ⌝ }
 {
-    if !memory_sound(counts, points, planes, elements) {
-        return FacetReply::Refused(3);
-    }
-    if wide(counts[1]) <= root.0 {
-        return FacetReply::Refused(4);
+    let no = root_refusal(counts, points, planes, elements, root);
+    if no != 0 {
+        return FacetReply::Refused(no);
     }
     if rows::rank_of(elements, root) != wide(counts[0]) {
         return FacetReply::Refused(6);

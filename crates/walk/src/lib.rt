@@ -4,7 +4,7 @@ pub mod facet;
 use rules::ElementId;
 use rules::ListReply;
 use rules::VertexId;
-use soundness::sound::memory_sound;
+use soundness::asked::root_refusal;
 use space::rows;
 use space::words::wide;
 ghost use Prim.Native.Nat.{_+_, _*_};
@@ -172,11 +172,9 @@ pub fn edges_in_order(
 ) -> ListReply
     ensures { λ r. ⌜ (r, now (list .exit)) ≡ edgesInOrderReply desk (memoryOf (now (counts .entry)) (now (points .entry)) (now (planes .entry)) (now (elements .entry))) (root .0) (now (list .entry)) ⌝ }
 {
-    if !memory_sound(counts, points, planes, elements) {
-        return ListReply::Refused(3);
-    }
-    if wide(counts[1]) <= root.0 {
-        return ListReply::Refused(4);
+    let no = root_refusal(counts, points, planes, elements, root);
+    if no != 0 {
+        return ListReply::Refused(no);
     }
     if rows::rank_of(elements, root) != 2 {
         return ListReply::Refused(6);

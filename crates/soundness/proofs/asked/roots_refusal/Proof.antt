@@ -2,10 +2,10 @@
 use mathlib.Core.Path.{sym, _∙_}
 use native.Mathlib.Omega.{arith}
 use borrow.Author.Tests.{not-true, not-false}
-use Rattle.elements.proofs.QuestionReplies.{counts-long, counted, three, four, none-refused}
+use Rattle.soundness.proofs.AskedOnce.{counts-long, counted, three, four, none-refused}
 use borrow.Author.Needs.{needs}
-use Rattle.elements.proofs.asked.roots_refusal.Statement.{statement}
-use Rattle.elements.proofs.asked.roots_refusal.Tie as tie
+use Rattle.soundness.proofs.asked.roots_refusal.Statement.{statement}
+use Rattle.soundness.proofs.asked.roots_refusal.Tie as tie
 
 -- where the function began, and where the memory was sound
 abbrev start : tie.After-memory-sound → tie.Start

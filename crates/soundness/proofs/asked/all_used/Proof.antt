@@ -9,8 +9,8 @@ use Rattle.rules.specs.Lists.{all}
 use Rattle.rules.proofs.Indexed.{all-go, all-no, all-end}
 use Rattle.rules.proofs.Laws.{test-le, test-above}
 use borrow.Author.Needs.{needs}
-use Rattle.elements.proofs.asked.all_used.Statement.{statement}
-use Rattle.elements.proofs.asked.all_used.Tie as tie
+use Rattle.soundness.proofs.asked.all_used.Statement.{statement}
+use Rattle.soundness.proofs.asked.all_used.Tie as tie
 
 -- the roots from i on are left
 record Testing (roots : List ℕ) (n last i : ℕ) : Type 0 where
