@@ -3,4 +3,7 @@ pub mod StaysKnown
 pub mod Rounds
 pub mod WholeCuts
 pub mod Replies
+pub mod SoundCuts
 pub mod Names
+pub mod AnswerWords
+pub mod Listing

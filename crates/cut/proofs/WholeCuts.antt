@@ -88,8 +88,8 @@ module _ (p : CutParams) {cs : List ℕ} {ps hs : List Float} {es : List ℕ} {r
     added {t} F = P .of ps es t (dividerOf (t .dimension) (p .divider)) (F .holds) (F .sound) (F .row) (F .plane)
 
     -- no room for the hyperplane
-    pub plane-refused : (n : ℕ) → x ≡ hyperplane.Refused n → CutTried cs ps hs es p root (reply.Refused n) cs₁ ps hs₁ es
-    plane-refused n q = record { of = λ t F. go t (added F) }
+    pub plane-refused : {ix : List ℕ} (n : ℕ) → x ≡ hyperplane.Refused n → CutTried cs ps hs es p root (reply.Refused n) cs₁ ps hs₁ es ix
+    plane-refused n q = record { of = λ t F. go t (added F); indexed = λ a w. let z : _≡_ {A = ℕ} 0 1 = cc in absurd (omega arith) }
       where
         go : (t : Table) → Added ps es (p .divider) x cs₁ hs₁ t → Came reply.Answered reply.Refused (Holds desk cs₁ ps hs₁ es) t (cutFinite desk (paramsOf (t .dimension) p) root t) (reply.Refused n)
         go t (held.went j u m w H) = let z : _≡_ {A = ℕ} 0 1 = cc in absurd (omega arith)
@@ -145,8 +145,8 @@ module _ (p : CutParams) {cs : List ℕ} {ps hs : List Float} {es : List ℕ} {r
         }
 
         pub root-cut : {x : Asked} {cs₂ : List ℕ} {ps₂ : List Float} {es₂ ix₂ ms₂ : List ℕ} → ElementAsked cs₁ ps es (replicate 1536 0) r root (cutter p v) x cs₂ ps₂ es₂ ix₂ ms₂
-            → (y : ElementReply) → replyOf x ms₂ root ≡ y → CutTried cs ps hs es p root y cs₂ ps₂ hs₁ es₂
-        root-cut {x} {cs₂} {ps₂} {es₂} {ix₂} {ms₂} C y told = record { of = λ t F. go t F (C .of hs₁ (named F .table) (root-fit F) (knows-nothing (cutter p v) (named F .table))) }
+            → (y : ElementReply) → replyOf x ms₂ root ≡ y → CutTried cs ps hs es p root y cs₂ ps₂ hs₁ es₂ ix₂
+        root-cut {x} {cs₂} {ps₂} {es₂} {ix₂} {ms₂} C y told = record { of = λ t F. go t F (C .of hs₁ (named F .table) (root-fit F) (knows-nothing (cutter p v) (named F .table))); indexed = λ a w. C .indexed }
           where
             steps : (t : Table) (F : CutFit cs ps hs es (p .divider) root t)
                 → cutFinite desk (paramsOf (t .dimension) p) root t ≡ cutElement desk (cutOf (named F .table .dimension) (cutter p v)) r root (named F .table)
@@ -192,13 +192,13 @@ restore-asks {t = t} {u} H₀ X H =
       planeRoom = b .planesFit;
     }
 
-module _ {cs : List ℕ} {ps hs : List Float} {es : List ℕ} {p : CutParams} {root : ℕ} {y : ElementReply} {cs₁ : List ℕ} {ps₁ hs₁ : List Float} {es₁ : List ℕ}
-    (T : CutTried cs ps hs es p root y cs₁ ps₁ hs₁ es₁) where
+module _ {cs : List ℕ} {ps hs : List Float} {es : List ℕ} {p : CutParams} {root : ℕ} {y : ElementReply} {cs₁ : List ℕ} {ps₁ hs₁ : List Float} {es₁ ix₁ : List ℕ}
+    (T : CutTried cs ps hs es p root y cs₁ ps₁ hs₁ es₁ ix₁) where
   abbrev Tried : Table → Type 0
   Tried t = Came reply.Answered reply.Refused (Holds desk cs₁ ps₁ hs₁ es₁) t (cutFinite desk (paramsOf (t .dimension) p) root t) y
 
-  pub whole-done : (a : ElementAnswer) → y ≡ reply.Answered a → WholeCut cs ps hs es p root (asReply a) cs₁ ps₁ hs₁ es₁
-  whole-done a w = record { of = λ t F. go t (T .of t F) }
+  pub whole-done : (a : ElementAnswer) → y ≡ reply.Answered a → WholeCut cs ps hs es p root (asReply a) cs₁ ps₁ hs₁ es₁ ix₁
+  whole-done a w = record { of = λ t F. go t (T .of t F); indexed = λ b q. T .indexed a w }
     where
       go : (t : Table) → Tried t
           → _≡_ {A = CutReply × Memory} (asReply a, memoryOf cs₁ ps₁ hs₁ es₁) (written desk (memoryOf cs ps hs es) (cutFinite desk (paramsOf (t .dimension) p) root t))
@@ -215,9 +215,9 @@ module _ {cs : List ℕ} {ps hs : List Float} {es : List ℕ} {p : CutParams} {r
         go (held.went b u m w′ H) = let e : _≡_ {A = ℕ} 0 1 = cc in absurd (omega arith)
         go (held.stopped j u m w′ z H) = restore-asks (R .fit .holds) z H
 
-    pub whole-refused : {cs′ : List ℕ} {ps′ hs′ : List Float} {es′ : List ℕ} → Restored cs₁ ps₁ hs₁ es₁ (getD cs 1 0) (getD cs 2 0) (getD cs 3 0) cs′ ps′ hs′ es′
-        → WholeCut cs ps hs es p root (public.Refused n) cs′ ps′ hs′ es′
-    whole-refused {cs′} {ps′} {hs′} {es′} R = record { of = λ t F. go t F (T .of t F) }
+    pub whole-refused : {cs′ : List ℕ} {ps′ hs′ : List Float} {es′ ix′ : List ℕ} → Restored cs₁ ps₁ hs₁ es₁ (getD cs 1 0) (getD cs 2 0) (getD cs 3 0) cs′ ps′ hs′ es′
+        → WholeCut cs ps hs es p root (public.Refused n) cs′ ps′ hs′ es′ ix′
+    whole-refused {cs′} {ps′} {hs′} {es′} R = record { of = λ t F. go t F (T .of t F); indexed = λ a q. let z : _≡_ {A = ℕ} 0 1 = cc in absurd (omega arith) }
       where
         go : (t : Table) → CutFit cs ps hs es (p .divider) root t → Tried t
             → _≡_ {A = CutReply × Memory} (public.Refused n, memoryOf cs′ ps′ hs′ es′) (written desk (memoryOf cs ps hs es) (cutFinite desk (paramsOf (t .dimension) p) root t))

@@ -2,3 +2,4 @@
 pub mod Known
 pub mod Rounds
 pub mod Whole
+pub mod Lists
