@@ -3,16 +3,16 @@ use Prim.Native.Nat.{ℕ, zero, suc, _+_, _≤_, _<_, zero-le}
 use mathlib.Core.Bool.{Bool, true, false, not}
 use mathlib.Core.List.{List, [], _∷_, map}
 use mathlib.Core.Path.{_≡_, refl, sym, ap, subst, _∙_}
-use native.Mathlib.Nat.{le-refl, le-trans, lt-irrefl, not-suc-le-zero, le-of-suc-le-suc, suc-ne-zero, add-suc, add-zero, zero-add}
+use native.Mathlib.Nat.{le-refl, le-trans, not-suc-le-zero, le-of-suc-le-suc, suc-ne-zero, add-zero, zero-add}
 use native.Mathlib.Omega.{arith}
 use lib.Dec.{ltb}
-use lib.ListN.{length, length-map, length-set, getD, set, take, drop, List·getD-map}
+use lib.ListN.{length, length-map, length-set, getD, set, take, drop}
 use lib.Seq.{getD-set-same, getD-set-other, drop-set-lt}
 use Rattle.rules.specs.Limits.{Limits, Readable}
-use Rattle.rules.specs.Lists.{if_then_else_, member, upFrom, upTo}
+use Rattle.rules.specs.Lists.{if_then_else_, member, upTo}
 use Rattle.rules.specs.Memory.{Memory, soundMemory}
 use Rattle.rules.specs.Replies.{outputWord, cutReply}
-use Rattle.rules.specs.Calls.{Call, afterCalls, TableStays, Filled}
+use Rattle.rules.specs.Calls.{afterCalls, TableStays}
 use Rattle.rules.specs.CutLists.{CutList, listFits, ListedCut, cutAt, cutsOf, goingOn, cutsFrom, cutListReply, answersWritten}
 use Rattle.rules.specs.CutLists.{callOf, callsOf, afterFirst, singly, AnsweredAs, MadeSingly, EndsAs, CutListNumbers, RefusedCutListLeaves, CutListIsCuts, StoppedAtTheRefused}
 use Rattle.rules.specs.declared.CutReply.{CutReply}
@@ -20,6 +20,7 @@ use Rattle.rules.specs.declared.CutReply.the-variants as one
 use Rattle.rules.specs.declared.CutListReply.{CutListReply}
 use Rattle.rules.specs.declared.CutListReply.the-variants.{Refused, Stopped, Answered}
 use Rattle.rules.proofs.Calls.{calls-follow}
+use Rattle.rules.proofs.Counting.{length-up, getD-up}
 use Rattle.rules.proofs.Laws.{not-le}
 use Rattle.rules.proofs.Refusals.{refused-leaves, sound-refusal-number}
 
@@ -126,16 +127,6 @@ module _ (L : Limits) where
 
 -- ---- the whole call
 
--- the cut at a position of a list
-taken-up : {A : Type 0} (f : ℕ → A) (d : A) (n i j : ℕ) → j < n → getD (map f (upFrom i n)) j d ≡ f (i + j)
-taken-up f d zero i j h = absurd (not-suc-le-zero h)
-taken-up f d (suc n) i zero h = ap f (sym (add-zero i))
-taken-up f d (suc n) i (suc j) h = taken-up f d n (suc i) j (le-of-suc-le-suc h) ∙ ap f (let z : suc i + j ≡ i + suc j = omega arith in z)
-
-length-up : (i n : ℕ) → length (upFrom i n) ≡ n
-length-up i zero = refl
-length-up i (suc n) = ap suc (length-up (suc i) n)
-
 module _ (L : Limits) (l : CutList) where
   pub as-many : length (cutsOf L l) ≡ length (l .roots)
   unfolding cutsOf
@@ -147,7 +138,7 @@ module _ (L : Limits) (l : CutList) where
 
   cut-at : (i : ℕ) → i < length (l .roots) → getD (cutsOf L l) i first ≡ cutAt L l i
   unfolding cutsOf
-  cut-at i h = taken-up (cutAt L l) first (length (l .roots)) 0 i h ∙ ap (cutAt L l) (zero-add i)
+  cut-at i h = getD-up (cutAt L l) first 0 (length (l .roots)) i h ∙ ap (cutAt L l) (zero-add i)
 
   module _ (room : List ℕ) (m : Memory) where
     abbrev pub listBy : Bool → Bool → Bool → Result

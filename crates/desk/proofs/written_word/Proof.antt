@@ -20,17 +20,17 @@ cast-result-2 : tie.Need-cast-result-2
 cast-result-2 c = search needs
 
 cast-result-3 : tie.Need-cast-result-3
-cast-result-3 c = 
+cast-result-3 c =
     let l = stopped-low _ _ (c .before .r2 .given .1) (c .before .before .before .pre) in
     omega (arith, l)
 
 mul-result : tie.Need-mul-result
-mul-result c = 
+mul-result c =
     let l = stopped-low _ _ (c .before .r2 .given .1) (c .before .before .before .pre) in
     omega (arith, l)
 
 add-result : tie.Need-add-result
-add-result c = 
+add-result c =
     let l = stopped-low _ _ (c .before .r2 .given .1) (c .before .before .before .pre) in
     omega (arith, l)
 
@@ -38,12 +38,12 @@ enum-known-r-3 : tie.Need-enum-known-r-3
 enum-known-r-3 c = search needs
 
 cast-result-4 : tie.Need-cast-result-4
-cast-result-4 c = 
+cast-result-4 c =
     let l = answered-low _ (c .before .r3 .given .1) (c .before .before .before .pre) in
     omega (arith, l)
 
 mul-result-2 : tie.Need-mul-result-2
-mul-result-2 c = 
+mul-result-2 c =
     let l = answered-low _ (c .before .r3 .given .1) (c .before .before .before .pre) in
     omega (arith, l)
 
