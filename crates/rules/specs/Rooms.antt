@@ -48,7 +48,8 @@ pub record SameCuts (L M : Limits) (l k : CutList) : Type 0 where
   pub there : listFits M k ≡ true
   pub cuts : cutsOf M k ≡ map (widenedCut M) (cutsOf L l)
 
--- each public reply. A cut: done, and refusals 4, 5 and 7; 8 to 11 are the room's own. A list of cuts: the same, and 12. A cube: done, and refusal 2. A file: done, and refusal 13. A question, saving and a touch too: every reply of a sound memory
+-- each public reply. A cut: done, and refusals 4, 5 and 7; 8 to 11 are the room's own. A list of cuts: the same, and 12. A cube: done, and refusal 2.
+-- A file: done, and refusal 13. A question, saving and a touch too: every reply of a sound memory
 pub record RepliesAlike (L M : Limits) : Type 0 where
   pub is-sound : (m : Memory) → isSoundReply L m ≡ 0 → isSoundReply M (moved L M m) ≡ 0
   pub cube-done : (d : ℕ) (radius : Float) (m n : Memory) → cubeReply L d radius m .0 ≡ 0 → rightSize M n ≡ true
