@@ -22,10 +22,28 @@ static void is_sound(void) { desk_is_sound(TABLE); }
 static void new_cube(void) { desk_cube(TABLE, 4, 1.0); }
 
 /* Each takes a corner off the squares of the first two axes: after the second these have six edges. */
-static void two_cuts(void) {
-    uint64_t reply = desk_cut(TABLE, 0.6, 0.8, 0.0, 0.0, 1.2, 1, 1, cube);
-    desk_cut(TABLE, 0.6, -0.8, 0.0, 0.0, 1.2, 1, 1, desk_inside(reply));
+static const double dividers[2 * DESK_PLANE_WIDTH] = {0.6, 0.8, 0.0, 0.0, 1.2, 0.6, -0.8, 0.0, 0.0, 1.2};
+static uint16_t cut_roots[2] = {80};
+
+static uint64_t cut(int i) {
+    const double *row = dividers + DESK_PLANE_WIDTH * i;
+    return desk_cut(TABLE, row[0], row[1], row[2], row[3], row[4], 1, 1, cut_roots[i]);
 }
+
+static void two_cuts(void) {
+    cut_roots[1] = desk_inside(cut(0));
+    cut(1);
+}
+
+/* The same two, from a new cube: their numbers are the same each time. */
+static void list_of_two(void) {
+    static const uint8_t kept[2] = {DESK_KEEP_BOTH, DESK_KEEP_BOTH};
+    static uint64_t answers[2];
+    desk_cube(TABLE, 4, 1.0);
+    desk_cut_all(TABLE, dividers, 2 * DESK_PLANE_WIDTH, kept, 2, cut_roots, 2, answers, 2);
+}
+
+static void touch(void) { desk_touch(TABLE, 0.6, 0.8, 0.0, 0.0, 3.0, cube); }
 
 static void sub_elements(void) { desk_subelements_of(TABLE, cube, list, 512); }
 static void with_rank(void) { desk_subelements_with_rank(TABLE, cube, 1, list, 512); }
@@ -43,6 +61,8 @@ static const struct {
     {"desk_is_sound", is_sound},
     {"desk_cube", new_cube},
     {"desk_cut", two_cuts},
+    {"desk_cut_all", list_of_two},
+    {"desk_touch", touch},
     {"desk_subelements_of", sub_elements},
     {"desk_subelements_with_rank", with_rank},
     {"desk_vertex_set", vertex_set},
