@@ -81,7 +81,7 @@ await checkSaved(checks, parts);
 await checkCalls(checks);
 
 // a word for each refusal of document 01, and the colours
-checks.same("refusals", Object.keys(REFUSALS).map(Number), [1, 2, 3, 4, 5, 6, 7, 8, 9, 10, 11, 12, 13]);
+checks.same("refusals", Object.keys(REFUSALS).map(Number), [1, 2, 3, 4, 5, 6, 7, 8, 9, 10, 11, 12, 13, 26]);
 checkColours(checks, "web/colours.css");
 
 process.exit(checks.told("files"));
