@@ -30,6 +30,7 @@ class Desk {
         this.look = { ...VIEW, numbers: "both" };
         this.pointed = null;
         this.preview = null;
+        this.touch = null; // the sides of the plane that the chosen element has corners on
         this.panels = [];
     }
 
@@ -52,7 +53,7 @@ class Desk {
     // ---- telling the panels: `changed` after a record or a step, `aimed` when the plane moved, `looked` when the view did
 
     tell(what) {
-        if (what !== "looked" && what !== "pointed") this.preview = this.previewNow();
+        if (what !== "looked" && what !== "pointed") Object.assign(this, { preview: this.previewNow(), touch: this.touchNow() });
         for (const panel of this.panels) panel[what]?.(this);
     }
 
@@ -69,6 +70,11 @@ class Desk {
 
     previewNow() {
         return this.stands ? previewOf(this.live, this.trial, this.asked()) : null;
+    }
+
+    // asked of the table that stands, for nothing is cut
+    touchNow() {
+        return this.stands ? this.live.touch(this.asked()) : null;
     }
 
     // ---- records

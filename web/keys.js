@@ -3,6 +3,7 @@ import { spoken } from "./close.js";
 import { $ } from "./dom.js";
 import { anglesOf, axis, normalOf, rounded } from "./plane.js";
 import { KEPT } from "./session.js";
+import { spokenTouch } from "./touch.js";
 
 function turned({ live, aim }, i, by) {
     if (live.dimension === 1) return { normal: [-aim.normal[0]] };
@@ -73,12 +74,12 @@ function everywhere(event, desk) {
 const REST = 400;
 let resting = 0;
 
-function say({ aim, preview }) {
+function say({ aim, preview, touch }) {
     clearTimeout(resting);
     if (document.activeElement !== $("drawing") || !preview) return;
     const where = `normal ${aim.normal.map(rounded).join(", ")}, distance ${aim.distance}`;
     const close = preview.reply.warning ? `; ${spoken(preview.close)}` : "";
-    resting = setTimeout(() => ($("said").textContent = `element ${aim.root}, ${where}, keep ${aim.kept}: would print ${preview.line}${close}`), REST);
+    resting = setTimeout(() => ($("said").textContent = `element ${aim.root}, ${where}, keep ${aim.kept}: would print ${preview.line}; ${spokenTouch(touch)}${close}`), REST);
 }
 
 export const keys = {

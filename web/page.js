@@ -14,9 +14,10 @@ import { questions } from "./questions.js";
 import { records } from "./records.js";
 import { saving } from "./saving.js";
 import { sheet } from "./sheet.js";
+import { touch } from "./touch.js";
 import { view } from "./view.js";
 
-const PANELS = [facets, view, aim, answer, lists, lesson, records, saving, questions, sheet, keys];
+const PANELS = [facets, view, aim, touch, answer, lists, lesson, records, saving, questions, sheet, keys];
 
 async function fetched(name) {
     const response = await fetch(name);

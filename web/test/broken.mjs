@@ -33,7 +33,7 @@ export async function checkBroken(checks, chromium) {
         await hands.press("#cut");
         await hands.press('[data-lesson="0"]');
         await hands.press("#lessonnext");
-        checks.same(`${name}: no answer`, [await hands.printed(), await hands.count(".lists li"), await hands.count("#drawing *"), await hands.would()], ["refused 3\n", 0, 0, ""]);
+        checks.same(`${name}: no answer`, [await hands.printed(), await hands.count(".lists li"), await hands.count("#drawing *"), await hands.would(), await hands.text("#touch")], ["refused 3\n", 0, 0, "", ""]);
         await hands.toSheet();
         checks.same(`${name}: no sheet`, await hands.text("#sheet"), "There is no table, so there is no sheet.");
         checks.same(`${name}: no error`, page.errors, []);

@@ -14,9 +14,10 @@ import { checkDrag, checkLooks } from "./looks.mjs";
 import { checkRandom } from "./random.mjs";
 import { checkSaving } from "./saving.mjs";
 import { checkCutlist, checkSessions, checkSheet } from "./session.mjs";
+import { checkTouch } from "./touch.mjs";
 
 const PARTS = [checkLesson, checkWords, checkCuts, checkHand, checkDimensions, checkRefusals, checkKeys, checkNames, checkSessions, checkCutlist,
-    checkSheet, checkClose, checkSaving, checkLooks, checkDrag, checkRandom];
+    checkSheet, checkClose, checkSaving, checkTouch, checkLooks, checkDrag, checkRandom];
 
 const [program, ...parts] = process.argv.slice(2);
 const isAsked = part => parts.length === 0 || parts.includes(part.name);
