@@ -50,7 +50,8 @@ const LOOKING = {
 function inDrawing(event, desk) {
     if (event.ctrlKey || event.metaKey || event.altKey || !desk.stands) return;
     const key = event.key.length === 1 ? event.key.toLowerCase() : event.key;
-    if (key === "Enter") desk.cut();
+    if (key === "Enter" && event.shiftKey) desk.cutEveryPiece();
+    else if (key === "Enter") desk.cut();
     else if (AIMING[key]) desk.aimAt(AIMING[key](desk, event.shiftKey));
     else if (LOOKING[key]) desk.lookFrom(LOOKING[key](desk));
     else return;

@@ -9,6 +9,7 @@ import { partsOf } from "../lesson.js";
 import { Checks } from "./check.mjs";
 import { checkCalls } from "./close.mjs";
 import { checkColours } from "./colours.mjs";
+import { checkLists } from "./every.mjs";
 import { checkSaved } from "./saved.mjs";
 import { checkSidesOf } from "./touch.mjs";
 
@@ -81,8 +82,9 @@ await checkSaved(checks, parts);
 // close calls
 await checkCalls(checks);
 
-// the sides of a plane without a cut
+// the sides of a plane without a cut, and lists of cuts
 await checkSidesOf(checks);
+await checkLists(checks);
 
 // a word for each refusal of document 01, and the colours
 checks.same("refusals", Object.keys(REFUSALS).map(Number), [1, 2, 3, 4, 5, 6, 7, 8, 9, 10, 11, 12, 13, 26]);

@@ -29,6 +29,7 @@ const ACTIONS = `(async count => {
         () => desk.aimAt({ distance: one(Infinity, -Infinity, NaN, 1e300) }),
         () => document.querySelector(one("#sheetpart", ".top")).scrollIntoView(),
         () => desk.pointAt({ list: one("e", "v", "h"), n: any(60) }),
+        () => press(one("#grid2", "#grid3", "#cutevery")),
         ...Array(11).fill(() => { aim(); if (any(3) > 0) press("#cut"); }),
     ];
     const wrong = [], kinds = new Set();
