@@ -84,7 +84,7 @@ const NOTHING = ["", 0, true];
 async function checkAimed(checks, hands) {
     await hands.start(2);
     await aimAt(hands, [0.8, -0.6], 0.15);
-    checks.same("well away: nothing is said", await shown(hands), NOTHING);
+    checks.same("well away: nothing is said", [...await shown(hands), await hands.run("document.querySelector('#warns').offsetHeight")], [...NOTHING, 0]);
     await hands.type("#distance", "0.199992");
     checks.same("before it is made", await shown(hands), [`${CALL} ${ADVICE}`, 1, false]);
     checks.same("the table is as it was", [await hands.line(), await hands.count("#elements li[data-e]")], ["cube 9 4 4", 9]);
