@@ -31,7 +31,7 @@ export async function checkLooks(checks, hands) {
         await page.media(["prefers-color-scheme", scheme], ["prefers-reduced-motion", "reduce"]);
         await hands.press('[data-lesson="1"]');
         await hands.press("#lessonnext");
-        await hands.press("#lessonnext");
+        await hands.press("#grid2");
         await hands.toSheet();
         const { count, low } = await hands.run(CONTRASTS);
         checks.same(`${scheme}: contrast of ${count} texts`, [count > 100, low], [true, []]);
