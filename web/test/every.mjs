@@ -156,6 +156,14 @@ async function checkTold(checks, hands) {
     await hands.press("#undo");
     checks.same("one click is undone, and not both", await hands.text("#stepname"), "Record 40 of 202");
 
+    // beside a lesson's steps it is one step
+    await hands.press('[data-lesson="1"]');
+    await hands.press("#grid3");
+    checks.same("in a lesson", [await hands.texts("#lessonsteps li code"), await hands.text("#lessonat")], [["cube 2 1", "cube 9 4 4", "3 × 3: 12 cuts", "cut 67 68 66 69 16 8"], "step 2 of 2"]);
+    await hands.press("#lessonback");
+    checks.same("and back", [await hands.line(), await hands.text("#lessonat")], ["cube 9 4 4", "step 1 of 2"]);
+    await hands.press("#lessonleave");
+
     // a session that was opened has the same records, and knows of no click
     await hands.open(join(hands.files, "desk.session"));
     checks.same("opened again", [await hands.printed(), await hands.count("#history li.ofclick")], [printed, 0]);

@@ -84,20 +84,21 @@ async function checkSaid(checks, hands) {
     checks.same("no table", await hands.text("#touch"), "");
 }
 
-// one call a frame, of the table that stands; the copy that is cut before a cut is made has no part in it
+// one call a frame, of the table that stands; the one cut of a frame is that of the copy, and is refused here
 async function checkAsked(checks, hands) {
     await hands.start(2);
-    const calls = await hands.run(`(() => {
+    const [asked, live, trial, reply] = await hands.run(`(() => {
         const { calls } = desk.engine;
-        const seen = [];
-        const heard = name => (...words) => (seen.push([name, words[0]]), calls[name](...words));
-        desk.engine.calls = { ...calls, desk_touch: heard("desk_touch"), desk_cut: () => BigInt(9) };
+        const asked = [];
+        const touch = (...words) => (asked.push(["touch", words[0]]), calls.desk_touch(...words));
+        const cut = (...words) => (asked.push(["cut", words[0]]), 9n);
+        desk.engine.calls = { ...calls, desk_touch: touch, desk_cut: cut };
         desk.aim.distance = 0.5;
         desk.tell("aimed");
         desk.engine.calls = calls;
-        return [seen, desk.live.lent[0], desk.touch];
+        return [asked, desk.live.lent[0], desk.trial.lent[0], desk.touch];
     })()`);
-    checks.same("asked once, of the table that stands, and without a cut", calls, [[["desk_touch", calls[1]]], calls[1], { number: 0, sides: "both", tested: 2 }]);
+    checks.same("asked once, of the table that stands, and without a cut", [asked, reply], [[["cut", trial], ["touch", live]], { number: 0, sides: "both", tested: 2 }]);
 }
 
 // by a hand, by keys, and for those who listen
