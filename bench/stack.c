@@ -22,15 +22,33 @@ static void is_sound(void) { desk_is_sound(TABLE); }
 static void new_cube(void) { desk_cube(TABLE, 4, 1.0); }
 
 /* Each takes a corner off the squares of the first two axes: after the second these have six edges. */
+static const double dividers[2 * DESK_PLANE_WIDTH] = {0.6, 0.8, 0.0, 0.0, 1.2, 0.6, -0.8, 0.0, 0.0, 1.2};
+static uint16_t cut_roots[2];
+
+static uint64_t cut(int i) {
+    const double *row = dividers + DESK_PLANE_WIDTH * i;
+    return desk_cut(TABLE, row[0], row[1], row[2], row[3], row[4], 1, 1, cut_roots[i]);
+}
+
 static void two_cuts(uint16_t root) {
-    uint64_t reply = desk_cut(TABLE, 0.6, 0.8, 0.0, 0.0, 1.2, 1, 1, root);
-    desk_cut(TABLE, 0.6, -0.8, 0.0, 0.0, 1.2, 1, 1, desk_inside(reply));
+    cut_roots[0] = root;
+    cut_roots[1] = desk_inside(cut(0));
+    cut(1);
 }
 
 static void edge_cut(void) { desk_cut(TABLE, 1.0, 0.0, 0.0, 0.0, 0.5, 1, 1, 2); }
 static void square_cuts(void) { two_cuts(8); }
 static void cube_cuts(void) { two_cuts(26); }
 static void four_cuts(void) { two_cuts(80); }
+
+/* The last two as a list, from a new cube again: their numbers are the same. */
+static void list_of_two(void) {
+    static const uint8_t kept[2] = {DESK_KEEP_BOTH, DESK_KEEP_BOTH};
+    static uint64_t answers[2];
+    desk_cut_all(TABLE, dividers, 2 * DESK_PLANE_WIDTH, kept, 2, cut_roots, 2, answers, 2);
+}
+
+static void touch(void) { desk_touch(TABLE, 0.6, 0.8, 0.0, 0.0, 3.0, cube); }
 
 static void sub_elements(void) { desk_subelements_of(TABLE, cube, list, 512); }
 static void with_rank(void) { desk_subelements_with_rank(TABLE, cube, 1, list, 512); }
@@ -53,6 +71,8 @@ static const struct {
     {"desk_cut, 2 dimensions", square_cuts, 2},
     {"desk_cut, 3 dimensions", cube_cuts, 3},
     {"desk_cut, 4 dimensions", four_cuts, 4},
+    {"desk_cut_all, 4 dimensions", list_of_two, 4},
+    {"desk_touch", touch, 0},
     {"desk_subelements_of", sub_elements, 0},
     {"desk_subelements_with_rank", with_rank, 0},
     {"desk_vertex_set", vertex_set, 0},

@@ -6,7 +6,7 @@ export const MANY = ["corners", "edges", "faces", "bodies", "4D bodies"];
 export const SHAPES = ["", "segment", "square", "cube", "4D cube"];
 export const AXES = ["x", "y", "z", "w"];
 
-// document 01's numbered replies
+// the numbered replies of documents 01 and 02
 export const REFUSALS = {
     1: "the dimension is not 1 to 4",
     2: "the radius is not a number from 1 to 65,536",
@@ -21,6 +21,7 @@ export const REFUSALS = {
     11: "a boundary would have more than 32 elements",
     12: "the room for the list or the file is too short",
     13: "the bytes are not laid out as a file",
+    26: "the list has more than its limit, or its parts do not belong together",
 };
 
 const sentence = (words) => `${words[0].toUpperCase()}${words.slice(1)}.`;

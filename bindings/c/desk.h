@@ -1,7 +1,7 @@
-/* Every entry point of the desk, for C: first what there is to know, then the eleven functions of the archive, then readers of
+/* Every entry point of the desk, for C: first what there is to know, then the thirteen functions of the archive, then readers of
    their replies and a table as one struct, which are written here. What each function does is its contract in
    crates/desk/src/lib.rt: every table, number, float and byte is allowed, and a refused call leaves the table and the room for a
-   list or a file as they came.
+   list or a file as they came. In a list of cuts the refused one does: those before it stay.
 
    A cut does not make pieces: it adds entries to a table, and a piece that the plane misses is its old entry. Elements,
    vertices and hyperplanes are three lists, each numbered from 0: a vertex number is no element number.
@@ -68,6 +68,9 @@ extern "C" {
 /* No list is longer. */
 #define DESK_LONGEST_LIST 512
 
+/* A list of cuts has no more of them. */
+#define DESK_MOST_CUTS 64
+
 /* No file of a table has more bytes: a header, and so many vertices, hyperplanes and elements as there is room for. */
 #define DESK_LONGEST_FILE 48266
 
@@ -91,11 +94,15 @@ extern "C" {
     each(10, HYPERPLANES_FULL, "there is no room for another hyperplane")                                     \
     each(11, BOUNDARY_FULL, "a boundary would have more than 32 elements")                                    \
     each(12, ROOM_SHORT, "the room for the list or the file is too short")                                    \
-    each(13, LAYOUT, "the bytes are not laid out as a file")
+    each(13, LAYOUT, "the bytes are not laid out as a file")                                                  \
+    each(26, LIST_LONG, "the list has more than its limit, or its parts do not belong together")
 
 #define DESK_NAMED(number, name, words) DESK_REFUSED_##name = number,
 enum desk_number { DESK_REFUSALS(DESK_NAMED) DESK_DONE = 0 };
 #undef DESK_NAMED
+
+/* Where the corners of an element lie to a plane. */
+enum desk_touched { DESK_ALL_ON = 0, DESK_INSIDE_OR_ON = 1, DESK_OUTSIDE_OR_ON = 2, DESK_BOTH = 3 };
 
 /* ---- The functions of the archive */
 
@@ -121,6 +128,20 @@ uint32_t desk_cube(DESK_WRITES, uint32_t ndim, double radius);
    removed: a root that is a vertex element, and an infinite distance. */
 uint64_t desk_cut(DESK_WRITES, double n0, double n1, double n2, double n3, double distance, uint32_t inside,
                   uint32_t outside, uint32_t root);
+
+/* A list of cuts in one call, each of what the one before it left: a row of DESK_PLANE_WIDTH floats for each divider, a byte for what it
+   keeps (bit 0 the inside, bit 1 the outside; the others say nothing) and its root. The answers are words as desk_cut replies them, from
+   the front of their room on, and are those of the same cuts made singly. Bits 0 to 7 the number, above them how many answers were
+   written. Refused before any cut, in this order: 3; 26 for more than DESK_MOST_CUTS cuts, or slices that do not belong together; 12 where
+   there is not a word for each cut. Else the first cut that is refused ends the list with its number, and how many answers were
+   written is its position: the cuts before it stay, and it leaves the table, and the words from its own on, as they came. */
+uint32_t desk_cut_all(DESK_WRITES, const double *dividers, size_t dividers_len, const uint8_t *kept, size_t kept_len,
+                      const uint16_t *roots, size_t roots_len, uint64_t *answers, size_t answers_len);
+
+/* Where the corners of an element lie to a plane, without a cut: the table is only read. Bits 0 to 7 the number, 0, 3, 4 or 5; bits 8
+   and 9 a number of enum desk_touched; from bit 16 how many corners were tested, in rising vertex order: up to and with the first at
+   which both an inside and an outside corner have been met, or all. An infinite distance tests none. */
+uint32_t desk_touch(DESK_READS, double n0, double n1, double n2, double n3, double distance, uint32_t root);
 
 /* Bits 0 to 7 the number, above them the size of the list. The list fills the front of its room. */
 uint32_t desk_subelements_of(DESK_READS, uint32_t root, uint16_t *list, size_t list_len);
@@ -167,6 +188,17 @@ static inline uint16_t desk_inside(uint64_t cut) { return (uint16_t)(cut >> 16);
 static inline uint16_t desk_outside(uint64_t cut) { return (uint16_t)(cut >> 32); }
 static inline uint16_t desk_intersection(uint64_t cut) { return (uint16_t)(cut >> 48); }
 
+/* Of a list of cuts: how many answers were written, and whether it stopped at a cut that was refused: then that is its position. */
+static inline uint32_t desk_answers_written(uint32_t cut_all) { return cut_all >> 8; }
+static inline int desk_is_stopped(uint32_t cut_all) {
+    enum desk_number number = desk_number_of(cut_all);
+    return number != DESK_DONE && number != DESK_REFUSED_NOT_SOUND && number != DESK_REFUSED_LIST_LONG && number != DESK_REFUSED_ROOM_SHORT;
+}
+
+/* Of a touch: the answer, and how many corners were tested. */
+static inline enum desk_touched desk_touched_of(uint32_t touch) { return (enum desk_touched)(touch >> 8 & 3); }
+static inline uint32_t desk_corners_tested(uint32_t touch) { return touch >> 16; }
+
 /* Of a list: how many numbers it has. */
 static inline uint32_t desk_size(uint32_t list) { return list >> 8; }
 
@@ -196,6 +228,14 @@ struct desk_hyperplane {
 #define DESK_KEEP_OUTSIDE 2
 #define DESK_KEEP_BOTH 3
 
+/* Cuts to be made in one call. Start with {0}, or take a count of 0. */
+struct desk_cut_list {
+    size_t count;
+    double dividers[DESK_MOST_CUTS * DESK_PLANE_WIDTH];
+    uint8_t kept[DESK_MOST_CUTS];
+    uint16_t roots[DESK_MOST_CUTS];
+};
+
 #define DESK_LENT(table)                                                                                      \
     (table)->counts, DESK_COUNTS, (table)->points, DESK_POINTS, (table)->planes, DESK_PLANES, (table)->elements, \
         DESK_ELEMENTS
@@ -210,6 +250,29 @@ static inline uint64_t desk_table_cut(struct desk_table *table, struct desk_hype
     const double *n = divider.normal;
     return desk_cut(DESK_LENT(table), n[0], n[1], n[2], n[3], divider.distance, kept & DESK_KEEP_INSIDE,
                     kept & DESK_KEEP_OUTSIDE, root);
+}
+
+/* Adds a cut to a list: 0, or 26 where it is full. A root has 16 bits there, so one that has more becomes 65,535, which is in no table. */
+static inline uint32_t desk_cut_list_add(struct desk_cut_list *list, struct desk_hyperplane divider, uint32_t kept, uint32_t root) {
+    size_t i = list->count;
+    if (i >= DESK_MOST_CUTS) return DESK_REFUSED_LIST_LONG;
+    for (int axis = 0; axis < DESK_AXES; axis++) list->dividers[DESK_PLANE_WIDTH * i + axis] = divider.normal[axis];
+    list->dividers[DESK_PLANE_WIDTH * i + DESK_AXES] = divider.distance;
+    list->kept[i] = (uint8_t)(kept & DESK_KEEP_BOTH);
+    list->roots[i] = root < 0xffff ? (uint16_t)root : 0xffff;
+    list->count = i + 1;
+    return DESK_DONE;
+}
+
+/* DESK_MOST_CUTS words are enough for every list. */
+static inline uint32_t desk_table_cut_all(struct desk_table *table, const struct desk_cut_list *list, uint64_t *answers, size_t answers_len) {
+    return desk_cut_all(DESK_LENT(table), list->dividers, DESK_PLANE_WIDTH * list->count, list->kept, list->count, list->roots, list->count,
+                        answers, answers_len);
+}
+
+static inline uint32_t desk_table_touch(const struct desk_table *table, struct desk_hyperplane divider, uint32_t root) {
+    const double *n = divider.normal;
+    return desk_touch(DESK_LENT(table), n[0], n[1], n[2], n[3], divider.distance, root);
 }
 
 static inline uint32_t desk_table_subelements_of(const struct desk_table *table, uint32_t root, uint16_t *list, size_t list_len) {

@@ -1,4 +1,4 @@
-// The example session of document 01, from JavaScript: a square of radius 1, cut twice at x = 0 with both sides kept; then saved, and opened.
+// The example session of document 01, from JavaScript: a square of radius 1, cut twice at x = 0; then a list of cuts, a touch, a file.
 
 import { readFileSync } from "node:fs";
 
@@ -13,11 +13,26 @@ const table = [[4, 2], [1024, 8], [320, 8], [18432, 2]].flatMap(([length, bytes]
     return [free - length * bytes, BigInt(length)];
 });
 
+// inside, outside and intersection of a cut's answer
+const places = answer => [16n, 32n, 48n].map(shift => Number(BigInt.asUintN(64, answer) >> shift & 0xffffn));
+
 desk.desk_cube(...table, 2, 1);
 for (let i = 0; i < 2; i++) {
-    const reply = BigInt.asUintN(64, desk.desk_cut(...table, 1, 0, 0, 0, 0, 1, 1, 8));
-    console.log(...[16n, 32n, 48n].map(shift => Number(reply >> shift & 0xffffn)));
+    console.log(...places(desk.desk_cut(...table, 1, 0, 0, 0, 0, 1, 1, 8)));
 }
+
+// y = 0 through both halves, 16 and 17: dividers, kept sides, roots and room for the answers, each a pointer and a length
+const [dividers, answers, roots, kept] = [free, free + 80, free + 96, free + 100];
+new Float64Array(desk.memory.buffer, dividers, 10).set([0, 1, 0, 0, 0, 0, 1, 0, 0, 0]);
+new Uint16Array(desk.memory.buffer, roots, 2).set([16, 17]);
+new Uint8Array(desk.memory.buffer, kept, 2).set([3, 3]);
+const list = desk.desk_cut_all(...table, dividers, 10n, kept, 2n, roots, 2n, answers, 2n);
+const pieces = [...new BigUint64Array(desk.memory.buffer, answers, list >> 8)].flatMap(places);
+console.log(list & 255, ...pieces);
+
+// where the corners of piece 16 lie to x = 0: 1 is inside or on, and all four were tested
+const touch = desk.desk_touch(...table, 1, 0, 0, 0, 0, 16);
+console.log(touch & 255, touch >> 8 & 3, touch >> 16);
 
 const size = desk.desk_save(...table, free, 48266n) >> 8n;
 const file = new Uint8Array(desk.memory.buffer, free, Number(size)).slice(); // to be put aside

@@ -24,7 +24,7 @@ pub fn cube(r: &mut Random) -> Call {
 }
 
 /// One call of each entry point that only reads the table.
-pub fn questions(r: &mut Random, table: Option<&Table>) -> [Call; 8] {
+pub fn questions(r: &mut Random, table: Option<&Table>) -> [Call; 9] {
     [
         Call::IsSound,
         Call::Save,
@@ -34,7 +34,15 @@ pub fn questions(r: &mut Random, table: Option<&Table>) -> [Call; 8] {
         Call::GreatestCommon { roots: roots(r, table) },
         Call::EdgesInOrder { root: root_of_rank(r, table, 2) },
         Call::PrimordialFacet { root: root_of_rank(r, table, table.map_or(1, |t| t.dimension as u16)) },
+        touch(r, table),
     ]
+}
+
+/// Half of the roots are as a cut has them, half of any rank.
+fn touch(r: &mut Random, table: Option<&Table>) -> Call {
+    let divider = dividers::divider(r, table);
+    let root = if r.one_in(2) { cut_root(r, table) } else { root(r, table) };
+    Call::Touch { divider, root }
 }
 
 fn rank(r: &mut Random) -> u32 {

@@ -4,11 +4,12 @@
 //!
 //! - a call: the exported name's length (1) and the name; memory; how many arguments (1), and each; reply (8); memory; bytes
 //! - memory: 0 where it is the memory before it, else 1 and four slices, each its length (4) and its entries
-//! - an argument: `n` and a number (4), `f` and a float (8), `w` and words, or `b` and bytes
-//! - words: their length (4) and the words (2 each)
-//! - bytes: their length (4) and the bytes; those at the end are the room for a list or a file as it was left, or none
+//! - an argument: `n` and a number (4), `f` and a float (8), `w` and words, `b` and bytes, `d` and floats, or `a` and answers
+//! - words, floats, answers: their length (4) and each of them (2, 8, 8)
+//! - bytes: their length (4) and the bytes; those at the end are the room for a list, a file or answers as it was left, or none
 
 use crate::call::{Call, Room};
+use crate::model::floats::Hyperplane;
 use crate::model::memory::Memory;
 use std::io::{Result, Write};
 
@@ -67,8 +68,7 @@ impl<W: Write> Calls<W> {
             }
             Call::Cut { divider, inside, outside, root } => {
                 self.out.write_all(&[8])?;
-                divider.normal.iter().try_for_each(|x| self.float(*x))?;
-                self.float(divider.distance)?;
+                self.divider(divider)?;
                 [*inside, *outside, *root].into_iter().try_for_each(|n| self.number(n))
             }
             Call::SubElements { root } | Call::VertexSet { root } | Call::EdgesInOrder { root } => {
@@ -91,9 +91,28 @@ impl<W: Write> Calls<W> {
                 self.out.write_all(&[1])?;
                 self.number(*root)
             }
+            Call::CutAll { list } => {
+                self.out.write_all(b"\x04d")?;
+                self.floats(&list.dividers)?;
+                self.out.write_all(b"b")?;
+                self.bytes(&list.kept)?;
+                self.slice(&list.roots)?;
+                self.out.write_all(b"a")?;
+                self.answers(&room.answers)
+            }
+            Call::Touch { divider, root } => {
+                self.out.write_all(&[6])?;
+                self.divider(divider)?;
+                self.number(*root)
+            }
             Call::Save => self.file(&room.file),
             Call::Open { file } => self.file(file),
         }
+    }
+
+    fn divider(&mut self, divider: &Hyperplane) -> Result<()> {
+        divider.normal.iter().try_for_each(|x| self.float(*x))?;
+        self.float(divider.distance)
     }
 
     /// The only argument.
@@ -126,6 +145,11 @@ impl<W: Write> Calls<W> {
     fn bytes(&mut self, bytes: &[u8]) -> Result<()> {
         self.out.write_all(&(bytes.len() as u32).to_le_bytes())?;
         self.out.write_all(bytes)
+    }
+
+    fn answers(&mut self, answers: &[u64]) -> Result<()> {
+        self.out.write_all(&(answers.len() as u32).to_le_bytes())?;
+        self.out.write_all(&answers.iter().flat_map(|word| word.to_le_bytes()).collect::<Vec<_>>())
     }
 
     fn floats(&mut self, floats: &[f64]) -> Result<()> {

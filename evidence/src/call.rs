@@ -1,8 +1,10 @@
 //! One call of one entry point, made by the model and by the engine, with the reply as the engine's one number.
 
 use crate::model::cut::{Answer, Kept, Output};
+use crate::model::cut_list::{self, CutList};
 use crate::model::floats::Hyperplane;
 use crate::model::memory::{Lent, Memory};
+use crate::model::touch::{touch, Touch};
 use crate::model::{cube, cut, files, questions, Refusal};
 use spoonvelvet::raw;
 
@@ -19,26 +21,31 @@ pub enum Call {
     PrimordialFacet { root: u32 },
     Save,
     Open { file: Vec<u8> },
+    CutAll { list: CutList },
+    Touch { divider: Hyperplane, root: u32 },
 }
 
-/// What a call is lent beside the four slices to be filled: room for a list or for a file, or none.
+/// What a call is lent beside the four slices to be filled: room for a list, for a file or for answers, or none.
 #[derive(Clone, Debug, Default, PartialEq, Eq)]
 pub struct Room {
     pub list: Vec<u16>,
     pub file: Vec<u8>,
+    pub answers: Vec<u64>,
 }
 
 impl Room {
     /// As it is lent, little-endian.
     pub fn bytes(&self) -> Vec<u8> {
-        self.list.iter().flat_map(|word| word.to_le_bytes()).chain(self.file.iter().copied()).collect()
+        let list = self.list.iter().flat_map(|word| word.to_le_bytes());
+        let answers = self.answers.iter().flat_map(|word| word.to_le_bytes());
+        list.chain(self.file.iter().copied()).chain(answers).collect()
     }
 }
 
 impl Call {
     /// The model's reply; the memory and the room are left as the call leaves them.
     pub fn by_model(&self, lent: &mut Lent, room: &mut Room) -> u64 {
-        let Room { list, file: file_room } = room;
+        let Room { list, file: file_room, answers } = room;
         match self {
             Call::IsSound => done_word(lent.table().map(|_| ())),
             Call::Cube { dimension, radius } => done_word(cube::with_primordial_cube_radius(lent, *dimension, *radius)),
@@ -53,19 +60,20 @@ impl Call {
             Call::PrimordialFacet { root } => facet_word(questions::has_primordial_facet(lent, *root)),
             Call::Save => list_word(files::save(lent, file_room)),
             Call::Open { file } => done_word(files::open(lent, file)),
+            Call::CutAll { list } => cut_list_word(cut_list::cut_all(lent, list, answers.len()), answers),
+            Call::Touch { divider, root } => touch_word(touch(lent, *divider, *root)),
         }
     }
 
     /// The engine's reply, through the functions that hosts link.
     pub fn by_engine(&self, memory: &mut Memory, room: &mut Room) -> u64 {
         let Memory { counts: c, points: p, planes: h, elements: e } = memory;
-        let Room { list, file: file_room } = room;
+        let Room { list, file: file_room, answers } = room;
         match self {
             Call::IsSound => raw::is_sound(c, p, h, e).into(),
             Call::Cube { dimension, radius } => raw::cube(c, p, h, e, *dimension, *radius).into(),
             Call::Cut { divider, inside, outside, root } => {
-                let divider = spoonvelvet::Hyperplane { normal: divider.normal, distance: divider.distance };
-                raw::cut(c, p, h, e, divider, *inside, *outside, *root)
+                raw::cut(c, p, h, e, lent(divider), *inside, *outside, *root)
             }
             Call::SubElements { root } => raw::subelements_of(c, p, h, e, *root, list).into(),
             Call::WithRank { root, rank } => raw::subelements_with_rank(c, p, h, e, *root, *rank, list).into(),
@@ -75,6 +83,11 @@ impl Call {
             Call::PrimordialFacet { root } => raw::has_primordial_facet(c, p, h, e, *root).into(),
             Call::Save => raw::save(c, p, h, e, file_room),
             Call::Open { file } => raw::open(c, p, h, e, file).into(),
+            Call::CutAll { list } => {
+                let CutList { dividers, kept, roots } = list;
+                raw::cut_all(c, p, h, e, raw::CutList { dividers, kept, roots }, answers).into()
+            }
+            Call::Touch { divider, root } => raw::touch(c, p, h, e, lent(divider), *root).into(),
         }
     }
 
@@ -91,6 +104,8 @@ impl Call {
             Call::PrimordialFacet { .. } => "has_primordial_facet",
             Call::Save => "save",
             Call::Open { .. } => "open",
+            Call::CutAll { .. } => "cut_all",
+            Call::Touch { .. } => "touch",
         }
     }
 
@@ -102,13 +117,17 @@ impl Call {
         }
     }
 
-    /// So much room, in bytes or in words of a list, that more is never needed; none for a call that is lent none.
+    /// So much room, in bytes or in words, that more is never needed; none for a call that is lent none.
     pub fn longest(&self) -> Room {
         match self {
             Call::Save => Room { file: vec![0; raw::LONGEST_FILE], ..Room::default() },
-            Call::IsSound | Call::Cube { .. } | Call::Cut { .. } | Call::PrimordialFacet { .. } | Call::Open { .. } => {
-                Room::default()
-            }
+            Call::CutAll { list } => Room { answers: vec![0; list.roots.len()], ..Room::default() },
+            Call::IsSound
+            | Call::Cube { .. }
+            | Call::Cut { .. }
+            | Call::PrimordialFacet { .. }
+            | Call::Open { .. }
+            | Call::Touch { .. } => Room::default(),
             _ => Room { list: vec![0; raw::LONGEST_LIST], ..Room::default() },
         }
     }
@@ -121,6 +140,11 @@ impl Call {
             (0, Call::Save) => "file".into(),
             (0, Call::Cut { .. }) => output_outcome(output(word)),
             (0, Call::PrimordialFacet { .. }) => if is_set(word) { "yes" } else { "no" }.into(),
+            (0, Call::CutAll { .. }) => if word == 0 { "empty list" } else { "answered" }.into(),
+            (number, Call::CutAll { .. }) if ![3, 12, 26].contains(&number) => format!("stopped {number}"),
+            (0, Call::Touch { .. }) => {
+                ["all on", "inside or on", "outside or on", "both"][word as usize >> 8 & 3].into()
+            }
             (0, _) => if word == 0 { "empty list" } else { "list" }.into(),
             (number, _) => format!("refused {number}"),
         }
@@ -159,6 +183,11 @@ impl Call {
     }
 }
 
+/// As the crate has it.
+fn lent(divider: &Hyperplane) -> spoonvelvet::Hyperplane {
+    spoonvelvet::Hyperplane { normal: divider.normal, distance: divider.distance }
+}
+
 fn kept(inside: u32, outside: u32) -> Kept {
     Kept { inside: inside != 0, outside: outside != 0 }
 }
@@ -195,6 +224,19 @@ fn facet_word(reply: Result<bool, Refusal>) -> u64 {
 /// Bits 0 to 7 the number; bit 8 for flush; bit 9 for a warning; from 16, 32 and 48 inside, outside and intersection.
 fn cut_word(reply: Result<Answer, Refusal>) -> u64 {
     reply.map_or_else(u64::from, |answer| output_word(answer.output) | u64::from(answer.warning) << 9)
+}
+
+/// Bits 0 to 7 the number, above them how many answers are written: each in a word as a cut has it, at the front of the room.
+fn cut_list_word((answers, refusal): (Vec<Answer>, Option<Refusal>), room: &mut [u64]) -> u64 {
+    for (word, answer) in room.iter_mut().zip(&answers) {
+        *word = cut_word(Ok(*answer));
+    }
+    refusal.map_or(0, u64::from) | (answers.len() as u64) << 8
+}
+
+/// Bits 0 to 7 the number, bits 8 and 9 the answer, from 16 on how many corners are tested.
+fn touch_word(reply: Result<(Touch, usize), Refusal>) -> u64 {
+    reply.map_or_else(u64::from, |(touch, tested)| (touch as u64) << 8 | (tested as u64) << 16)
 }
 
 fn output_word(output: Output) -> u64 {

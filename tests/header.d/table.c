@@ -1,4 +1,4 @@
-/* What desk.h says of rows, replies, warnings and refusals, by a table of the engine's. Ends with the line that does not hold. */
+/* What desk.h says of rows, replies, warnings, lists of cuts, touches and refusals, by a table of the engine's. Ends with the line that does not hold. */
 #include "desk.h"
 #include <math.h>
 #include <stdio.h>
@@ -9,6 +9,8 @@
 
 static struct desk_table table, before;
 static uint8_t file[DESK_LONGEST_FILE], old_file[DESK_LONGEST_FILE];
+static struct desk_cut_list cuts;
+static uint64_t answers[DESK_MOST_CUTS + 1];
 
 static uint64_t at_x(double distance, uint32_t kept, uint32_t root) {
     struct desk_hyperplane divider = {{1.0, 0.0, 0.0, 0.0}, distance};
@@ -105,6 +107,100 @@ static int refusals(void) {
     return 0;
 }
 
+static uint32_t list_at_x(double distance, uint32_t kept, uint32_t root) {
+    struct desk_hyperplane divider = {{1.0, 0.0, 0.0, 0.0}, distance};
+    return desk_cut_list_add(&cuts, divider, kept, root);
+}
+
+/* The list's answers are those of single cuts, and so is the table. */
+static int lists(void) {
+    HOLDS(desk_table_cube(&table, 2, 1.0) == DESK_DONE);
+    before = table;
+    cuts.count = 0;
+    HOLDS(desk_table_cut_all(&table, &cuts, answers, 0) == DESK_DONE && memcmp(&table, &before, sizeof table) == 0);
+    HOLDS(!list_at_x(0.0, DESK_KEEP_BOTH, 8) && !list_at_x(0.5, DESK_KEEP_INSIDE, 17) && !list_at_x(1.0, DESK_KEEP_NEITHER, 7) && !list_at_x(0.0, DESK_KEEP_BOTH, 8));
+    memset(answers, 0xa5, sizeof answers);
+    uint32_t reply = desk_table_cut_all(&table, &cuts, answers, DESK_MOST_CUTS);
+    HOLDS(desk_number_of(reply) == DESK_DONE && desk_answers_written(reply) == 4 && !desk_is_stopped(reply));
+    HOLDS(desk_inside(answers[0]) == 16 && desk_outside(answers[0]) == 17 && desk_intersection(answers[0]) == 15 && answers[3] == answers[0]);
+    HOLDS(desk_outside(answers[1]) == DESK_NONE && desk_is_flush(answers[2]) && answers[4] == 0xa5a5a5a5a5a5a5a5);
+    struct desk_table left = table;
+    table = before;
+    HOLDS(at_x(0.0, DESK_KEEP_BOTH, 8) == answers[0] && at_x(0.5, DESK_KEEP_INSIDE, 17) == answers[1]);
+    HOLDS(at_x(1.0, DESK_KEEP_NEITHER, 7) == answers[2] && memcmp(&table, &left, sizeof table) == 0);
+    return 0;
+}
+
+static int stopped_lists(void) {
+    HOLDS(desk_table_cube(&table, 2, 1.0) == DESK_DONE);
+    before = table;
+    cuts.count = 0;
+    HOLDS(!list_at_x(0.0, DESK_KEEP_BOTH, 8) && !list_at_x(0.0, DESK_KEEP_BOTH, 9999) && !list_at_x(0.5, DESK_KEEP_BOTH, 8));
+    memset(answers, 0xa5, sizeof answers);
+    HOLDS(desk_table_cut_all(&table, &cuts, answers, 2) == DESK_REFUSED_ROOM_SHORT && memcmp(&table, &before, sizeof table) == 0);
+    uint32_t reply = desk_table_cut_all(&table, &cuts, answers, 3);
+    HOLDS(desk_number_of(reply) == DESK_REFUSED_NOT_IN_USE && desk_is_stopped(reply) && desk_answers_written(reply) == 1);
+    HOLDS(desk_inside(answers[0]) == 16 && answers[1] == 0xa5a5a5a5a5a5a5a5 && answers[2] == answers[1]);
+    HOLDS(table.counts[DESK_COUNT_ELEMENTS] == 18 && table.counts[DESK_COUNT_HYPERPLANES] == 5);
+    table = before;
+    cuts.count = 0;
+    HOLDS(!list_at_x(0.0, DESK_KEEP_BOTH, 65544));
+    reply = desk_table_cut_all(&table, &cuts, answers, 1);
+    HOLDS(reply == DESK_REFUSED_NOT_IN_USE && desk_is_stopped(reply) && memcmp(&table, &before, sizeof table) == 0);
+    return 0;
+}
+
+/* So many floats, bytes and words of the list, and no room for an answer. */
+static uint32_t of_lengths(size_t dividers, size_t kept, size_t roots) {
+    return desk_cut_all(DESK_LENT(&table), cuts.dividers, dividers, cuts.kept, kept, cuts.roots, roots, answers, 0);
+}
+
+/* 3, then 26, then 12; none of them has a position. */
+static int refused_lists(void) {
+    before = table;
+    cuts.count = 0;
+    for (int i = 0; i < DESK_MOST_CUTS; i++) HOLDS(list_at_x(0.0, DESK_KEEP_BOTH, 8) == DESK_DONE);
+    HOLDS(list_at_x(0.0, DESK_KEEP_BOTH, 8) == DESK_REFUSED_LIST_LONG && cuts.count == DESK_MOST_CUTS);
+    HOLDS(desk_answers_written(desk_table_cut_all(&table, &cuts, answers, DESK_MOST_CUTS)) == DESK_MOST_CUTS);
+    HOLDS(desk_table_cut_all(&table, &cuts, answers, DESK_MOST_CUTS - 1) == DESK_REFUSED_ROOM_SHORT);
+    table = before;
+    HOLDS(of_lengths(5, 1, 2) == DESK_REFUSED_LIST_LONG && of_lengths(5, 2, 1) == DESK_REFUSED_LIST_LONG && of_lengths(4, 1, 1) == DESK_REFUSED_LIST_LONG);
+    HOLDS(of_lengths(325, 65, 65) == DESK_REFUSED_LIST_LONG && of_lengths(5, 1, 1) == DESK_REFUSED_ROOM_SHORT && of_lengths(0, 0, 0) == DESK_DONE);
+    HOLDS(!desk_is_stopped(of_lengths(5, 1, 2)) && !desk_is_stopped(of_lengths(5, 1, 1)) && memcmp(&table, &before, sizeof table) == 0);
+    table.counts[DESK_COUNT_VERTICES]++;
+    HOLDS(of_lengths(5, 1, 2) == DESK_REFUSED_NOT_SOUND && !desk_is_stopped(of_lengths(0, 0, 0)));
+    table = before;
+    HOLDS(strcmp(desk_words(DESK_REFUSED_LIST_LONG), "the list has more than its limit, or its parts do not belong together") == 0);
+    return 0;
+}
+
+static uint32_t touched_at_x(double distance, uint32_t root) {
+    struct desk_hyperplane divider = {{1.0, 0.0, 0.0, 0.0}, distance};
+    return desk_table_touch(&table, divider, root);
+}
+
+static int is(uint32_t touch, enum desk_touched answer, uint32_t tested) {
+    return desk_number_of(touch) == DESK_DONE && desk_touched_of(touch) == answer && desk_corners_tested(touch) == tested;
+}
+
+/* Vertices 0 and 2 of the square lie at x = -1, 1 and 3 at x = 1; element 0 is vertex 0, element 7 the edge at x = 1. */
+static int touches(void) {
+    HOLDS(desk_table_cube(&table, 2, 1.0) == DESK_DONE);
+    before = table;
+    HOLDS(is(touched_at_x(0.0, 8), DESK_BOTH, 2) && is(touched_at_x(1.0, 8), DESK_INSIDE_OR_ON, 4));
+    HOLDS(is(touched_at_x(-1.0, 8), DESK_OUTSIDE_OR_ON, 4) && is(touched_at_x(1.0, 7), DESK_ALL_ON, 2));
+    HOLDS(is(touched_at_x(0.0, 0), DESK_INSIDE_OR_ON, 1) && is(touched_at_x(-2.0, 7), DESK_OUTSIDE_OR_ON, 2));
+    HOLDS(is(touched_at_x(INFINITY, 8), DESK_INSIDE_OR_ON, 0) && is(touched_at_x(-INFINITY, 8), DESK_OUTSIDE_OR_ON, 0));
+    HOLDS(is(touched_at_x(1.0 - 0x1p-20, 7), DESK_ALL_ON, 2) && is(touched_at_x(1.0 - 0x1.01p-20, 7), DESK_OUTSIDE_OR_ON, 2));
+    HOLDS(touched_at_x(0.0, 9) == DESK_REFUSED_NOT_IN_USE && touched_at_x(NAN, 65544) == DESK_REFUSED_NOT_IN_USE);
+    HOLDS(touched_at_x(NAN, 8) == DESK_REFUSED_DIVIDER && touched_at_x(262145.0, 8) == DESK_REFUSED_DIVIDER);
+    HOLDS(memcmp(&table, &before, sizeof table) == 0);
+    table.counts[DESK_COUNT_VERTICES]++;
+    HOLDS(touched_at_x(NAN, 9) == DESK_REFUSED_NOT_SOUND);
+    table = before;
+    return 0;
+}
+
 /* C converts what it hands over without a word: no number may become another on its way. */
 static int numbers(void) {
     uint16_t list[DESK_LONGEST_LIST];
@@ -167,5 +263,6 @@ static int refused_files(void) {
 }
 
 int main(void) {
-    return rows() || replies() || warnings() || flush_with_a_warning() || refusals() || numbers() || files() || refused_files();
+    return rows() || replies() || warnings() || flush_with_a_warning() || refusals() || numbers() || lists() || stopped_lists() ||
+           refused_lists() || touches() || files() || refused_files();
 }

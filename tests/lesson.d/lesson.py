@@ -20,6 +20,17 @@ show = load("show")
 record = show.record
 
 
+def records(text, dimension=None):
+    """The records of a block, each as its line and what it says."""
+    return [(line, given) for _, line, given in record.records(((f"docs/LESSON.md:{line}", line) for line in text.split("\n")), dimension)]
+
+
+def words_of(cut):
+    """A cut's divider, the two fates of its sides, and its root."""
+    fates = [show.PolytopeFate.KEEP if cut.kept in (side, "both") else show.PolytopeFate.REMOVE for side in ("inside", "outside")]
+    return show.Hyperplane(cut.normal, cut.distance), *fates, show.ElementId(cut.root)
+
+
 def blocks(*kinds):
     """The blocks of these kinds in their order, each with its kind."""
     return re.findall(rf"^```({'|'.join(kinds)})\n(.*?)^```$", (ROOT / "docs/LESSON.md").read_text(), re.M | re.S)

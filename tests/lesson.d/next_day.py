@@ -6,14 +6,14 @@ import subprocess
 import sys
 import tempfile
 
-from lesson import blocks, record, show
+from lesson import blocks, show
+from lesson import records as records_of
 
 Table = show.Table
 
 
 def records(text, opened=None):
-    rows = ((f"docs/LESSON.md:{line}", line) for line in text.split("\n"))
-    return [given for _, _, given in record.records(rows, opened and Table.open(opened).dimensions())]
+    return [given for _, given in records_of(text, opened and Table.open(opened).dimensions())]
 
 
 def run(text, opened=None):

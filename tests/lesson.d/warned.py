@@ -2,21 +2,16 @@
 come with a warning, and no others."""
 import sys
 
-from lesson import blocks, record, show
-
-
-def cut(table, given):
-    sides = [show.PolytopeFate.KEEP if given.kept in (side, "both") else show.PolytopeFate.REMOVE for side in ("inside", "outside")]
-    return table.cut(show.Hyperplane(given.normal, given.distance), *sides, show.ElementId(given.root))
+from lesson import blocks, record, records, show, words_of
 
 
 def warned(text):
     """The lines of a session whose cuts come with a warning."""
     table, found = None, ""
-    for _, line, given in record.records((f"docs/LESSON.md:{line}", line) for line in text.split("\n")):
+    for line, given in records(text):
         if isinstance(given, record.Cube):
             table = show.Table.with_primordial_cube_radius(given.dimension, given.radius)
-        elif cut(table, given).warning:
+        elif table.cut(*words_of(given)).warning:
             found += f"{line}\n"
     return found
 

@@ -1,4 +1,5 @@
-"""Through the Python module: the marked examples of document 01, warnings, refusals, the three kinds of numbers, rows, files."""
+"""Through the Python module: the marked examples of document 01, warnings, lists of cuts, touches, refusals, the three kinds of numbers,
+rows, files."""
 
 import copy
 import doctest
@@ -17,10 +18,14 @@ from spoonvelvet import (
     Flush,
     Hyperplane,
     HyperplaneId,
+    ListedCut,
     NonFlush,
     PolytopeFate,
     Refused,
+    Stopped,
     Table,
+    Touch,
+    Touched,
     VertexId,
     raw,
     table,
@@ -183,6 +188,88 @@ class Calls(Case):
         self.assertRaises(TypeError, hash, square())
 
 
+class Lists(Case):
+    """Document 02, order 5: a list of cuts in one call."""
+
+    def alike(self, table, cuts):
+        """The answers of a list, which are those of its cuts made singly, as the table is."""
+        other = table.copy()
+        answers = table.cut_all(cuts)
+        self.assertEqual(answers, [other.cut(cut.divider, cut.inside, cut.outside, cut.root) for cut in cuts])
+        self.assertEqual(table, other)
+        return answers
+
+    def stopped(self, number, position, call, *given):
+        with self.assertRaises(Stopped) as caught:
+            call(*given)
+        self.assertEqual((caught.exception.number, caught.exception.position), (number, position))
+        return caught.exception.answers
+
+    def test_a_list_is_its_cuts_in_turn(self):
+        for sides in itertools.product((KEEP, REMOVE), repeat=2):
+            planes = ((0.0, 8), (0.5, 8), (1.0, 7), (math.inf, 8), (0.0, 0), (0.0, 8))
+            answers = self.alike(square(), [ListedCut(at_x(distance), *sides, ElementId(root)) for distance, root in planes])
+            self.assertEqual(answers[0], answers[-1])
+        self.assertEqual(square().cut_all([]), [])
+
+    def test_a_root_may_be_what_a_cut_before_it_adds(self):
+        y = Hyperplane((0.0, 1.0), 0.0)
+        answers = self.alike(square(), [ListedCut.slice(at_x(0.0), SQUARE), ListedCut.carve(y, ElementId(16)), ListedCut.slice(y, ElementId(17))])
+        self.assertEqual(answers[0], parts(16, 17, 15))
+        self.assertIsNone(answers[1].outside)
+
+    def test_a_warning_comes_with_its_answer(self):
+        close = Hyperplane((0.6, 0.8), 1.4 - 2.0**-17)
+        answers = self.alike(square(), [ListedCut.slice(at_x(0.0), SQUARE), ListedCut.slice(close, SQUARE)])
+        self.assertEqual([answer.warning for answer in answers], [False, True])
+
+    def test_what_is_before_the_refused_cut_stays(self):
+        good = [ListedCut.slice(at_x(x), SQUARE) for x in (0.0, 0.25, 0.5)]
+        wrong = {4: ListedCut.slice(at_x(0.0), ElementId(65_544)), 5: ListedCut.slice(at_x(math.nan), SQUARE)}
+        for number, position in itertools.product(wrong, range(4)):
+            t, other = square(), square()
+            answers = self.stopped(number, position, t.cut_all, good[:position] + [wrong[number]] + good[position:])
+            self.assertEqual(answers, other.cut_all(good[:position]))
+            self.assertEqual(t, other)
+
+    def test_26_has_no_position_and_comes_before_any_cut(self):
+        t = square()
+        self.assertEqual(len(self.alike(square(), [ListedCut.slice(at_x(0.0), SQUARE)] * raw.MOST_CUTS)), 64)
+        self.assertEqual(self.stopped(26, None, t.cut_all, [ListedCut.slice(at_x(0.0), SQUARE)] * 65), [])
+        self.assertEqual(t, square())
+        t._counts[0] = 5
+        self.stopped(3, None, t.cut_all, [ListedCut.slice(at_x(0.0), SQUARE)] * 65)
+
+    def test_it_is_a_refusal_with_words(self):
+        self.refused(4, square().cut_all, [ListedCut.slice(at_x(0.0), ElementId(9))])
+        self.assertEqual(str(Stopped(26, None, [])), "refused 26: the list has more than its limit, or its parts do not belong together")
+        self.assertEqual(str(copy.copy(Stopped(4, 2, []))), "refused 4 at position 2: an element number is not in use")
+
+
+class Touches(Case):
+    """Document 02, order 6: where the corners of an element lie to a plane."""
+
+    def test_the_four_answers(self):
+        answers = {(0.0, 8): (Touch.BOTH, 2), (1.0, 8): (Touch.INSIDE_OR_ON, 4), (-1.0, 8): (Touch.OUTSIDE_OR_ON, 4), (1.0, 7): (Touch.ALL_ON, 2)}
+        answers.update({(0.0, 0): (Touch.INSIDE_OR_ON, 1), (math.inf, 8): (Touch.INSIDE_OR_ON, 0), (-math.inf, 8): (Touch.OUTSIDE_OR_ON, 0)})
+        t = square()
+        for (distance, root), (answer, tested) in answers.items():
+            self.assertEqual(t.touch(at_x(distance), ElementId(root)), Touched(answer, tested))
+        self.assertEqual(t, square())
+
+    def test_corners_in_rising_vertex_order(self):
+        self.assertEqual(square().touch(Hyperplane((0.0, 1.0), 0.0), SQUARE), (Touch.BOTH, 3))
+        self.assertEqual(square().touch(Hyperplane((0.6, 0.8), 1.0), SQUARE), (Touch.BOTH, 4))
+
+    def test_refusals(self):
+        self.refused(4, square().touch, at_x(math.nan), ElementId(65_544))
+        self.refused(5, square().touch, at_x(math.nan), SQUARE)
+        self.refused(5, square().touch, Hyperplane((0.5,), math.inf), SQUARE)
+        t = square()
+        t._counts[0] = 5
+        self.refused(3, t.touch, at_x(math.nan), ElementId(9))
+
+
 class Refusals(Case):
     def test_a_refused_call_leaves_the_table(self):
         t = square()
@@ -267,7 +354,7 @@ class Refusals(Case):
             self.assertEqual(t, before)
 
     def test_each_number_has_words(self):
-        self.assertEqual(list(REFUSALS), list(range(1, 14)))
+        self.assertEqual(list(REFUSALS), [*range(1, 14), 26])
         self.assertEqual(str(Refused(10)), "refused 10: there is no room for another hyperplane")
         self.assertEqual(copy.copy(Refused(4)).number, 4)
 
@@ -295,12 +382,17 @@ class Numbers(Case):
             for call in (t.subelements_of, t.vertex_set, t.edges_in_order, t.has_primordial_facet, t.rank_of, t.boundary_of):
                 self.assertRaises(TypeError, call, other)
             self.assertRaises(TypeError, t.slice, at_x(0.0), other)
+            self.assertRaises(TypeError, t.touch, at_x(0.0), other)
+            self.assertRaises(TypeError, t.cut_all, [ListedCut.slice(at_x(0.0), other)])
             self.assertRaises(TypeError, t.greatest_common_subelements, [other])
         for other in (0, ElementId(0), HyperplaneId(0)):
             self.assertRaises(TypeError, t.coordinates_of, other)
         for other in (0, ElementId(0), VertexId(0)):
             self.assertRaises(TypeError, t.hyperplane_at, other)
         self.assertRaises(TypeError, t.cut, at_x(0.0), True, False, SQUARE)
+        for other in ((at_x(0.0), SQUARE), ListedCut(at_x(0.0), True, False, SQUARE), ListedCut.slice((1.0, 0.0), SQUARE)):
+            self.assertRaises(TypeError, t.cut_all, [other])
+        self.assertRaises(TypeError, t.touch, ((1.0, 0.0), 0.0), SQUARE)
         self.assertRaises(TypeError, t.slice, ((1.0, 0.0), 0.0), SQUARE)
         self.assertRaises(TypeError, Hyperplane, ("1",), 0.0)
         self.assertRaises(TypeError, t.subelements_with_rank, SQUARE, 1.0)

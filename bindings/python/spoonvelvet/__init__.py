@@ -3,7 +3,8 @@
 A Table is the room of one table. A cut does not make pieces: it adds entries to the table, and a piece that the plane misses is
 its old entry. Element, vertex and hyperplane numbers count three lists, so they are three types. Any number and float may be
 given; a refused call raises Refused and leaves the table as it came. The answer of a cut warns of a plane that passes close by a
-corner. Table.save gives a table as its one file, and Table.open opens it.
+corner. Table.cut_all makes a list of cuts in one call, and Table.touch tells whether a plane touches a piece, without a cut.
+Table.save gives a table as its one file, and Table.open opens it.
 
 >>> from spoonvelvet import ElementId, Hyperplane, Table
 >>> table = Table.with_primordial_cube_radius(2, 1.0)
@@ -22,9 +23,13 @@ from .values import (
     Flush,
     Hyperplane,
     HyperplaneId,
+    ListedCut,
     NonFlush,
     PolytopeFate,
     Refused,
+    Stopped,
+    Touch,
+    Touched,
     VertexId,
 )
 
@@ -36,9 +41,13 @@ __all__ = [
     "Flush",
     "Hyperplane",
     "HyperplaneId",
+    "ListedCut",
     "NonFlush",
     "PolytopeFate",
     "Refused",
+    "Stopped",
     "Table",
+    "Touch",
+    "Touched",
     "VertexId",
 ]

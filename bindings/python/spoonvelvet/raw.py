@@ -28,12 +28,16 @@ WARNING = 0x200
 LONGEST_LIST = ELEMENT_ROOM
 """A list has at most a number for each element."""
 
+MOST_CUTS = 64
+"""A list of cuts has no more of them."""
+
 LONGEST_FILE = 10 + VERTEX_ROOM * (2 + 8 * AXES) + HYPERPLANE_ROOM * (10 + 8 * AXES) + ELEMENT_ROOM * (8 + 2 * BOUNDARY_ROOM)
 """A file has at most a header and so many vertices, hyperplanes and elements as there is room for."""
 
 _WORDS = [POINTER(c_uint16), c_size_t]
 _FLOATS = [POINTER(c_double), c_size_t]
 _BYTES = [POINTER(c_uint8), c_size_t]
+_ANSWERS = [POINTER(c_uint64), c_size_t]
 _TABLE = _WORDS + _FLOATS + _FLOATS + _WORDS
 
 
@@ -60,6 +64,8 @@ _LIBRARY = _load()
 is_sound = _function("desk_is_sound", c_uint32)
 cube = _function("desk_cube", c_uint32, c_uint32, c_double)
 cut = _function("desk_cut", c_uint64, *[c_double] * 5, c_uint32, c_uint32, c_uint32)
+cut_all = _function("desk_cut_all", c_uint32, *_FLOATS, *_BYTES, *_WORDS, *_ANSWERS)
+touch = _function("desk_touch", c_uint32, *[c_double] * 5, c_uint32)
 subelements_of = _function("desk_subelements_of", c_uint32, c_uint32, *_WORDS)
 subelements_with_rank = _function("desk_subelements_with_rank", c_uint32, c_uint32, c_uint32, *_WORDS)
 vertex_set = _function("desk_vertex_set", c_uint32, c_uint32, *_WORDS)

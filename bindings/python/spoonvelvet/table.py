@@ -1,7 +1,7 @@
 """The room of one table, the calls that add entries to it, the questions about it, and its rows as they lie there."""
 
 import operator
-from ctypes import c_double, c_uint8, c_uint16
+from ctypes import c_double, c_uint8, c_uint16, c_uint64
 from typing import Any, Callable, Iterable, List, Optional, SupportsFloat, SupportsIndex, Tuple, TypeVar, Union
 
 from . import raw
@@ -13,9 +13,13 @@ from .values import (
     Flush,
     Hyperplane,
     HyperplaneId,
+    ListedCut,
     NonFlush,
     PolytopeFate,
     Refused,
+    Stopped,
+    Touch,
+    Touched,
     VertexId,
     as_float,
 )
@@ -37,6 +41,33 @@ def _expect(kind: type, given: object) -> None:
 def _root(root: ElementId, bits: int = 32) -> int:
     _expect(ElementId, root)
     return _fit(root.number, bits)
+
+
+def _pairs(*lent: Any) -> List[Any]:
+    """Each slice, and how many entries it has."""
+    return [word for part in lent for word in (part, len(part))]
+
+
+def _row_of_list(cut: ListedCut) -> Tuple[Tuple[float, ...], int, int]:
+    """Its divider, what it keeps, and its root, as they are lent."""
+    _expect(ListedCut, cut)
+    _expect(Hyperplane, cut.divider)
+    _expect(PolytopeFate, cut.inside)
+    _expect(PolytopeFate, cut.outside)
+    return (*cut.divider.normal, cut.divider.distance), cut.inside.value | cut.outside.value << 1, _root(cut.root, 16)
+
+
+def _answer(word: int) -> ElementCutOutput:
+    """What the reply of a cut says, where it is done."""
+    warning = word & raw.WARNING != 0
+    if word >> 8 & 1:
+        return Flush(warning)
+
+    def place(shift: int) -> Optional[ElementId]:
+        number = word >> shift & 0xFFFF
+        return None if number == raw.NONE else ElementId(number)
+
+    return NonFlush(inside=place(16), outside=place(32), intersection=place(48), warning=warning)
 
 
 def _done(word: int) -> int:
@@ -155,15 +186,8 @@ class Table:
         _expect(PolytopeFate, inside)
         _expect(PolytopeFate, outside)
         reply = raw.cut(*self._lent(), *divider.normal, divider.distance, inside.value, outside.value, _root(root))
-        is_flush, warning = _done(reply) & 1 == 1, reply & raw.WARNING != 0
-        if is_flush:
-            return Flush(warning)
-
-        def place(shift: int) -> Optional[ElementId]:
-            number = reply >> shift & 0xFFFF
-            return None if number == raw.NONE else ElementId(number)
-
-        return NonFlush(inside=place(16), outside=place(32), intersection=place(48), warning=warning)
+        _done(reply)
+        return _answer(reply)
 
     def carve(self, divider: Hyperplane, root: ElementId) -> ElementCutOutput:
         """A cut that keeps what lies inside."""
@@ -178,11 +202,50 @@ class Table:
         """
         return self.cut(divider, PolytopeFate.KEEP, PolytopeFate.KEEP, root)
 
+    def cut_all(self, cuts: Iterable[ListedCut]) -> List[ElementCutOutput]:
+        """A list of at most 64 cuts in one call, each of what the one before it left. The answers and the table are those of the same cuts
+        made singly, in that order. The first cut that is refused ends the list and raises Stopped, with its position and the answers
+        before it: those cuts stay. Refuses with 3, and with 26 a longer list, before any cut.
+
+        >>> square = Table.with_primordial_cube_radius(2, 1.0)
+        >>> x, y = Hyperplane((1, 0), 0), Hyperplane((0, 1), 0)
+        >>> for answer in square.cut_all(ListedCut.slice(*cut) for cut in ((x, ElementId(8)), (y, ElementId(16)), (y, ElementId(17)))):
+        ...     print(answer)
+        NonFlush(inside=ElementId(16), outside=ElementId(17), intersection=ElementId(15), warning=False)
+        NonFlush(inside=ElementId(25), outside=ElementId(26), intersection=ElementId(24), warning=False)
+        NonFlush(inside=ElementId(31), outside=ElementId(32), intersection=ElementId(30), warning=False)
+        """
+        rows = [_row_of_list(cut) for cut in cuts]
+        dividers = (c_double * (raw.PLANE_WIDTH * len(rows)))(*(x for row, _, _ in rows for x in row))
+        kept = (c_uint8 * len(rows))(*(kept for _, kept, _ in rows))
+        roots = (c_uint16 * len(rows))(*(root for _, _, root in rows))
+        room = (c_uint64 * len(rows))()
+        reply = raw.cut_all(*self._lent(), *_pairs(dividers, kept, roots, room))
+        number, written = reply & 0xFF, reply >> 8
+        answers = [_answer(word) for word in room[:written]]
+        if number:
+            raise Stopped(number, None if number in (3, 12, 26) else written, answers)
+        return answers
+
     # The questions
 
     def is_sound(self) -> bool:
         """Whether the table is sound. Calls keep it so."""
         return bool(raw.is_sound(*self._lent()) == 0)
+
+    def touch(self, divider: Hyperplane, root: ElementId) -> Touched:
+        """Where the corners of root lie to divider, without a cut: for a plane that is dragged. Nothing is added. Refuses with 3, 4 or 5.
+
+        >>> square = Table.with_primordial_cube_radius(2, 1.0)
+        >>> square.touch(Hyperplane((1, 0), 0), ElementId(8))
+        Touched(answer=<Touch.BOTH: 3>, tested=2)
+        >>> square.touch(Hyperplane((1, 0), 1), ElementId(8))
+        Touched(answer=<Touch.INSIDE_OR_ON: 1>, tested=4)
+        """
+        _expect(Hyperplane, divider)
+        reply = raw.touch(*self._lent(), *divider.normal, divider.distance, _root(root))
+        _done(reply)
+        return Touched(Touch(reply >> 8 & 3), reply >> 16)
 
     def subelements_of(self, root: ElementId) -> List[ElementId]:
         """The root and all below it, vertex elements too, rising. Refuses with 3 or 4."""
@@ -306,7 +369,7 @@ class Table:
         return self._counts, self._points, self._planes, self._elements
 
     def _lent(self) -> List[Any]:
-        return [word for lent in self._slices() for word in (lent, len(lent))]
+        return _pairs(*self._slices())
 
 
 def _in_use(number: int, count: int) -> int:

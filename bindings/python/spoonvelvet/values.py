@@ -5,7 +5,7 @@ import operator
 import sys
 from ctypes import c_double
 from dataclasses import dataclass
-from typing import Mapping, NamedTuple, Optional, Sequence, SupportsFloat, Tuple
+from typing import List, Mapping, NamedTuple, Optional, Sequence, SupportsFloat, Tuple
 
 AXES = 4
 
@@ -23,12 +23,13 @@ REFUSALS: Mapping[int, str] = {
     11: "a boundary would have more than 32 elements",
     12: "the room for the list or the file is too short",
     13: "the bytes are not laid out as a file",
+    26: "the list has more than its limit, or its parts do not belong together",
 }
 """What each refusal says, by its number."""
 
 
 class Refused(Exception):
-    """A call was refused, and left the table as it came. Its number is 1 to 13, as documents 01 and 02 have them.
+    """A call was refused, and left the table as it came. Its number is 1 to 13, or 26, as documents 01 and 02 have them.
 
     >>> print(Refused(4))
     refused 4: an element number is not in use
@@ -143,6 +144,66 @@ class NonFlush(ElementCutOutput):
     outside: Optional[ElementId]
     intersection: Optional[ElementId]
     warning: bool = False
+
+
+@dataclass(frozen=True)
+class ListedCut:
+    """One cut of a list, for Table.cut_all. The root may be an element that a cut before it in the list adds."""
+
+    divider: Hyperplane
+    inside: PolytopeFate
+    outside: PolytopeFate
+    root: ElementId
+
+    @classmethod
+    def carve(cls, divider: Hyperplane, root: ElementId) -> "ListedCut":
+        """A cut that keeps what lies inside."""
+        return cls(divider, PolytopeFate.KEEP, PolytopeFate.REMOVE, root)
+
+    @classmethod
+    def slice(cls, divider: Hyperplane, root: ElementId) -> "ListedCut":
+        """A cut that keeps what lies on either side."""
+        return cls(divider, PolytopeFate.KEEP, PolytopeFate.KEEP, root)
+
+
+class Stopped(Refused):
+    """A list of cuts was not made to its end. The cuts before the refused one stay in the table.
+
+    Its position is that of the refused cut, from 0 up, or None where the list was refused before any cut; its answers are those of the
+    cuts before it.
+
+    >>> print(Stopped(4, 1, [Flush()]))
+    refused 4 at position 1: an element number is not in use
+    """
+
+    def __init__(self, number: int, position: Optional[int], answers: List[ElementCutOutput]) -> None:
+        super().__init__(number)
+        self.args = (number, position, answers)
+        self.position = position
+        self.answers = answers
+
+    def __str__(self) -> str:
+        return super().__str__() if self.position is None else f"refused {self.number} at position {self.position}: {self.words}"
+
+
+class Touch(enum.Enum):
+    """Where the corners of an element lie to a plane."""
+
+    ALL_ON = 0
+    INSIDE_OR_ON = 1
+    OUTSIDE_OR_ON = 2
+    BOTH = 3
+
+
+class Touched(NamedTuple):
+    """What a touch answers: where the corners lie, and how many of them were tested, in rising vertex order.
+
+    They are tested up to and with the first at which both an inside and an outside corner have been met, or all. An infinite distance
+    tests none.
+    """
+
+    answer: Touch
+    tested: int
 
 
 class Counts(NamedTuple):

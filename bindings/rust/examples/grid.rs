@@ -1,7 +1,7 @@
-//! The 3 x 3 x 3 grid: a cube of radius 3, and each piece sliced by the planes at -1 and 1 on every axis. Prints a sheet of the
-//! pieces: where each lies, its corners, and the pieces that it shares a face with.
+//! The 3 x 3 x 3 grid: a cube of radius 3, and each piece sliced by the planes at -1 and 1 on every axis, all pieces of a plane in one
+//! call. Prints a sheet of the pieces: where each lies, its corners, and the pieces that it shares a face with.
 
-use spoonvelvet::{ElementCutOutput, ElementId, Hyperplane, Refused, Table};
+use spoonvelvet::{raw, ElementCutOutput, ElementId, Hyperplane, ListedCut, Refused, Table};
 
 fn main() -> Result<(), Refused> {
     let mut table = Table::with_primordial_cube_radius(3, 3.0)?;
@@ -26,10 +26,13 @@ fn main() -> Result<(), Refused> {
 /// The pieces on either side. A piece that the plane misses is its old entry.
 fn sliced(table: &mut Table, divider: Hyperplane, pieces: &[ElementId]) -> Result<Vec<ElementId>, Refused> {
     let mut sides = vec![];
-    for &piece in pieces {
-        match table.slice(divider, piece)?.output {
-            ElementCutOutput::Flush => {}
-            ElementCutOutput::NonFlush { inside, outside, .. } => sides.extend(inside.into_iter().chain(outside)),
+    for some in pieces.chunks(raw::MOST_CUTS) {
+        let cuts: Vec<ListedCut> = some.iter().map(|&piece| ListedCut::slice(divider, piece)).collect();
+        for answer in table.cut_all(&cuts)? {
+            match answer.output {
+                ElementCutOutput::Flush => {}
+                ElementCutOutput::NonFlush { inside, outside, .. } => sides.extend(inside.into_iter().chain(outside)),
+            }
         }
     }
     Ok(sides)

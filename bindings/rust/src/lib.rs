@@ -3,7 +3,8 @@
 //! A [`Table`] is the room of one table. A cut does not make pieces: it adds entries to the table, and a piece that the
 //! plane misses is its old entry. Element, vertex and hyperplane numbers count three lists, so they are three types.
 //! Any number and float may be given; a refused call leaves the table and the list as they came. The answer of a cut warns of a plane
-//! that passes close by a corner ([`CutAnswer`]). [`Table::save`] gives a table as its one file, and [`Table::open`] opens it.
+//! that passes close by a corner ([`CutAnswer`]). [`Table::cut_all`] makes a list of cuts in one call, and [`Table::touch`] tells whether
+//! a plane touches a piece, without a cut. [`Table::save`] gives a table as its one file, and [`Table::open`] opens it.
 //!
 //! ```
 //! use spoonvelvet::{ElementCutOutput, ElementId, Hyperplane, Refused, Table};
@@ -20,9 +21,13 @@
 pub mod raw;
 mod refused;
 pub mod session;
+mod stopped;
 mod table;
 mod values;
 
 pub use refused::Refused;
+pub use stopped::Stopped;
 pub use table::Table;
-pub use values::{Counts, CutAnswer, ElementCutOutput, ElementId, Hyperplane, HyperplaneId, PolytopeFate, Slices, VertexId};
+pub use values::{
+    Counts, CutAnswer, ElementCutOutput, ElementId, Hyperplane, HyperplaneId, ListedCut, PolytopeFate, Slices, Touch, Touched, VertexId,
+};

@@ -1,5 +1,5 @@
 //! The exported functions, one for one, for hosts that lend slices of their own: the four of a table and, for a question, a
-//! list's, or a file's. Any length, number, float and byte may be given, and a number is as the engine takes it: a dimension,
+//! list's, or a file's, and for a list of cuts its three and the answers'. Any length, number, float and byte may be given, and a number is as the engine takes it: a dimension,
 //! root, rank or side of 32 bits. The reply is one number: `bindings/c/desk.h` says what its bits are.
 
 use crate::Hyperplane;
@@ -49,6 +49,9 @@ pub const WARNING: u64 = 0x200;
 /// A list has at most a number for each element.
 pub const LONGEST_LIST: usize = ELEMENT_ROOM;
 
+/// A list of cuts has no more of them.
+pub const MOST_CUTS: usize = 64;
+
 /// A file has at most a header and so many vertices, hyperplanes and elements as there is room for.
 pub const LONGEST_FILE: usize =
     10 + VERTEX_ROOM * (2 + 8 * AXES) + HYPERPLANE_ROOM * (10 + 8 * AXES) + ELEMENT_ROOM * (8 + 2 * BOUNDARY_ROOM);
@@ -57,6 +60,8 @@ extern "C" {
     fn desk_is_sound(c: *const u16, cn: usize, p: *const f64, pn: usize, h: *const f64, hn: usize, e: *const u16, en: usize) -> u32;
     fn desk_cube(c: *mut u16, cn: usize, p: *mut f64, pn: usize, h: *mut f64, hn: usize, e: *mut u16, en: usize, ndim: u32, radius: f64) -> u32;
     fn desk_cut(c: *mut u16, cn: usize, p: *mut f64, pn: usize, h: *mut f64, hn: usize, e: *mut u16, en: usize, n0: f64, n1: f64, n2: f64, n3: f64, distance: f64, inside: u32, outside: u32, root: u32) -> u64;
+    fn desk_cut_all(c: *mut u16, cn: usize, p: *mut f64, pn: usize, h: *mut f64, hn: usize, e: *mut u16, en: usize, dividers: *const f64, dn: usize, kept: *const u8, kn: usize, roots: *const u16, rn: usize, answers: *mut u64, n: usize) -> u32;
+    fn desk_touch(c: *const u16, cn: usize, p: *const f64, pn: usize, h: *const f64, hn: usize, e: *const u16, en: usize, n0: f64, n1: f64, n2: f64, n3: f64, distance: f64, root: u32) -> u32;
     fn desk_subelements_of(c: *const u16, cn: usize, p: *const f64, pn: usize, h: *const f64, hn: usize, e: *const u16, en: usize, root: u32, list: *mut u16, n: usize) -> u32;
     fn desk_subelements_with_rank(c: *const u16, cn: usize, p: *const f64, pn: usize, h: *const f64, hn: usize, e: *const u16, en: usize, root: u32, rank: u32, list: *mut u16, n: usize) -> u32;
     fn desk_vertex_set(c: *const u16, cn: usize, p: *const f64, pn: usize, h: *const f64, hn: usize, e: *const u16, en: usize, root: u32, list: *mut u16, n: usize) -> u32;
@@ -87,6 +92,37 @@ pub fn cut(c: &mut [u16], p: &mut [f64], h: &mut [f64], e: &mut [u16], divider: 
             n0, n1, n2, n3, divider.distance, inside, outside, root,
         )
     }
+}
+
+/// The cuts of a list, as they are lent: a row of [`PLANE_WIDTH`] floats for each divider, a byte for what it keeps (bit 0 the inside,
+/// bit 1 the outside), and its root.
+#[derive(Clone, Copy, Debug)]
+pub struct CutList<'a> {
+    /// Of all rows.
+    pub dividers: &'a [f64],
+    /// A byte each.
+    pub kept: &'a [u8],
+    /// A word each.
+    pub roots: &'a [u16],
+}
+
+/// A list of cuts, each of what the one before it left; an answer is a word as [`cut`] replies it. Bits 0 to 7 are the reply's number,
+/// above them is how many answers were written: where a cut was refused, its position.
+pub fn cut_all(c: &mut [u16], p: &mut [f64], h: &mut [f64], e: &mut [u16], cuts: CutList, answers: &mut [u64]) -> u32 {
+    let CutList { dividers, kept, roots } = cuts;
+    unsafe {
+        desk_cut_all(
+            c.as_mut_ptr(), c.len(), p.as_mut_ptr(), p.len(), h.as_mut_ptr(), h.len(), e.as_mut_ptr(), e.len(),
+            dividers.as_ptr(), dividers.len(), kept.as_ptr(), kept.len(), roots.as_ptr(), roots.len(), answers.as_mut_ptr(), answers.len(),
+        )
+    }
+}
+
+/// Where the corners of an element lie to a plane, without a cut. Bits 0 to 7 are the reply's number, bits 8 and 9 the answer (0 all on,
+/// 1 inside or on, 2 outside or on, 3 both), from bit 16 on is how many corners were tested.
+pub fn touch(c: &[u16], p: &[f64], h: &[f64], e: &[u16], divider: Hyperplane, root: u32) -> u32 {
+    let [n0, n1, n2, n3] = divider.normal;
+    unsafe { desk_touch(c.as_ptr(), c.len(), p.as_ptr(), p.len(), h.as_ptr(), h.len(), e.as_ptr(), e.len(), n0, n1, n2, n3, divider.distance, root) }
 }
 
 /// The root and all below it. Bits 0 to 7 are the reply's number, above them is the size of the list, here and below.

@@ -1,7 +1,10 @@
 //! The room of one table, the calls that add entries to it, the questions about it, and its rows as they lie there.
 
 use crate::raw;
-use crate::{Counts, CutAnswer, ElementCutOutput, ElementId, Hyperplane, HyperplaneId, PolytopeFate, Refused, Slices, VertexId};
+use crate::{
+    Counts, CutAnswer, ElementCutOutput, ElementId, Hyperplane, HyperplaneId, ListedCut, PolytopeFate, Refused, Slices, Stopped, Touch,
+    Touched, VertexId,
+};
 use std::fmt;
 
 /// Dimension and counts, points, hyperplanes, elements. Only the engine writes them, so a table stays sound.
@@ -120,13 +123,10 @@ impl Table {
         outside: PolytopeFate,
         root: ElementId,
     ) -> Result<CutAnswer, Refused> {
-        let [inside, outside] = [inside, outside].map(|fate| u32::from(fate == PolytopeFate::Keep));
+        let [inside, outside] = [inside, outside].map(|fate| u32::from(fate.is_kept()));
         let Self { counts, points, planes, elements } = self;
         let word = raw::cut(counts, &mut **points, &mut **planes, &mut **elements, divider, inside, outside, root.0.into());
-        if let Some(refused) = refusal(word as u32) {
-            return Err(refused);
-        }
-        Ok(CutAnswer { output: output(word), warning: word & raw::WARNING != 0 })
+        refusal(word as u32).map_or(Ok(answer(word)), Err)
     }
 
     /// A cut that keeps what lies inside.
@@ -147,6 +147,42 @@ impl Table {
     pub fn slice(&mut self, divider: Hyperplane, root: ElementId) -> Result<CutAnswer, Refused> {
         self.cut(divider, PolytopeFate::Keep, PolytopeFate::Keep, root)
     }
+
+    /// A list of at most [`raw::MOST_CUTS`] cuts in one call, each of what the one before it left. The answers and the table are those of
+    /// the same cuts made singly, in that order. The first cut that is refused ends the list: those before it stay, and [`Stopped`] has
+    /// their answers and its position. A longer list is refused with 26 before any cut.
+    ///
+    /// ```
+    /// # use spoonvelvet::{ElementId, Hyperplane, ListedCut, Refused, Table};
+    /// let mut square = Table::with_primordial_cube_radius(2, 1.0)?;
+    /// let (x, y) = (Hyperplane::new(&[1.0, 0.0], 0.0)?, Hyperplane::new(&[0.0, 1.0], 0.0)?);
+    /// let pieces = [(x, 8), (y, 16), (y, 17)].map(|(divider, root)| ListedCut::slice(divider, ElementId(root)));
+    /// let answers = square.cut_all(&pieces)?;
+    /// let mut singly = Table::with_primordial_cube_radius(2, 1.0)?;
+    /// for (cut, answer) in pieces.iter().zip(answers) {
+    ///     assert_eq!(singly.slice(cut.divider, cut.root)?, answer);
+    /// }
+    /// assert_eq!(singly, square);
+    /// # Ok::<(), Refused>(())
+    /// ```
+    pub fn cut_all(&mut self, cuts: &[ListedCut]) -> Result<Vec<CutAnswer>, Stopped> {
+        let dividers: Vec<f64> = cuts.iter().flat_map(|cut| cut.divider.normal.into_iter().chain([cut.divider.distance])).collect();
+        let kept: Vec<u8> = cuts.iter().map(|cut| u8::from(cut.inside.is_kept()) | u8::from(cut.outside.is_kept()) << 1).collect();
+        let roots: Vec<u16> = cuts.iter().map(|cut| cut.root.0).collect();
+        let mut words = vec![0; cuts.len()];
+        let Self { counts, points, planes, elements } = self;
+        let list = raw::CutList { dividers: &dividers, kept: &kept, roots: &roots };
+        let reply = raw::cut_all(counts, &mut **points, &mut **planes, &mut **elements, list, &mut words);
+        let written = (reply >> 8) as usize;
+        let answers = words[..written].iter().map(|&word| answer(word)).collect();
+        match refusal(reply) {
+            None => Ok(answers),
+            Some(refused) => {
+                let is_a_cut_s = ![Refused::NOT_SOUND, Refused::LIST_LONG, Refused::ROOM_SHORT].contains(&refused);
+                Err(Stopped { refused, position: is_a_cut_s.then_some(written), answers })
+            }
+        }
+    }
 }
 
 /// The questions.
@@ -154,6 +190,22 @@ impl Table {
     /// Whether the table is sound. Calls keep it so.
     pub fn is_sound(&self) -> bool {
         raw::is_sound(&self.counts, &*self.points, &*self.planes, &*self.elements) == 0
+    }
+
+    /// Where the corners of `root` lie to `divider`, without a cut: for a plane that is dragged. Nothing is added. Refuses with 4 or 5.
+    ///
+    /// ```
+    /// # use spoonvelvet::{ElementId, Hyperplane, Refused, Table, Touch, Touched};
+    /// let square = Table::with_primordial_cube_radius(2, 1.0)?;
+    /// let at = |distance: f64| square.touch(Hyperplane::new(&[1.0, 0.0], distance)?, ElementId(8));
+    /// assert_eq!(at(0.0)?, Touched { answer: Touch::Both, tested: 2 });
+    /// assert_eq!(at(1.0)?, Touched { answer: Touch::InsideOrOn, tested: 4 });
+    /// # Ok::<(), Refused>(())
+    /// ```
+    pub fn touch(&self, divider: Hyperplane, root: ElementId) -> Result<Touched, Refused> {
+        let word = raw::touch(&self.counts, &*self.points, &*self.planes, &*self.elements, divider, root.0.into());
+        let answer = [Touch::AllOn, Touch::InsideOrOn, Touch::OutsideOrOn, Touch::Both][(word >> 8 & 3) as usize];
+        refusal(word).map_or(Ok(Touched { answer, tested: word >> 16 }), Err)
     }
 
     /// The root and all below it, vertex elements too, rising. Refuses with 4.
@@ -344,7 +396,11 @@ impl fmt::Debug for Table {
     }
 }
 
-/// What the reply of a cut gives, where it is done.
+/// What the reply of a cut says, where it is done.
+fn answer(word: u64) -> CutAnswer {
+    CutAnswer { output: output(word), warning: word & raw::WARNING != 0 }
+}
+
 fn output(word: u64) -> ElementCutOutput {
     if word >> 8 & 1 == 1 {
         return ElementCutOutput::Flush;

@@ -74,6 +74,12 @@ pub enum PolytopeFate {
     Keep,
 }
 
+impl PolytopeFate {
+    pub(crate) fn is_kept(self) -> bool {
+        self == Self::Keep
+    }
+}
+
 /// What a cut of an element gives, which [`CutAnswer`] has with its warning. A side that is removed is none; the intersection is there either way.
 ///
 /// There are two exceptions, in which a side is given whether it is kept or removed: a root that is a vertex element is given
@@ -120,6 +126,54 @@ pub struct CutAnswer {
     /// Whether some corner of the root was a close call, also where the root is flush. At an infinite distance no corner is tested, so
     /// there is none.
     pub warning: bool,
+}
+
+/// One cut of a list, for [`Table::cut_all`](crate::Table::cut_all).
+#[derive(Clone, Copy, Debug, PartialEq)]
+pub struct ListedCut {
+    /// The plane.
+    pub divider: Hyperplane,
+    /// What becomes of what lies inside.
+    pub inside: PolytopeFate,
+    /// What becomes of what lies outside.
+    pub outside: PolytopeFate,
+    /// The element that is cut. It may be one that a cut before it in the list adds.
+    pub root: ElementId,
+}
+
+impl ListedCut {
+    /// A cut that keeps what lies inside.
+    pub fn carve(divider: Hyperplane, root: ElementId) -> Self {
+        Self { divider, inside: PolytopeFate::Keep, outside: PolytopeFate::Remove, root }
+    }
+
+    /// A cut that keeps what lies on either side.
+    pub fn slice(divider: Hyperplane, root: ElementId) -> Self {
+        Self { divider, inside: PolytopeFate::Keep, outside: PolytopeFate::Keep, root }
+    }
+}
+
+/// Where the corners of an element lie to a plane.
+#[derive(Clone, Copy, Debug, PartialEq, Eq)]
+pub enum Touch {
+    /// All of them on it.
+    AllOn,
+    /// Some inside, and none outside.
+    InsideOrOn,
+    /// Some outside, and none inside.
+    OutsideOrOn,
+    /// Some inside and some outside.
+    Both,
+}
+
+/// What a touch answers.
+#[derive(Clone, Copy, Debug, PartialEq, Eq)]
+pub struct Touched {
+    /// Where the corners lie.
+    pub answer: Touch,
+    /// How many of them were tested, in rising vertex order: up to and with the first at which both an inside and an outside corner have
+    /// been met, or all. An infinite distance tests none.
+    pub tested: u32,
 }
 
 /// One number for each of the three lists.

@@ -4,4 +4,7 @@ pub mod Rounds
 pub mod Higher
 pub mod WholeCuts
 pub mod Replies
+pub mod SoundCuts
 pub mod Names
+pub mod AnswerWords
+pub mod Listing

@@ -136,6 +136,6 @@ module _ (p : CutParams) (root : ℕ) (cs : List ℕ) (ps hs : List Float) (es :
     pub cut-ready : {ix : List ℕ} → (soundMemory desk m ≡ true → Indexed es (getD cs 1 0) ix) → CutReady cs ps hs es ix h root
     cut-ready X = record { table = t; fit = cut-fit; indexed = X (passed .sound) }
 
-    pub cut-made : {r : CutReply} {cs′ : List ℕ} {ps′ hs′ : List Float} {es′ : List ℕ} → WholeCut cs ps hs es p root r cs′ ps′ hs′ es′
+    pub cut-made : {r : CutReply} {cs′ : List ℕ} {ps′ hs′ : List Float} {es′ ix′ : List ℕ} → WholeCut cs ps hs es p root r cs′ ps′ hs′ es′ ix′
         → (r, memoryOf cs′ ps′ hs′ es′) ≡ cutReply desk p root m
     cut-made W = W .of t cut-fit ∙ made-is q

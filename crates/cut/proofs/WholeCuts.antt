@@ -95,8 +95,8 @@ module _ (p : CutParams) {cs : List ℕ} {ps hs : List Float} {es : List ℕ} {r
     added {t} F = P .of ps es t (dividerOf (t .dimension) (p .divider)) (F .holds) (F .sound) (F .row) (F .plane)
 
     -- no room for the hyperplane
-    pub plane-refused : (n : ℕ) → x ≡ hyperplane.Refused n → CutTried cs ps hs es p root (public.Refused n) cs₁ ps hs₁ es
-    plane-refused n q = record { of = λ t F. go t (added F) }
+    pub plane-refused : {ix : List ℕ} (n : ℕ) → x ≡ hyperplane.Refused n → CutTried cs ps hs es p root (public.Refused n) cs₁ ps hs₁ es ix
+    plane-refused n q = record { of = λ t F. go t (added F); indexed = λ a w. let z : _≡_ {A = ℕ} 0 1 = cc in absurd (omega arith) }
       where
         go : (t : Table) → Added ps es (p .divider) x cs₁ hs₁ t → Came asReply public.Refused (Holds desk cs₁ ps hs₁ es) t (cutFinite desk (paramsOf (t .dimension) p) root t) (public.Refused n)
         go t (held.went j u m w H) = let z : _≡_ {A = ℕ} 0 1 = cc in absurd (omega arith)
@@ -163,16 +163,16 @@ module _ (p : CutParams) {cs : List ℕ} {ps hs : List Float} {es : List ℕ} {r
               ap (λ (q′ : Outcome ℕ). next q′ (λ n l. cutElement desk (record { params = paramsOf (t .dimension) p; number = n }) (rank l root) root l)) (named F .ended)
               ∙ ap₂ (λ (d n : ℕ). cutElement desk (cutOf d (cutter p v)) n root (named F .table)) (sym (named F .extends .dimension)) (root-fit F .ranked)
 
-          pub root-refused : (n : ℕ) → y ≡ asked.Refused n → CutTried cs ps hs es p root (public.Refused n) cs₂ ps₂ hs₁ es₂
-          root-refused n ended = record { of = λ t F. go t F (root-ended F) }
+          pub root-refused : (n : ℕ) → y ≡ asked.Refused n → CutTried cs ps hs es p root (public.Refused n) cs₂ ps₂ hs₁ es₂ ix₂
+          root-refused n ended = record { of = λ t F. go t F (root-ended F); indexed = λ a w. C .indexed }
             where
               go : (t : Table) (F : CutFit cs ps hs es (p .divider) root t) → ElementEnded cs₂ ps₂ hs₁ es₂ ms₂ (warningIn s₂) r root (cutter p v) y false (named F .table)
                   → Came asReply public.Refused (Holds desk cs₂ ps₂ hs₁ es₂) t (cutFinite desk (paramsOf (t .dimension) p) root t) (public.Refused n)
               go t F (went a u m d w H) = let z : _≡_ {A = ℕ} 0 1 = cc in absurd (omega arith)
               go t F (stopped j u m d z H) = let e : n ≡ j = cc in held.stopped j u (steps F ∙ m) (ap public.Refused e) (extends-trans (named F .extends) z) H
 
-          pub root-answered : y ≡ asked.Done → (o : ElementCutOutput) (w : Bool) → o ≡ outputAt ms₂ root → w ≡ warningIn s₂ → CutTried cs ps hs es p root (public.Answered o w) cs₂ ps₂ hs₁ es₂
-          root-answered ended o w told warned = record { of = λ t F. go t F (root-ended F) }
+          pub root-answered : y ≡ asked.Done → (o : ElementCutOutput) (w : Bool) → o ≡ outputAt ms₂ root → w ≡ warningIn s₂ → CutTried cs ps hs es p root (public.Answered o w) cs₂ ps₂ hs₁ es₂ ix₂
+          root-answered ended o w told warned = record { of = λ t F. go t F (root-ended F); indexed = λ a q. C .indexed }
             where
               go : (t : Table) (F : CutFit cs ps hs es (p .divider) root t) → ElementEnded cs₂ ps₂ hs₁ es₂ ms₂ (warningIn s₂) r root (cutter p v) y false (named F .table)
                   → Came asReply public.Refused (Holds desk cs₂ ps₂ hs₁ es₂) t (cutFinite desk (paramsOf (t .dimension) p) root t) (public.Answered o w)
@@ -203,13 +203,13 @@ restore-asks {t = t} {u} H₀ X H =
       planeRoom = b .planesFit;
     }
 
-module _ {cs : List ℕ} {ps hs : List Float} {es : List ℕ} {p : CutParams} {root : ℕ} {y : CutReply} {cs₁ : List ℕ} {ps₁ hs₁ : List Float} {es₁ : List ℕ}
-    (T : CutTried cs ps hs es p root y cs₁ ps₁ hs₁ es₁) where
+module _ {cs : List ℕ} {ps hs : List Float} {es : List ℕ} {p : CutParams} {root : ℕ} {y : CutReply} {cs₁ : List ℕ} {ps₁ hs₁ : List Float} {es₁ ix₁ : List ℕ}
+    (T : CutTried cs ps hs es p root y cs₁ ps₁ hs₁ es₁ ix₁) where
   abbrev Tried : Table → Type 0
   Tried t = Came asReply public.Refused (Holds desk cs₁ ps₁ hs₁ es₁) t (cutFinite desk (paramsOf (t .dimension) p) root t) y
 
-  pub whole-done : (o : ElementCutOutput) (v : Bool) → y ≡ public.Answered o v → WholeCut cs ps hs es p root (public.Answered o v) cs₁ ps₁ hs₁ es₁
-  whole-done o v w = record { of = λ t F. go t (T .of t F) }
+  pub whole-done : (o : ElementCutOutput) (v : Bool) → y ≡ public.Answered o v → WholeCut cs ps hs es p root (public.Answered o v) cs₁ ps₁ hs₁ es₁ ix₁
+  whole-done o v w = record { of = λ t F. go t (T .of t F); indexed = λ b q. T .indexed b (w ∙ q) }
     where
       go : (t : Table) → Tried t
           → _≡_ {A = CutReply × Memory} (public.Answered o v, memoryOf cs₁ ps₁ hs₁ es₁) (written desk (memoryOf cs ps hs es) (cutFinite desk (paramsOf (t .dimension) p) root t))
@@ -224,9 +224,9 @@ module _ {cs : List ℕ} {ps hs : List Float} {es : List ℕ} {p : CutParams} {r
         go (held.went b u m w′ H) = let e : _≡_ {A = ℕ} 0 1 = cc in absurd (omega arith)
         go (held.stopped j u m w′ z H) = restore-asks (R .fit .holds) z H
 
-    pub whole-refused : {cs′ : List ℕ} {ps′ hs′ : List Float} {es′ : List ℕ} → Restored cs₁ ps₁ hs₁ es₁ (getD cs 1 0) (getD cs 2 0) (getD cs 3 0) cs′ ps′ hs′ es′
-        → WholeCut cs ps hs es p root (public.Refused n) cs′ ps′ hs′ es′
-    whole-refused {cs′} {ps′} {hs′} {es′} R = record { of = λ t F. go t F (T .of t F) }
+    pub whole-refused : {cs′ : List ℕ} {ps′ hs′ : List Float} {es′ ix′ : List ℕ} → Restored cs₁ ps₁ hs₁ es₁ (getD cs 1 0) (getD cs 2 0) (getD cs 3 0) cs′ ps′ hs′ es′
+        → WholeCut cs ps hs es p root (public.Refused n) cs′ ps′ hs′ es′ ix′
+    whole-refused {cs′} {ps′} {hs′} {es′} R = record { of = λ t F. go t F (T .of t F); indexed = λ a q. let z : _≡_ {A = ℕ} 0 1 = cc in absurd (omega arith) }
       where
         go : (t : Table) → CutFit cs ps hs es (p .divider) root t → Tried t
             → _≡_ {A = CutReply × Memory} (public.Refused n, memoryOf cs′ ps′ hs′ es′) (written desk (memoryOf cs ps hs es) (cutFinite desk (paramsOf (t .dimension) p) root t))

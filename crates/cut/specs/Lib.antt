@@ -3,3 +3,4 @@ pub mod Known
 pub mod Rounds
 pub mod Higher
 pub mod Whole
+pub mod Lists

@@ -1,43 +1,26 @@
 // The cut: rules 1 to 8 over the lent memory. A cut adds entries to a table; what the divider misses is its old entry.
+pub mod answers;
 mod elements;
 mod known;
+pub mod lists;
 mod ranks;
+pub mod sound;
 mod whole;
 
 use rules::CutParams;
 use rules::CutReply;
-use rules::ElementCutOutput;
 use rules::ElementId;
-use rules::ElementOrNone;
 use rules::Hyperplane;
 use rules::PolytopeFate;
-use soundness::asked::Asking;
-use soundness::asked::divider_asked;
+use sound::cut_sound;
+use soundness::sound::memory_indexed;
 use space::chains::INDEX;
-use whole::cut_finite;
-ghost use mathlib.Core.Bool.{false};
 ghost use mathlib.Core.Path.{_≡_};
 ghost use Rattle.rules.specs.Limits.{desk};
 ghost use Rattle.rules.specs.Held.{memoryOf};
 ghost use Rattle.rules.specs.Replies.{cutBy, cutReply};
 
-// Rule 1: the root is given on one side, and no corner is tested.
-fn all_on(inside: ElementOrNone, outside: ElementOrNone) -> CutReply
-    ensures { λ r. ⌜ r ≡ CutReply.Answered (ElementCutOutput.NonFlush inside outside ElementOrNone.None) false ⌝ }
-{
-    let intersection = ElementOrNone::None;
-    let output = ElementCutOutput::NonFlush {
-        inside,
-        outside,
-        intersection,
-    };
-    CutReply::Answered {
-        output,
-        warning: false,
-    }
-}
-
-// 3, 4, 5, then rule 1, and the rules from 2 on.
+// 3, and then a cut of a sound memory.
 pub fn cut(
     counts: &mut [u16],
     points: &mut [f64],
@@ -50,21 +33,10 @@ pub fn cut(
         ≡ cutReply desk params (root .0) (memoryOf (now (counts .entry)) (now (points .entry)) (now (planes .entry)) (now (elements .entry))) ⌝ }
 {
     let mut index = [0u16; INDEX];
-    let asked = divider_asked(
-        counts,
-        points,
-        planes,
-        elements,
-        &mut index,
-        params.divider,
-        root,
-    );
-    match asked {
-        Asking::Refused(n) => CutReply::Refused(n),
-        Asking::AllInside => all_on(ElementOrNone::Some(root), ElementOrNone::None),
-        Asking::AllOutside => all_on(ElementOrNone::None, ElementOrNone::Some(root)),
-        Asking::Finite => cut_finite(counts, points, planes, elements, &mut index, params, root),
+    if !memory_indexed(counts, points, planes, elements, &mut index) {
+        return CutReply::Refused(3);
     }
+    cut_sound(counts, points, planes, elements, &mut index, params, root)
 }
 
 // Keeps what lies inside.

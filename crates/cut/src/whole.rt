@@ -28,7 +28,7 @@ fn cut_named(
 ) -> CutReply
     requires { ⌜ CutReady (now counts) (now points) (now planes) (now elements) (now index) (params .divider) (root .0) ⌝ }
     ensures { λ r. ⌜ CutTried (now (counts .entry)) (now (points .entry)) (now (planes .entry)) (now (elements .entry)) params (root .0) r
-        (now (counts .exit)) (now (points .exit)) (now (planes .exit)) (now (elements .exit)) ⌝ }
+        (now (counts .exit)) (now (points .exit)) (now (planes .exit)) (now (elements .exit)) (now (index .exit)) ⌝ }
 {
     let divider = params.divider;
     let named = add_hyperplane(counts, planes, divider);
@@ -74,7 +74,7 @@ pub fn cut_finite(
 ) -> CutReply
     requires { ⌜ CutReady (now counts) (now points) (now planes) (now elements) (now index) (params .divider) (root .0) ⌝ }
     ensures { λ r. ⌜ WholeCut (now (counts .entry)) (now (points .entry)) (now (planes .entry)) (now (elements .entry)) params (root .0) r
-        (now (counts .exit)) (now (points .exit)) (now (planes .exit)) (now (elements .exit)) ⌝ }
+        (now (counts .exit)) (now (points .exit)) (now (planes .exit)) (now (elements .exit)) (now (index .exit)) ⌝ }
 {
     let e = counts[1];
     let v = counts[2];

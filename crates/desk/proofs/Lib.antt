@@ -1,4 +1,5 @@
 pub mod CutWords
+pub mod CutListWords
 pub mod ListWords
 pub mod RankWords
 pub mod FileWords

@@ -1,20 +1,18 @@
 -- The one number that a host is given for a reply. Definitions only.
 use Prim.Native.Nat.{ℕ, _+_, _*_, _≤_}
-use mathlib.Core.Bool.{Bool, not, cond}
+use mathlib.Core.Bool.{not, cond}
 use mathlib.Core.List.{List, [], _∷_}
 use lib.Dec.{eqb, leb}
 use lib.Ieee.{Float}
 use Rattle.rules.specs.Memory.{Memory}
-use Rattle.rules.specs.Replies.{fateOf}
+use Rattle.rules.specs.Replies.{outputWord, fateOf}
 use Rattle.rules.specs.Touch.{touchValue}
 use Rattle.rules.specs.declared.Hyperplane.{Hyperplane}
 use Rattle.rules.specs.declared.PolytopeFate.{PolytopeFate}
-use Rattle.rules.specs.declared.ElementOrNone.{ElementOrNone}
-use Rattle.rules.specs.declared.ElementOrNone.the-variants.{None, Some}
-use Rattle.rules.specs.declared.ElementCutOutput.{ElementCutOutput}
-use Rattle.rules.specs.declared.ElementCutOutput.the-variants.{Flush, NonFlush}
 use Rattle.rules.specs.declared.CutReply.{CutReply}
 use Rattle.rules.specs.declared.CutReply.the-variants.{Refused, Answered}
+use Rattle.rules.specs.declared.CutListReply.{CutListReply}
+use Rattle.rules.specs.declared.CutListReply.the-variants.{Refused as CutsRefused, Stopped, Answered as AllAnswered}
 use Rattle.rules.specs.declared.ListReply.{ListReply}
 use Rattle.rules.specs.declared.ListReply.the-variants.{Refused as ListRefused, Listed}
 use Rattle.rules.specs.declared.FacetReply.{FacetReply}
@@ -22,24 +20,20 @@ use Rattle.rules.specs.declared.FacetReply.the-variants.{Refused as FacetRefuse
 use Rattle.rules.specs.declared.TouchReply.{TouchReply}
 use Rattle.rules.specs.declared.TouchReply.the-variants.{Refused as TouchRefused, Touched}
 
--- an element's number, FFFF for none
-abbrev pub elementWord : ElementOrNone → ℕ
-elementWord None = 0xffff
-elementWord (Some e) = e .0
-
--- bit 9 for a warning
-abbrev pub warningWord : Bool → ℕ
-warningWord w = cond w 0x200 0
-
--- beside it bit 8 for flush; else inside in bits 16 to 31, outside in 32 to 47, intersection in 48 to 63
-abbrev pub outputWord : ElementCutOutput → Bool → ℕ
-outputWord Flush w = warningWord w + 0x100
-outputWord (NonFlush i o x) w = warningWord w + elementWord i * 0x10000 + elementWord o * 0x100000000 + elementWord x * 0x1000000000000
-
 -- bits 0 to 7 are the reply's number
 abbrev pub cutWord : CutReply × Memory → ℕ × Memory
 cutWord (Refused n, m) = (n, m)
 cutWord (Answered a w, m) = (outputWord a w, m)
+
+-- bits 0 to 7 are the reply's number, and above them stands how many answers were written: where a cut was refused, its position
+abbrev pub writtenWord : CutListReply → ℕ
+writtenWord (CutsRefused n) = n
+writtenWord (Stopped n i) = n + i * 0x100
+writtenWord (AllAnswered k) = k * 0x100
+
+-- beside it, the room for answers and the memory
+abbrev pub cutListWord : CutListReply × List ℕ × Memory → ℕ × List ℕ × Memory
+cutListWord (r, room, m) = (writtenWord r, room, m)
 
 -- bits 0 to 7 are the reply's number, and above them stands the size of the list
 abbrev pub sizeWord : ListReply → ℕ

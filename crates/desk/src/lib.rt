@@ -1,11 +1,11 @@
 // Every entry point for hosts: slices as a pointer and a length, and numbers of 32 bits, so that none is cut to another on its way.
+use cut::answers::output_word;
 use elements::questions;
 use elements::touch;
+use rules::CutListReply;
 use rules::CutParams;
 use rules::CutReply;
-use rules::ElementCutOutput;
 use rules::ElementId;
-use rules::ElementOrNone;
 use rules::FacetReply;
 use rules::Hyperplane;
 use rules::ListReply;
@@ -13,15 +13,17 @@ use rules::PolytopeFate;
 use rules::Touch;
 use rules::TouchReply;
 use walk::facet;
+ghost use Prim.Native.Nat.{_≤_};
 ghost use mathlib.Core.Path.{_≡_};
 ghost use Rattle.rules.specs.Limits.{desk};
 ghost use Rattle.rules.specs.Held.{memoryOf};
+ghost use Rattle.rules.specs.CutLists.{mostCuts, cutListReply, answersWritten};
 ghost use Rattle.rules.specs.Files.{saveReply, openReply};
 ghost use Rattle.rules.specs.Replies.{isSoundReply, cubeReply, cutBy, cutReply, subElementsReply, withRankReply, vertexSetReply, greatestCommonReply, edgesInOrderReply, primordialFacetReply};
-ghost use Rattle.rules.specs.Promises.{OneBelow, NamesBelow};
 ghost use Rattle.rules.specs.Touch.{touchValue, touchReply};
 ghost use Rattle.space.specs.Numbers.{NumberBelow};
-ghost use Rattle.desk.specs.Words.{elementWord, warningWord, outputWord, cutWord, sizeWord, SizeFits, listWord, facetWord, touchWord, CountFits, dividerWith, fateBy, rankByte};
+ghost use Rattle.cut.specs.Lists.{cutListOf};
+ghost use Rattle.desk.specs.Words.{cutWord, writtenWord, cutListWord, sizeWord, SizeFits, listWord, facetWord, touchWord, CountFits, dividerWith, fateBy, rankByte};
 
 // 0 removes a side, and any other number keeps it.
 fn fate(kept: u32) -> PolytopeFate
@@ -43,42 +45,15 @@ fn rank_byte(rank: u32) -> u8
     rank as u8
 }
 
-fn element_word(e: ElementOrNone) -> u64
-    requires { ⌜ OneBelow (desk .elements) e ⌝ }
-    ensures { λ r. ⌜ NumberBelow r (elementWord e) 65536 ⌝ }
+// The reply's number, and how many answers were written above its eight bits.
+fn written_word(r: CutListReply) -> u32
+    requires { ⌜ answersWritten r ≤ mostCuts ⌝ }
+    ensures { λ w. ⌜ w ≡ writtenWord r ⌝ }
 {
-    match e {
-        ElementOrNone::None => 0xffff,
-        ElementOrNone::Some(id) => id.0 as u64,
-    }
-}
-
-fn warning_word(warning: bool) -> u64
-    ensures { λ r. ⌜ NumberBelow r (warningWord warning) 0x201 ⌝ }
-{
-    if warning {
-        return 0x200;
-    }
-    0
-}
-
-fn output_word(a: ElementCutOutput, warning: bool) -> u64
-    requires { ⌜ NamesBelow (desk .elements) a ⌝ }
-    ensures { λ r. ⌜ r ≡ outputWord a warning ⌝ }
-{
-    let w = warning_word(warning);
-    match a {
-        ElementCutOutput::Flush => w + 0x100,
-        ElementCutOutput::NonFlush {
-            inside,
-            outside,
-            intersection,
-        } => {
-            let i = element_word(inside);
-            let o = element_word(outside);
-            let x = element_word(intersection);
-            w + i * 0x10000 + o * 0x1_0000_0000 + x * 0x1_0000_0000_0000
-        }
+    match r {
+        CutListReply::Refused(no) => no as u32,
+        CutListReply::Stopped { number, position } => number as u32 + position as u32 * 0x100,
+        CutListReply::Answered(n) => n as u32 * 0x100,
     }
 }
 
@@ -201,6 +176,35 @@ pub extern "C" fn desk_touch(
     let root = ElementId(root as usize);
     let reply = touch::touch(counts, points, planes, elements, divider, root);
     touch_word(reply)
+}
+
+// The dividers are rows of five floats, and a byte says which sides are kept: bit 0 the inside, bit 1 the outside.
+#[no_mangle]
+pub extern "C" fn desk_cut_all(
+    counts: &mut [u16],
+    points: &mut [f64],
+    planes: &mut [f64],
+    elements: &mut [u16],
+    dividers: &[f64],
+    kept: &[u8],
+    roots: &[u16],
+    answers: &mut [u64],
+) -> u32
+    ensures { λ r. ⌜ (r, now (answers .exit), memoryOf (now (counts .exit)) (now (points .exit)) (now (planes .exit)) (now (elements .exit))) ≡
+        cutListWord (cutListReply desk (cutListOf (now (dividers .entry)) (now (kept .entry)) (now (roots .entry))) (now (answers .entry))
+        (memoryOf (now (counts .entry)) (now (points .entry)) (now (planes .entry)) (now (elements .entry)))) ⌝ }
+{
+    let reply = cut::lists::cut_all(
+        counts,
+        points,
+        planes,
+        elements,
+        dividers,
+        kept,
+        roots,
+        answers,
+    );
+    written_word(reply)
 }
 
 #[no_mangle]

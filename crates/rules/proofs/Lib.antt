@@ -19,6 +19,7 @@ pub mod CubeElements
 pub mod CubeFaces
 pub mod CubeSound
 pub mod CubeSquares
+pub mod CutLists
 pub mod Each
 pub mod Extends
 pub mod FaceEdges

@@ -24,6 +24,7 @@ use Rattle.rules.proofs.Boxes.{in-the-box}
 use Rattle.rules.proofs.Calls.{not-infinite, gives, again-later, one-side-later, flush-later, infinite-distance}
 use Rattle.rules.proofs.CloseBelow.{close-vertices}
 use Rattle.rules.proofs.CubeCalls.{cube-is-sound, stays-sound, enough-boundary, stays-unmatched, one-crossing-one-corner}
+use Rattle.rules.proofs.CutLists.{cut-list-numbers, refused-cut-list-leaves, cut-list-is-cuts, stopped-at-the-refused}
 use Rattle.rules.proofs.FileReplies.{refused-open-leaves, open-numbers, open-is-sound, saved-opens, opened-saves, table-of-file, file-of-table, opens-roomier, layout-alone}
 use Rattle.rules.proofs.Good.{sound-good}
 use Rattle.rules.proofs.Laws.{le-test, none-some}
@@ -147,6 +148,10 @@ module _ (L : Limits) (R : Readable L) (H : HasCubes L) (F : Fileable L) where
     one-side-is-missed = one-side-is-missed L;
     one-side-adds-no-vertex = one-side-adds-no-vertex L;
     both-cuts-an-edge = both-cuts-an-edge L;
+    cut-list-numbers = cut-list-numbers L R;
+    refused-cut-list-leaves = refused-cut-list-leaves L;
+    cut-list-is-cuts = cut-list-is-cuts L;
+    stopped-at-the-refused = stopped-at-the-refused L;
   }
 
 -- ---- the two rooms

@@ -30,7 +30,7 @@ use Rattle.rules.specs.declared.CutParams.{CutParams}
 use Rattle.rules.specs.declared.ListReply.{ListReply}
 use Rattle.rules.specs.declared.ListReply.the-variants.{Listed, Refused as ListRefused}
 use Rattle.rules.proofs.Built.{RuleNumber, refused-number}
-use Rattle.rules.proofs.Laws.{holds, and-left, le-test, eq-test, either, if-true, or-right, none-some}
+use Rattle.rules.proofs.Laws.{holds, and-left, le-test, eq-test, test-eq, either, if-true, or-left, or-right, none-some}
 use Rattle.rules.proofs.OneCall.{reply-by, replyBy, sound-table}
 use Rattle.rules.proofs.RingWalked.{face-is-walked}
 
@@ -56,33 +56,47 @@ refused-cut-leaves L p root m = go (cutReply L p root m .0) (cutReply L p root m
     go (Refused n) m′ e k = refused-leaves L p root m m′ n e
     go (Answered a w) m′ e k = absurd (lt-irrefl 0 k)
 
--- a refusal's number
-pub refusal-number : (L : Limits) (p : CutParams) (root : ℕ) (m : Memory) (n : ℕ)
-    → cutReply L p root m .0 ≡ Refused n → member n (3 ∷ 4 ∷ 5 ∷ 7 ∷ 8 ∷ 9 ∷ 10 ∷ 11 ∷ []) ≡ true
-refusal-number L p root m n e =
-    go (soundMemory L m) (ltb root (elementCount (decode L m))) (dividerFits L (decode L m .dimension) (p .divider))
-    (cut L (paramsOf (decode L m .dimension) p) root (decode L m)) refl (ap (λ (x : CutReply × Memory). x .0) (sym (reply-by L p root m)) ∙ e)
+-- a refusal's number, of a sound memory
+pub sound-refusal-number : (L : Limits) (p : CutParams) (root : ℕ) (m : Memory) (n : ℕ)
+    → soundMemory L m ≡ true → cutReply L p root m .0 ≡ Refused n → member n (4 ∷ 5 ∷ 7 ∷ 8 ∷ 9 ∷ 10 ∷ 11 ∷ []) ≡ true
+sound-refusal-number L p root m n s e =
+    go (ltb root (elementCount (decode L m))) (dividerFits L (decode L m .dimension) (p .divider))
+    (cut L (paramsOf (decode L m .dimension) p) root (decode L m)) refl
+    (sym (ap (λ (b : Bool). replyBy L p root m b (ltb root (elementCount (decode L m))) (dividerFits L (decode L m .dimension) (p .divider))
+    (cut L (paramsOf (decode L m .dimension) p) root (decode L m)) .0) s) ∙ ap (λ (x : CutReply × Memory). x .0) (sym (reply-by L p root m)) ∙ e)
   where
     numbers : List ℕ
-    numbers = 3 ∷ 4 ∷ 5 ∷ 7 ∷ 8 ∷ 9 ∷ 10 ∷ 11 ∷ []
+    numbers = 4 ∷ 5 ∷ 7 ∷ 8 ∷ 9 ∷ 10 ∷ 11 ∷ []
 
     is : (k : ℕ) → member k numbers ≡ true → Refused k ≡ Refused n → member n numbers ≡ true
     is k h q = let p : k ≡ n = cc in subst (λ (j : ℕ). member j numbers ≡ true) p h
 
-    rule : (a b c : Bool) (k : ℕ) → RuleNumber k → (a || (b || (c || member k (7 ∷ 8 ∷ 9 ∷ 10 ∷ 11 ∷ [])))) ≡ true
-    rule true b c k h = refl
-    rule false true c k h = refl
-    rule false false true k h = refl
-    rule false false false k h = holds (member k (7 ∷ 8 ∷ 9 ∷ 10 ∷ 11 ∷ [])) h
+    rule : (k : ℕ) → RuleNumber k → member k numbers ≡ true
+    rule k h = or-right (eqb k 4) (eqb k 5 || member k (7 ∷ 8 ∷ 9 ∷ 10 ∷ 11 ∷ [])) (or-right (eqb k 5) (member k (7 ∷ 8 ∷ 9 ∷ 10 ∷ 11 ∷ [])) (holds (member k (7 ∷ 8 ∷ 9 ∷ 10 ∷ 11 ∷ [])) h))
 
-    go : (s u f : Bool) (r : Outcome ElementAnswer) → cut L (paramsOf (decode L m .dimension) p) root (decode L m) ≡ r
-        → replyBy L p root m s u f r .0 ≡ Refused n → member n numbers ≡ true
-    go false u f r c q = is 3 refl q
-    go true false f r c q = is 4 refl q
-    go true true false r c q = is 5 refl q
-    go true true true (refused k) c q =
-        is k (rule (eqb k 3) (eqb k 4) (eqb k 5) k (refused-number L (paramsOf (decode L m .dimension) p) root (decode L m) k c)) q
-    go true true true (done b t) c q = let z : _≡_ {A = ℕ} 0 1 = cc in absurd (suc-ne-zero 0 (sym z))
+    go : (u f : Bool) (r : Outcome ElementAnswer) → cut L (paramsOf (decode L m .dimension) p) root (decode L m) ≡ r
+        → replyBy L p root m true u f r .0 ≡ Refused n → member n numbers ≡ true
+    go false f r c q = is 4 refl q
+    go true false r c q = is 5 refl q
+    go true true (refused k) c q = is k (rule k (refused-number L (paramsOf (decode L m .dimension) p) root (decode L m) k c)) q
+    go true true (done b t) c q = let z : _≡_ {A = ℕ} 0 1 = cc in absurd (suc-ne-zero 0 (sym z))
+
+-- a refusal's number
+pub refusal-number : (L : Limits) (p : CutParams) (root : ℕ) (m : Memory) (n : ℕ)
+    → cutReply L p root m .0 ≡ Refused n → member n (3 ∷ 4 ∷ 5 ∷ 7 ∷ 8 ∷ 9 ∷ 10 ∷ 11 ∷ []) ≡ true
+refusal-number L p root m n e = go (soundMemory L m) refl
+  where
+    numbers : List ℕ
+    numbers = 4 ∷ 5 ∷ 7 ∷ 8 ∷ 9 ∷ 10 ∷ 11 ∷ []
+
+    unsound : soundMemory L m ≡ false → Refused 3 ≡ Refused n
+    unsound s =
+        sym (ap (λ (b : Bool). replyBy L p root m b (ltb root (elementCount (decode L m))) (dividerFits L (decode L m .dimension) (p .divider))
+        (cut L (paramsOf (decode L m .dimension) p) root (decode L m)) .0) s) ∙ ap (λ (x : CutReply × Memory). x .0) (sym (reply-by L p root m)) ∙ e
+
+    go : (s : Bool) → soundMemory L m ≡ s → member n (3 ∷ numbers) ≡ true
+    go false s = let q = unsound s in let k : _≡_ {A = ℕ} 3 n = cc in or-left (eqb n 3) (member n numbers) (test-eq n 3 (sym k))
+    go true s = or-right (eqb n 3) (member n numbers) (sound-refusal-number L p root m n s e)
 
 -- a number of a list without 0 is not 0
 not-none : (ns : List ℕ) (n : ℕ) → member 0 ns ≡ false → member n ns ≡ true → n ≡ 0 → ⊥

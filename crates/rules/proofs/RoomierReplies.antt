@@ -1,18 +1,19 @@
 -- Every public reply in a roomier room: the table is the same, so each reply's tests are, but for those that compare with the room.
-use Prim.Native.Nat.{ℕ, _≤_, zero, suc, _-_}
-use mathlib.Core.Bool.{Bool, true, false, not, _&&_, false≢true}
-use mathlib.Core.List.{List, [], _∷_, _++_}
+use Prim.Native.Nat.{ℕ, _≤_, _<_, zero, suc, _+_, _-_, _*_}
+use mathlib.Core.Bool.{Bool, true, false, not, _&&_, _||_, false≢true}
+use mathlib.Core.List.{List, [], _∷_, _++_, map}
 use mathlib.Core.Path.{_≡_, subst, sym, refl, ap, _∙_}
-use native.Mathlib.Nat.{le-trans, le-of-eq, suc-ne-zero}
+use native.Mathlib.Nat.{le-trans, le-of-eq, suc-ne-zero, suc-mul, mul-le-mul-right, zero-add}
+use native.Mathlib.Omega.{arith}
 use lib.Dec.{ltb, leb, eqb}
 use lib.Ieee.{Float}
-use lib.ListN.{length, take, drop, replicate}
-use lib.Seq.{take-append-le, drop-append-le}
+use lib.ListN.{length, length-map, length-drop, take, drop, replicate}
+use lib.Seq.{length-take-le, take-append-le, drop-append-le}
 use Rattle.rules.specs.Limits.{Limits, Readable, HasCubes, Roomier}
-use Rattle.rules.specs.Lists.{if_then_else_, all, member}
+use Rattle.rules.specs.Lists.{if_then_else_, all, member, upFrom}
 use Rattle.rules.specs.Floats.{plusZero, sameBits, unit}
 use Rattle.rules.specs.Table.{Plane, Table, elementCount}
-use Rattle.rules.specs.Memory.{Memory, encode, decode, rightSize, soundMemory}
+use Rattle.rules.specs.Memory.{Memory, planeWidth, encode, decode, rightSize, soundMemory}
 use Rattle.rules.specs.Cube.{cube, radiusFits}
 use Rattle.rules.specs.Cut.{Outcome, refused, done, cut}
 use Rattle.rules.specs.Questions.{Asked, no-answer, answer, subElements, withRank, vertexSet, greatestCommon, edgesInOrder, primordialFacet}
@@ -21,8 +22,11 @@ use Rattle.rules.specs.Replies.{subElementsReply, withRankReply, vertexS
 use Rattle.rules.specs.Touch.{touch, touchReply}
 use Rattle.rules.specs.Files.{fileOf, saveReply, openReply}
 use Rattle.rules.specs.Calls.{ListQuestion, subElementsOf, subElementsWithRank, vertexSetOf, greatestCommonOf, edgesInOrderOf, fileOfTable, listReply}
-use Rattle.rules.specs.Rooms.{TablesAlike, RepliesAlike, RoomierAlike, moved, widened, widenedParams}
+use Rattle.rules.specs.CutLists.{mostCuts, CutList, listFits, ListedCut, dividerAt, cutAt, cutsOf, goingOn, cutsFrom, cutListReply, cutListNumber}
+use Rattle.rules.specs.Rooms.{TablesAlike, RepliesAlike, RoomierAlike, moved, widened, widenedParams, widenedCut, SameCuts}
 use Rattle.rules.specs.declared.CutReply.{CutReply}
+use Rattle.rules.specs.declared.CutReply.the-variants as one
+use Rattle.rules.specs.declared.CutListReply.{CutListReply}
 use Rattle.rules.specs.declared.CutParams.{CutParams}
 use Rattle.rules.specs.declared.ElementAnswer.{ElementAnswer}
 use Rattle.rules.specs.declared.Hyperplane.{Hyperplane}
@@ -30,11 +34,12 @@ use Rattle.rules.specs.declared.TouchReply.{TouchReply}
 use Rattle.rules.specs.declared.TouchReply.the-variants.{Refused}
 use Rattle.rules.proofs.Built.{RuleNumber, refused-number}
 use Rattle.rules.proofs.CubeCalls.{cube-done}
+use Rattle.rules.proofs.CutLists.{as-many, listBy, list-by}
 use Rattle.rules.proofs.FileReplies.{accepted, taken, open-accepted, opens-roomier, layout-alone}
 use Rattle.rules.proofs.Good.{sound-good}
 use Rattle.rules.proofs.Laws.{and-true, and-left, and-right, or-case, le-test, test-le, test-eq, eq-test, if-true}
 use Rattle.rules.proofs.OneCall.{sound-table, replyBy, reply-by, it, memory-table}
-use Rattle.rules.proofs.Refusals.{cubeBy, cube-by}
+use Rattle.rules.proofs.Refusals.{refusal-number, cubeBy, cube-by}
 use Rattle.rules.proofs.Roomier.{Alike, cut-alike, sound-alike}
 use Rattle.rules.proofs.RoundTrip.{written-sound, table-back}
 use Rattle.rules.proofs.Rows.{length-pad}
@@ -57,6 +62,14 @@ seven k r h =
   where
     no : (n : ℕ) → eqb k n ≡ true → (RuleNumber n → ⊥) → k ≡ 7
     no n e f = absurd (f (subst RuleNumber (eq-test k n e) r))
+
+-- no cut is refused with 12
+not-twelve : (n : ℕ) → member n (3 ∷ 4 ∷ 5 ∷ 7 ∷ 8 ∷ 9 ∷ 10 ∷ 11 ∷ []) ≡ true → member n (0 ∷ 4 ∷ 5 ∷ 7 ∷ 12 ∷ []) ≡ true → member n (0 ∷ 4 ∷ 5 ∷ 7 ∷ []) ≡ true
+not-twelve n r h = go (eqb n 12) refl h
+  where
+    go : (b : Bool) → eqb n 12 ≡ b → (eqb n 0 || (eqb n 4 || (eqb n 5 || (eqb n 7 || (b || false))))) ≡ true → member n (0 ∷ 4 ∷ 5 ∷ 7 ∷ []) ≡ true
+    go true e q = absurd (false≢true (subst (λ (k : ℕ). member k (3 ∷ 4 ∷ 5 ∷ 7 ∷ 8 ∷ 9 ∷ 10 ∷ 11 ∷ []) ≡ true) (eq-test n 12 e) r))
+    go false e q = q
 
 module _ (L M : Limits) (O : Roomier L M) (h : Hyperplane) (long : length (h .normal) ≡ L .dimensions) (d : ℕ) (low : d ≤ L .dimensions) where
   -- the zeros that are added
@@ -189,6 +202,87 @@ module _ (L M : Limits) (O : Roomier L M) (R : Readable L) (H : HasCubes L) (W :
         subst (λ (x : CutReply × Memory). member (cutNumber (x .0)) (0 ∷ 4 ∷ 5 ∷ 7 ∷ []) ≡ true → cutReply M (widenedParams M p) root n ≡ (x .0, moved L M (x .1)))
         (sym (reply-by L p root m)) (go (soundMemory L m) (ltb root (elementCount t)) (dividerFits L (t .dimension) (p .divider)) (answers L) refl refl refl refl)
 
+  -- ---- a list of cuts
+
+  -- a result here, with the memory as the other room has it
+  abbrev elsewhere : CutListReply × List ℕ × Memory → CutListReply × List ℕ × Memory
+  elsewhere r = (r .0, r .1, moved L M (r .2))
+
+  abbrev LongDividers : List ListedCut → Type 0
+  LongDividers [] = Unit {0}
+  LongDividers (c ∷ cs) = (length (c .params .divider .normal) ≡ L .dimensions) × LongDividers cs
+
+  abbrev alikeNumber : ℕ → Bool
+  alikeNumber n = member n (0 ∷ 4 ∷ 5 ∷ 7 ∷ 12 ∷ [])
+
+  cuts-there : (cs : List ListedCut) (i : ℕ) (room : List ℕ) (m : Memory) → LongDividers cs → alikeNumber (cutListNumber (cutsFrom L cs i room m .0)) ≡ true
+      → cutsFrom M (map (widenedCut M) cs) i room (moved L M m) ≡ elsewhere (cutsFrom L cs i room m)
+  cuts-there [] i room m long k = refl
+  cuts-there (c ∷ cs) i room m long k =
+      go (cutReply L (c .params) (c .root) m .0) (cutReply L (c .params) (c .root) m .1) refl k (λ x n q. cuts-there cs (suc i) x n (long .1) q)
+    where
+      one-there : (r : CutReply) (m′ : Memory) → cutReply L (c .params) (c .root) m ≡ (r, m′) → member (cutNumber r) (0 ∷ 4 ∷ 5 ∷ 7 ∷ []) ≡ true
+          → cutReply M (widenedParams M (c .params)) (c .root) (moved L M m) ≡ (r, moved L M m′)
+      one-there r m′ e h =
+          cut-there (c .params) (c .root) m (long .0) (subst (λ (x : CutReply × Memory). member (cutNumber (x .0)) (0 ∷ 4 ∷ 5 ∷ 7 ∷ []) ≡ true) (sym e) h)
+          ∙ (λ j. (e j .0, moved L M (e j .1)))
+
+      go : (r : CutReply) (m′ : Memory) → cutReply L (c .params) (c .root) m ≡ (r, m′) → alikeNumber (cutListNumber (goingOn i room (r, m′) (cutsFrom L cs (suc i)) .0)) ≡ true
+          → ((x : List ℕ) (n : Memory) → alikeNumber (cutListNumber (cutsFrom L cs (suc i) x n .0)) ≡ true
+          → cutsFrom M (map (widenedCut M) cs) (suc i) x (moved L M n) ≡ elsewhere (cutsFrom L cs (suc i) x n))
+          → goingOn i room (cutReply M (widenedParams M (c .params)) (c .root) (moved L M m)) (cutsFrom M (map (widenedCut M) cs) (suc i))
+          ≡ elsewhere (goingOn i room (r, m′) (cutsFrom L cs (suc i)))
+      go (one.Refused n) m′ e q later =
+          ap (λ (x : CutReply × Memory). goingOn i room x (cutsFrom M (map (widenedCut M) cs) (suc i)))
+          (one-there (one.Refused n) m′ e (not-twelve n (refusal-number L (c .params) (c .root) m n (ap (λ (x : CutReply × Memory). x .0) e)) q))
+      go (one.Answered a w) m′ e q later =
+          ap (λ (x : CutReply × Memory). goingOn i room x (cutsFrom M (map (widenedCut M) cs) (suc i))) (one-there (one.Answered a w) m′ e refl) ∙ later _ m′ q
+
+  -- every row of a list that fits has a component for each axis
+  module _ (l : CutList) (fits : listFits L l ≡ true) where
+    divider-long : (i : ℕ) → i < length (l .roots) → length (dividerAt L (l .dividers) i .normal) ≡ L .dimensions
+    unfolding listFits
+    divider-long i h =
+        let n = length (l .roots) in let w = planeWidth L in
+        let whole : length (l .dividers) ≡ n * w = eq-test _ _ (and-right (leb n mostCuts && eqb (length (l .kept)) n) (eqb (length (l .dividers)) (n * w)) fits) in
+        let below : suc i * w ≤ n * w = mul-le-mul-right w h in
+        let row : length (take w (drop (i * w) (l .dividers))) ≡ w = length-take-le w (drop (i * w) (l .dividers))
+        (let d = length-drop (i * w) (l .dividers) in let z = suc-mul i w in let y : w ≤ length (drop (i * w) (l .dividers)) = omega (arith, d, z, below, whole) in y) in
+        length-take-le (L .dimensions) (take w (drop (i * w) (l .dividers))) (let z : L .dimensions ≤ length (take w (drop (i * w) (l .dividers))) = omega (arith, row) in z)
+
+    long-up : (n i : ℕ) → i + n ≤ length (l .roots) → LongDividers (map (cutAt L l) (upFrom i n))
+    long-up zero i h = tt
+    long-up (suc n) i h =
+        (divider-long i (let z : i < length (l .roots) = omega (arith, h) in z), long-up n (suc i) (let z : suc i + n ≤ length (l .roots) = omega (arith, h) in z))
+
+    long-dividers : LongDividers (cutsOf L l)
+    unfolding cutsOf
+    long-dividers = long-up (length (l .roots)) 0 (le-of-eq (zero-add (length (l .roots))))
+
+  cut-list-there : (l k : CutList) (room : List ℕ) (m : Memory) → SameCuts L M l k → let r = cutListReply L l room m in
+      alikeNumber (cutListNumber (r .0)) ≡ true → cutListReply M k room (moved L M m) ≡ (r .0, r .1, moved L M (r .2))
+  cut-list-there l k room m S =
+      subst (λ (r : CutListReply × List ℕ × Memory). alikeNumber (cutListNumber (r .0)) ≡ true → cutListReply M k room (moved L M m) ≡ elsewhere r)
+      (sym (list-by L l room m ∙ (λ j. listBy L l room m (soundMemory L m) (S .here j) (ltb (length room) (length (l .roots))))))
+      (go (soundMemory L m) (ltb (length room) (length (l .roots))) refl refl)
+    where
+      as-long : length (k .roots) ≡ length (l .roots)
+      as-long = sym (as-many M k) ∙ ap (λ (cs : List ListedCut). length cs) (S .cuts) ∙ length-map (cutsOf L l) (widenedCut M) ∙ as-many L l
+
+      there : soundMemory L m ≡ true → (b : Bool) → ltb (length room) (length (l .roots)) ≡ b → cutListReply M k room (moved L M m) ≡ listBy M k room (moved L M m) true true b
+      there s b e =
+          list-by M k room (moved L M m)
+          ∙ (λ j. listBy M k room (moved L M m) (sound-there m s j) (S .there j) ((ap (λ (n : ℕ). ltb (length room) n) as-long ∙ e) j))
+
+      go : (s b : Bool) → soundMemory L m ≡ s → ltb (length room) (length (l .roots)) ≡ b → alikeNumber (cutListNumber (listBy L l room m s true b .0)) ≡ true
+          → cutListReply M k room (moved L M m) ≡ elsewhere (listBy L l room m s true b)
+      go false b p q h = absurd (false≢true h)
+      go true true p q h = there p true q
+      go true false p q h =
+          there p false q
+          ∙ ap (λ (cs : List ListedCut). cutsFrom M cs 0 room (moved L M m)) (S .cuts)
+          ∙ cuts-there (cutsOf L l) 0 room m (long-dividers l (S .here)) h
+
   -- ---- the questions
 
   module _ (m : Memory) (s : soundMemory L m ≡ true) where
@@ -234,6 +328,7 @@ module _ (L M : Limits) (O : Roomier L M) (R : Readable L) (H : HasCubes L) (W :
     open-done = open-there;
     open-refused = λ bs m n z. layout-alone L M bs m n z;
     cut-alike = cut-there;
+    cut-list-alike = cut-list-there;
     list-alike = λ q m room s. list-there m s q room;
     facet-alike = λ m e s. facet-there m s e;
     touch-alike = λ h root m l s. touch-there m s h root l;

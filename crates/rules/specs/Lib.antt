@@ -24,6 +24,7 @@ pub mod FileExamples
 pub mod TouchExamples
 pub mod Asking
 pub mod Calls
+pub mod CutLists
 pub mod Rooms
 pub mod Promises
 pub mod Held

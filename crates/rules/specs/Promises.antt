@@ -22,6 +22,7 @@ use Rattle.rules.specs.Touch.{someCloseCall, TouchNumbers, TouchInfinite
 use Rattle.rules.specs.Files.{openReply}
 use Rattle.rules.specs.Saving.{RefusedOpenLeaves, OpenNumbers, OpenIsSound, SavedOpens, OpenedSaves, OneFile, OpensRoomier, LayoutAlone}
 use Rattle.rules.specs.Calls.{Call, cutting, asking, cubing, opening, after, afterCalls, TableStays, ListQuestion, listReply, listRefusals, Gives, CutNumbered, ListNumbered, FacetNumbered, Filled}
+use Rattle.rules.specs.CutLists.{CutListNumbers, RefusedCutListLeaves, CutListIsCuts, StoppedAtTheRefused}
 use Rattle.rules.specs.Rooms.{RoomierAlike}
 use Rattle.rules.specs.declared.Hyperplane.{Hyperplane}
 use Rattle.rules.specs.declared.Side.{Side}
@@ -302,3 +303,7 @@ pub record Promises (L : Limits) : Type 0 where
   pub one-side-is-missed : OneSideIsMissed L
   pub one-side-adds-no-vertex : OneSideAddsNoVertex L
   pub both-cuts-an-edge : BothCutsAnEdge L
+  pub cut-list-numbers : CutListNumbers L
+  pub refused-cut-list-leaves : RefusedCutListLeaves L
+  pub cut-list-is-cuts : CutListIsCuts L
+  pub stopped-at-the-refused : StoppedAtTheRefused L

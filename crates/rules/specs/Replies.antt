@@ -1,6 +1,6 @@
 -- Document 01, "The numbered replies": the whole reply of each public function, and the memory or the list room after it. Definitions only.
-use Prim.Native.Nat.{ℕ}
-use mathlib.Core.Bool.{Bool, true, false, not, _&&_}
+use Prim.Native.Nat.{ℕ, _+_, _*_}
+use mathlib.Core.Bool.{Bool, true, false, not, _&&_, cond}
 use mathlib.Core.Option.{Option, none, some}
 use mathlib.Core.List.{List, [], _∷_, _++_, map}
 use lib.Dec.{leb, ltb, eqb}
@@ -79,6 +79,22 @@ facetValue (Has b) = some b
 abbrev pub crossingValue : Crossing → Option Float
 crossingValue NoCrossing = none
 crossingValue (At t) = some t
+
+-- ---- an answer in one number, for a host and for a room of answers
+
+-- an element's number, FFFF for none
+abbrev pub elementWord : ElementOrNone → ℕ
+elementWord None = 0xffff
+elementWord (Some e) = e .0
+
+-- bit 9 for a warning
+abbrev pub warningWord : Bool → ℕ
+warningWord w = cond w 0x200 0
+
+-- beside it bit 8 for flush; else inside in bits 16 to 31, outside in 32 to 47, intersection in 48 to 63
+abbrev pub outputWord : ElementCutOutput → Bool → ℕ
+outputWord Flush w = warningWord w + 0x100
+outputWord (NonFlush i o x) w = warningWord w + elementWord i * 0x10000 + elementWord o * 0x100000000 + elementWord x * 0x1000000000000
 
 -- ---- whether a memory is sound: 0 or 3
 

@@ -2,7 +2,7 @@
 use Prim.Native.Nat.{ℕ}
 use mathlib.Core.Path.{_≡_}
 use mathlib.Core.Bool.{true}
-use mathlib.Core.List.{List, [], _∷_}
+use mathlib.Core.List.{List, [], _∷_, map}
 use lib.ListN.{length}
 use lib.Ieee.{Float}
 use Rattle.rules.specs.Limits.{Limits, Readable, Roomier}
@@ -16,6 +16,7 @@ use Rattle.rules.specs.Replies.{cutNumber, isSoundReply, cubeReply, cutR
 use Rattle.rules.specs.Touch.{touchReply}
 use Rattle.rules.specs.Files.{openReply}
 use Rattle.rules.specs.Calls.{ListQuestion, listReply}
+use Rattle.rules.specs.CutLists.{CutList, listFits, ListedCut, cutsOf, cutListReply, cutListNumber}
 use Rattle.rules.specs.declared.Hyperplane.{Hyperplane}
 use Rattle.rules.specs.declared.CutParams.{CutParams}
 use Rattle.rules.specs.declared.ElementAnswer.{ElementAnswer}
@@ -38,7 +39,17 @@ widened M h = record { normal = pad plusZero (M .dimensions) (h .normal); distan
 abbrev pub widenedParams : Limits → CutParams → CutParams
 widenedParams M p = record { divider = widened M (p .divider); inside = p .inside; outside = p .outside }
 
--- each public reply. A cut: done, and refusals 4, 5 and 7; 8 to 11 are the room's own. A cube: done, and refusal 2. A file: done, and refusal 13. A question, saving and a touch too: every reply of a sound memory
+abbrev pub widenedCut : Limits → ListedCut → ListedCut
+widenedCut M c = record { params = widenedParams M (c .params); root = c .root }
+
+-- two lists of the same cuts, each laid out for its own room
+pub record SameCuts (L M : Limits) (l k : CutList) : Type 0 where
+  pub here : listFits L l ≡ true
+  pub there : listFits M k ≡ true
+  pub cuts : cutsOf M k ≡ map (widenedCut M) (cutsOf L l)
+
+-- each public reply. A cut: done, and refusals 4, 5 and 7; 8 to 11 are the room's own. A list of cuts: the same, and 12. A cube: done, and refusal 2.
+-- A file: done, and refusal 13. A question, saving and a touch too: every reply of a sound memory
 pub record RepliesAlike (L M : Limits) : Type 0 where
   pub is-sound : (m : Memory) → isSoundReply L m ≡ 0 → isSoundReply M (moved L M m) ≡ 0
   pub cube-done : (d : ℕ) (radius : Float) (m n : Memory) → cubeReply L d radius m .0 ≡ 0 → rightSize M n ≡ true
@@ -49,6 +60,8 @@ pub record RepliesAlike (L M : Limits) : Type 0 where
   pub cut-alike : (p : CutParams) (root : ElementNumber) (m : Memory) → length (p .divider .normal) ≡ L .dimensions
       → member (cutNumber (cutReply L p root m .0)) (0 ∷ 4 ∷ 5 ∷ 7 ∷ []) ≡ true
       → cutReply M (widenedParams M p) root (moved L M m) ≡ (cutReply L p root m .0, moved L M (cutReply L p root m .1))
+  pub cut-list-alike : (l k : CutList) (room : List ℕ) (m : Memory) → SameCuts L M l k → let r = cutListReply L l room m in
+      member (cutListNumber (r .0)) (0 ∷ 4 ∷ 5 ∷ 7 ∷ 12 ∷ []) ≡ true → cutListReply M k room (moved L M m) ≡ (r .0, r .1, moved L M (r .2))
   pub list-alike : (q : ListQuestion) (m : Memory) (room : List ℕ) → soundMemory L m ≡ true → listReply M q (moved L M m) room ≡ listReply L q m room
   pub facet-alike : (m : Memory) (e : ElementNumber) → soundMemory L m ≡ true → primordialFacetReply M (moved L M m) e ≡ primordialFacetReply L m e
   pub touch-alike : (h : Hyperplane) (root : ElementNumber) (m : Memory) → length (h .normal) ≡ L .dimensions → soundMemory L m ≡ true

@@ -90,6 +90,13 @@ pub enum CutReply {
     },
 }
 
+// The whole public reply of a list of cuts: refused before any cut, stopped at a cut that is refused, or all cuts answered.
+pub enum CutListReply {
+    Refused(u8),
+    Stopped { number: u8, position: usize },
+    Answered(usize),
+}
+
 // The whole public reply of a question that gives a list: how many entries it wrote.
 pub enum ListReply {
     Refused(u8),

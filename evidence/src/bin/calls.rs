@@ -1,5 +1,5 @@
 //! `calls N SEED [--bytes]`: N calls of every entry point, on random, damaged and strange memory, by the engine and by the model.
-//! The reply and every word of the memory and of the room for a list or a file afterwards are compared; the first difference is
+//! The reply and every word of the memory and of the room for a list, a file or answers afterwards are compared; the first difference is
 //! shown. With --bytes each call is written to standard output with what the engine made of it, for another engine; words go to
 //! the other.
 
@@ -7,11 +7,13 @@ use evidence::arguments;
 use evidence::bytes::{self, Calls};
 use evidence::call::{is_warning, Call, Room};
 use evidence::close_calls::{place, PLACES};
+use evidence::cut_lists;
 use evidence::files;
 use evidence::memories;
 use evidence::model::memory::{Lent, Memory};
 use evidence::model::table::Table;
 use evidence::no_rings::{shape, SHAPES};
+use evidence::parts::{part, PARTS};
 use evidence::random::Random;
 use evidence::seeded;
 use std::collections::BTreeMap;
@@ -19,7 +21,7 @@ use std::io::{self, BufWriter, Stdout};
 use std::process::ExitCode;
 
 /// Each outcome that documents 01 and 02 name for an entry point, which a run has to meet.
-const OUTCOMES: [(&str, &[&str]); 11] = [
+const OUTCOMES: [(&str, &[&str]); 13] = [
     ("is_sound", &["sound", "refused 3"]),
     ("with_primordial_cube_radius", &["done", "refused 1", "refused 2", "refused 3"]),
     (
@@ -52,6 +54,24 @@ const OUTCOMES: [(&str, &[&str]); 11] = [
     ("has_primordial_facet", &["yes", "no", "refused 3", "refused 4", "refused 6"]),
     ("save", &["file", "refused 3", "refused 12"]),
     ("open", &["done", "refused 3", "refused 13"]),
+    (
+        "cut_all",
+        &[
+            "answered",
+            "empty list",
+            "refused 3",
+            "refused 12",
+            "refused 26",
+            "stopped 4",
+            "stopped 5",
+            "stopped 7",
+            "stopped 8",
+            "stopped 9",
+            "stopped 10",
+            "stopped 11",
+        ],
+    ),
+    ("touch", &["all on", "inside or on", "outside or on", "both", "refused 3", "refused 4", "refused 5"]),
 ];
 
 /// What a cut that is taken gives.
@@ -86,11 +106,12 @@ const FILES: [(&str, &[&str]); 10] = [
 
 type Counts = BTreeMap<(&'static str, String), u64>;
 
-/// How often each outcome was met, each face that is refused, and each kind of file; and where the calls are written, if they are.
+/// How often each outcome was met, each face that is refused, each part of a list or a touch, and each kind of file; and where the calls are written, if they are.
 struct Met {
     outcomes: Counts,
     faces: Counts,
     close_calls: Counts,
+    parts: Counts,
     files: Counts,
     written: Option<Calls<BufWriter<Stdout>>>,
 }
@@ -102,6 +123,7 @@ impl Default for Met {
             outcomes: Counts::new(),
             faces: Counts::new(),
             close_calls: Counts::new(),
+            parts: Counts::new(),
             files: Counts::new(),
             written,
         }
@@ -168,7 +190,7 @@ fn damaged_copy(r: &mut Random, pair: &Pair) -> Option<Pair> {
     Some(Pair::new(memory))
 }
 
-/// Questions are asked of the table that the cut leaves; the cube and the file take a copy away, or the file any words.
+/// Questions are asked of the table that the cut leaves; the list, the cube and the file take a copy away, or the file any words.
 fn compare_step(r: &mut Random, pair: &mut Pair, met: &mut Met) -> Result<(), String> {
     let cut = arguments::cut(r, pair.table());
     compare_call(&cut, pair, &Room::default(), met)?;
@@ -176,6 +198,9 @@ fn compare_step(r: &mut Random, pair: &mut Pair, met: &mut Met) -> Result<(), St
         let room = room(r, &call, &mut pair.model);
         compare_call(&call, pair, &room, met)?;
     }
+    let list = cut_lists::any(r, pair.table());
+    let room = Room { answers: answers(r, list.roots.len()), ..Room::default() };
+    compare_call(&Call::CutAll { list }, &mut pair.copy(), &room, met)?;
     compare_call(&arguments::cube(r), &mut pair.copy(), &Room::default(), met)?;
     let (made_as, file) = files::any(r, pair.table());
     let mut other = r.one_in(2).then(|| Pair::new(memories::memory(r, memories::Kind::RandomWords)));
@@ -201,6 +226,12 @@ fn room(r: &mut Random, call: &Call, lent: &mut Lent) -> Room {
     room
 }
 
+/// Old words, mostly one or more for each cut.
+fn answers(r: &mut Random, cuts: usize) -> Vec<u64> {
+    let length = r.pick(&[0, cuts / 2, cuts.saturating_sub(1), cuts, cuts, cuts, cuts, cuts, cuts + 1, cuts + 9]);
+    (0..length).map(|_| r.word()).collect()
+}
+
 /// The outcome, or the difference.
 fn compare_call(call: &Call, pair: &mut Pair, room: &Room, met: &mut Met) -> Result<String, String> {
     let before = pair.engine.clone();
@@ -215,6 +246,9 @@ fn compare_call(call: &Call, pair: &mut Pair, room: &Room, met: &mut Met) -> Res
             if call.was_taken(&pair.model) {
                 *met.faces.entry((TAKEN_BEFORE, shape(&edges))).or_default() += 1;
             }
+        }
+        if let Some((name, met_part)) = part(call, &pair.model, by_model) {
+            *met.parts.entry((name, met_part.into())).or_default() += 1;
         }
         met.close_calls(call.tested(&pair.model, by_model), is_warning(by_model), &outcome);
         let Some(written) = &mut met.written else { return Ok(outcome) };
@@ -240,6 +274,7 @@ fn report(n: u64, met: &Met) -> bool {
     let mut is_whole = are_met(&OUTCOMES, "", &met.outcomes)
         & are_met(&FACES, ", refused for a face of", &met.faces)
         & are_met(&CLOSE_CALLS, "", &met.close_calls)
+        & are_met(&PARTS, "", &met.parts)
         & are_met(&FILES, ", opened", &met.files);
     let named =
         |(name, outcome): &(&str, String)| OUTCOMES.iter().any(|row| row.0 == *name && row.1.contains(&&**outcome));

@@ -5,7 +5,7 @@ use super::floats::{
     Point, Side,
 };
 use super::memory::{write, Lent};
-use super::questions::below;
+use super::questions::corners;
 use super::table::{Element, Polytope, Table, BOUNDARY_ROOM, ELEMENT_ROOM, HYPERPLANE_ROOM, VERTEX_ROOM};
 use super::Refusal;
 use std::collections::BTreeSet;
@@ -33,8 +33,7 @@ pub struct Kept {
 pub fn cut(lent: &mut Lent, divider: Hyperplane, kept: Kept, root: u32) -> Result<Answer, Refusal> {
     let table = lent.table()?;
     let root = table.in_use(root).ok_or(4)?;
-    if !is_unit(&divider.normal, table.dimension) || !(divider.distance.is_infinite() || is_distance(divider.distance))
-    {
+    if !is_divider(&divider, table.dimension) {
         return Err(5);
     }
     if divider.distance.is_infinite() {
@@ -47,10 +46,15 @@ pub fn cut(lent: &mut Lent, divider: Hyperplane, kept: Kept, root: u32) -> Resul
     Ok(Answer { output, warning })
 }
 
+/// What is not refused with 5.
+pub fn is_divider(divider: &Hyperplane, dimension: usize) -> bool {
+    is_unit(&divider.normal, dimension) && (divider.distance.is_infinite() || is_distance(divider.distance))
+}
+
 /// The signed distances of the corners that the rules test at a finite distance: all that the root has.
 pub fn tested(table: &Table, divider: &Hyperplane, root: u16) -> Vec<f64> {
-    let corners = below(table, root).into_iter().filter_map(|element| table.vertex_number(element));
-    corners.map(|vertex| signed_distance(divider, &table.vertices[usize::from(vertex)])).collect()
+    let distance = |vertex: u16| signed_distance(divider, &table.vertices[usize::from(vertex)]);
+    corners(table, root).into_iter().map(distance).collect()
 }
 
 /// The edges, by their ends, of the face for which such a cut is refused with 7, where it is refused for a face.

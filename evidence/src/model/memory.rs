@@ -6,7 +6,7 @@ use super::table::{Element, Polytope, Table, BOUNDARY_ROOM, ELEMENT_ROOM, HYPERP
 use super::Refusal;
 
 const POINT_WIDTH: usize = 4;
-const PLANE_WIDTH: usize = 5;
+pub const PLANE_WIDTH: usize = 5;
 pub const ELEMENT_WIDTH: usize = 4 + BOUNDARY_ROOM;
 
 /// Dimension, elements, vertices, hyperplanes.
@@ -106,7 +106,7 @@ fn held(memory: &Memory, is_sound: fn(&Table) -> bool) -> Option<Table> {
 }
 
 /// The entries in use, if the lengths and the counts are such that they are there.
-fn read(memory: &Memory) -> Option<Table> {
+pub fn read(memory: &Memory) -> Option<Table> {
     if !memory.has_the_lengths() {
         return None;
     }

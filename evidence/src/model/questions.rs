@@ -19,9 +19,7 @@ pub fn subelements_with_rank(lent: &Lent, root: u32, rank: u32, room: &mut [u16]
 
 pub fn vertex_set(lent: &Lent, root: u32, room: &mut [u16]) -> Result<Size, Refusal> {
     let (table, root) = table_with(lent, root)?;
-    let mut vertices: Vec<u16> = below(table, root).into_iter().filter_map(|e| table.vertex_number(e)).collect();
-    vertices.sort_unstable();
-    fill(room, &vertices)
+    fill(room, &corners(table, root))
 }
 
 pub fn greatest_common_subelements(lent: &Lent, roots: &[u16], room: &mut [u16]) -> Result<Size, Refusal> {
@@ -65,8 +63,15 @@ fn fill(room: &mut [u16], list: &[u16]) -> Result<Size, Refusal> {
     Ok(list.len())
 }
 
+/// The vertices of an element, rising.
+pub fn corners(table: &Table, root: u16) -> Vec<u16> {
+    let mut vertices: Vec<u16> = below(table, root).into_iter().filter_map(|e| table.vertex_number(e)).collect();
+    vertices.sort_unstable();
+    vertices
+}
+
 /// The root and all below it, rising: a boundary is earlier than what it bounds.
-pub fn below(table: &Table, root: u16) -> Vec<u16> {
+fn below(table: &Table, root: u16) -> Vec<u16> {
     let mut marked = vec![false; usize::from(root) + 1];
     marked[usize::from(root)] = true;
     for element in (0..=root).rev().filter(|&e| table.rank(e) > 0) {

@@ -1,8 +1,8 @@
 -- The warning's bit, with flush, or with three numbers of 16 bits side by side.
-use Rattle.desk.proofs.CutWords.{places-low, places-word, flush-word}
+use Rattle.cut.proofs.AnswerWords.{places-low, places-word, flush-word}
 use borrow.Author.Needs.{needs}
-use Rattle.desk.proofs.output_word.Statement.{statement}
-use Rattle.desk.proofs.output_word.Tie as tie
+use Rattle.cut.proofs.answers.output_word.Statement.{statement}
+use Rattle.cut.proofs.answers.output_word.Tie as tie
 
 -- where the warning's bit was known, and where the function began
 abbrev warned : tie.After-a → tie.After-warning-word

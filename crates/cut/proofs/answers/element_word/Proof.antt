@@ -1,8 +1,8 @@
 -- FFFF for none, or a number within the room.
-use Rattle.desk.proofs.CutWords.{word-none, word-some}
+use Rattle.cut.proofs.AnswerWords.{word-none, word-some}
 use borrow.Author.Needs.{needs}
-use Rattle.desk.proofs.element_word.Statement.{statement}
-use Rattle.desk.proofs.element_word.Tie as tie
+use Rattle.cut.proofs.answers.element_word.Statement.{statement}
+use Rattle.cut.proofs.answers.element_word.Tie as tie
 
 enum-told : tie.Need-enum-told
 enum-told c = search needs
