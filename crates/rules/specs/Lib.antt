@@ -22,6 +22,8 @@ pub mod Examples
 pub mod Sessions
 pub mod FileExamples
 pub mod Calls
+pub mod Areas
+pub mod AreaExamples
 pub mod Rooms
 pub mod Promises
 pub mod Held

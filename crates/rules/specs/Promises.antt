@@ -22,6 +22,7 @@ use Rattle.rules.specs.Touch.{someCloseCall, TouchNumbers, TouchInfinite
 use Rattle.rules.specs.Files.{openReply}
 use Rattle.rules.specs.Saving.{RefusedOpenLeaves, OpenNumbers, OpenIsSound, SavedOpens, OpenedSaves, OneFile, OpensRoomier, LayoutAlone}
 use Rattle.rules.specs.Calls.{Call, cutting, asking, cubing, opening, after, afterCalls, TableStays, ListQuestion, listReply, listRefusals, Gives, CutNumbered, ListNumbered, FacetNumbered, Filled}
+use Rattle.rules.specs.Areas.{AreasNumbers, RefusedAreasLeave, AreasFillFront, AreasFit}
 use Rattle.rules.specs.Rooms.{RoomierAlike}
 use Rattle.rules.specs.declared.Hyperplane.{Hyperplane}
 use Rattle.rules.specs.declared.Side.{Side}
@@ -339,8 +340,6 @@ abbrev pub NoFacetInOneDimension : Limits → Type 0
 NoFacetInOneDimension L = (m : Memory) → soundMemory L m ≡ true → decode L m .dimension ≡ 1
     → (e : ElementNumber) → e < elementCount (decode L m) → rank (decode L m) e ≡ 1 → facetValue (primordialFacetReply L m e) ≡ some false
 
--- ---- all of it
-
 pub record Promises (L : Limits) : Type 0 where
   pub refused-cut-leaves : RefusedCutLeaves L
   pub refused-cube-leaves : RefusedCubeLeaves L
@@ -393,3 +392,7 @@ pub record Promises (L : Limits) : Type 0 where
   pub one-side-is-missed : OneSideIsMissed L
   pub one-side-adds-no-vertex : OneSideAddsNoVertex L
   pub both-cuts-an-edge : BothCutsAnEdge L
+  pub areas-numbers : AreasNumbers L
+  pub refused-areas-leave : RefusedAreasLeave L
+  pub areas-fill-front : AreasFillFront L
+  pub areas-fit : AreasFit L
