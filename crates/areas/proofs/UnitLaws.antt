@@ -1,19 +1,20 @@
 -- A coordinate in whole units. Multiplied by 1,024 a float only moves its exponent, so the product is exact; its whole part is below 2^27, so it is exact as a float again.
-use Prim.Native.Nat.{ℕ, zero, suc, _+_, _-_, _*_, _/_, _%_, _^_, _≤_, _<_, min, zero-le}
-use mathlib.Core.Bool.{Bool, true, false, not, _&&_, _||_, Bool·beq, cond, false≢true}
+use Prim.Native.Nat.{ℕ, zero, suc, _+_, _-_, _*_, _/_, _%_, _^_, _≤_, _<_, min}
+use mathlib.Core.Bool.{Bool, true, false, _&&_, _||_, Bool·beq, cond, false≢true}
 use mathlib.Core.Logic.{_⊎_, inl, inr, ⊎-elim}
 use mathlib.Core.Path.{_≡_, refl, sym, ap, ap₂, _∙_, subst}
-use native.Mathlib.Nat.{le-trans, le-of-eq, lt-of-lt-of-le, lt-of-le-of-lt, lt-of-not-le, not-le-of-lt, le-of-suc-le-suc, mul-comm, mul-assoc, mul-left-comm, mul-right-comm, mul-one, one-mul, zero-mul, add-mul, mul-pos, mul-le-mul, mul-le-mul-right, le-of-mul-le-mul-right, eq-of-mul-eq-mul-right, div-add-mod', div-le-of-le-mul}
+use native.Mathlib.Nat.{le-trans, le-of-eq, lt-of-lt-of-le, lt-of-le-of-lt, lt-of-not-le, not-le-of-lt, le-of-suc-le-suc, mul-comm, mul-assoc, mul-right-comm}
+use native.Mathlib.Nat.{mul-one, one-mul, zero-mul, add-mul, mul-pos, mul-le-mul-right, le-of-mul-le-mul-right, eq-of-mul-eq-mul-right, div-add-mod', div-le-of-le-mul}
 use native.Mathlib.Omega.{arith}
 use lib.Dec.{T, eqb, ltb, leb, ltb→lt, leb→le, lt→ltb, le→leb, lit≤}
 use lib.IntN.{ℤ, pos, negsuc, negℤ, natAbs}
 use lib.Pow.{pow-add, pow-pos, pow-lt, pow-mono, shl-lt}
-use lib.Ieee.{Float, nan, inf, fin, binary64, up, down, neg, mul, lt, eq, le, below, level, round, fits, ofInt, toSigned, inFloat}
+use lib.Ieee.{Float, nan, inf, fin, binary64, up, down, neg, mul, lt, eq, le, below, round, fits, ofInt, toSigned, inFloat}
 use lib.Ieee.Exact.{HasValue, round-exact}
 use lib.Ieee.Fits.{down-pos, and-l, and-r}
 use lib.Ieee.Nearest.{div-same}
 use Rattle.rules.specs.Floats.{within, farthest}
-use Rattle.rules.specs.Areas.{unitsInOne, signed, onGrid, units}
+use Rattle.rules.specs.Areas.{signed, onGrid, units}
 use Rattle.rules.proofs.AreaSizes.{in-bounds, size-signed, units-few}
 use Rattle.rules.proofs.Comparisons.{SignedLe, test}
 use Rattle.rules.proofs.Laws.{holds, truly, both-ways, eq-test, test-eq, or-left, or-right, beq-self}

@@ -84,7 +84,8 @@ add-sum : tie.Need-add-sum Inv-loop μ-loop
 add-sum c =
     let at = here (c .before) in
     let p = begin at .pre in
-    sum-fits (toZ w64 (at .loop .sum)) _ _ (c .corner-turn .ensures) (le-trans (corner-turn-few _ _ _ (both (c .before))) (lit≤ tt)) (turns-small (toZ w64 (at .loop .sum)) (at .loop .k) (at .loop .inv .few) (le-trans (at .loop .inv .low) (p .few)))
+    sum-fits (toZ w64 (at .loop .sum)) _ _ (c .corner-turn .ensures) (le-trans (corner-turn-few _ _ _ (both (c .before))) (lit≤ tt))
+    (turns-small (toZ w64 (at .loop .sum)) (at .loop .k) (at .loop .inv .few) (le-trans (at .loop .inv .low) (p .few)))
 
 add-k : tie.Need-add-k Inv-loop μ-loop
 add-k c = search needs
