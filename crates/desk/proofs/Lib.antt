@@ -1,3 +1,4 @@
+pub mod AreaWords
 pub mod CutWords
 pub mod CutListWords
 pub mod ListWords

@@ -139,11 +139,11 @@ module _ (m : Memory) where
 
 -- ---- the number
 
-pub list-said : {r : ListReply} {room : List ℕ} {w : ListReply × List ℕ} (x : ℕ) → (r, room) ≡ w → x ≡ sizeWord r → (x, room) ≡ listWord w
+pub list-said : {A : Type 0} {r : ListReply} {room : List A} {w : ListReply × List A} (x : ℕ) → (r, room) ≡ w → x ≡ sizeWord r → (x, room) ≡ listWord w
 list-said {room = room} x e q = (λ j. (q j, room)) ∙ ap listWord e
 
-pub fits-as : {r : ListReply} {room : List ℕ} {w : ListReply × List ℕ} → (r, room) ≡ w → SizeFits (w .0) → SizeFits r
-fits-as e h = subst SizeFits (sym (ap (λ (x : ListReply × List ℕ). x .0) e)) h
+pub fits-as : {A : Type 0} {r : ListReply} {room : List A} {w : ListReply × List A} → (r, room) ≡ w → SizeFits (w .0) → SizeFits r
+fits-as {A} e h = subst SizeFits (sym (ap (λ (x : ListReply × List A). x .0) e)) h
 
 pub listed-low : {r : ListReply} (n : ℕ) → r ≡ Listed n → SizeFits r → n ≤ longest
 listed-low n q h = subst SizeFits q h

@@ -41,8 +41,9 @@ sizeWord (ListRefused n) = n
 sizeWord (Listed n) = n * 0x100
 
 -- beside it, the list room
-abbrev pub listWord : ListReply × List ℕ → ℕ × List ℕ
-listWord (r, room) = (sizeWord r, room)
+module _ {A : Type 0} where
+  abbrev pub listWord : ListReply × List A → ℕ × List A
+  listWord (r, room) = (sizeWord r, room)
 
 -- bits 0 to 7 are the reply's number, bit 8 the answer
 abbrev pub facetWord : FacetReply → ℕ

@@ -18,6 +18,7 @@ ghost use mathlib.Core.Path.{_≡_};
 ghost use Rattle.rules.specs.Limits.{desk};
 ghost use Rattle.rules.specs.Held.{memoryOf};
 ghost use Rattle.rules.specs.CutLists.{mostCuts, cutListReply, answersWritten};
+ghost use Rattle.rules.specs.Areas.{areasReply};
 ghost use Rattle.rules.specs.Files.{saveReply, openReply};
 ghost use Rattle.rules.specs.Replies.{isSoundReply, cubeReply, cutBy, cutReply, subElementsReply, withRankReply, vertexSetReply, greatestCommonReply, edgesInOrderReply, primordialFacetReply};
 ghost use Rattle.rules.specs.Touch.{touchValue, touchReply};
@@ -317,6 +318,22 @@ pub extern "C" fn desk_edges_in_order(
         ElementId(root as usize),
         list,
     );
+    list_word(reply)
+}
+
+// The areas of some pieces, their count and the sum of their sizes (document 02, order 13).
+#[no_mangle]
+pub extern "C" fn desk_areas(
+    counts: &[u16],
+    points: &[f64],
+    planes: &[f64],
+    elements: &[u16],
+    pieces: &[u16],
+    areas: &mut [i64],
+) -> u32
+    ensures { λ r. ⌜ (r, now (areas .exit)) ≡ listWord (areasReply desk (memoryOf (now (counts .entry)) (now (points .entry)) (now (planes .entry)) (now (elements .entry))) (now (pieces .entry)) (now (areas .entry))) ⌝ }
+{
+    let reply = areas::areas(counts, points, planes, elements, pieces, areas);
     list_word(reply)
 }
 

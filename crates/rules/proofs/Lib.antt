@@ -1,5 +1,7 @@
 pub mod Answers
 pub mod Apart
+pub mod AreaReplies
+pub mod AreaSizes
 pub mod Borders
 pub mod Boxes
 pub mod Built

@@ -20,6 +20,7 @@ use Rattle.rules.specs.declared.ElementCutOutput.{ElementCutOutput}
 use Rattle.rules.specs.declared.ElementCutOutput.the-variants.{Flush, NonFlush}
 use Rattle.rules.specs.declared.PolytopeFate.the-variants.{Keep}
 use Rattle.rules.specs.declared.CutParams.{CutParams}
+use Rattle.rules.proofs.AreaReplies.{areas-numbers, refused-areas-leave, areas-fill-front, areas-fit}
 use Rattle.rules.proofs.Boxes.{in-the-box}
 use Rattle.rules.proofs.Calls.{not-infinite, gives, again-later, one-side-later, flush-later, infinite-distance}
 use Rattle.rules.proofs.CloseBelow.{close-vertices}
@@ -152,6 +153,10 @@ module _ (L : Limits) (R : Readable L) (H : HasCubes L) (F : Fileable L) where
     refused-cut-list-leaves = refused-cut-list-leaves L;
     cut-list-is-cuts = cut-list-is-cuts L;
     stopped-at-the-refused = stopped-at-the-refused L;
+    areas-numbers = areas-numbers L;
+    refused-areas-leave = refused-areas-leave L;
+    areas-fill-front = areas-fill-front L;
+    areas-fit = areas-fit L;
   }
 
 -- ---- the two rooms

@@ -149,11 +149,11 @@ cube-numbers L d radius m =
 -- ---- the questions
 
 -- a list and its room, by whether it fits
-abbrev pub listedBy : List ℕ → List ℕ → Bool → ListReply × List ℕ
+abbrev pub listedBy : {A : Type 0} → List A → List A → Bool → ListReply × List A
 listedBy xs room b = if b then (Listed (length xs), xs ++ drop (length xs) room) else (ListRefused 12, room)
 
 -- a refused question leaves the list room
-pub listed-refused : (a : Asked (List ℕ)) (room : List ℕ) → 0 < listNumber (listed a room .0) → listed a room .1 ≡ room
+pub listed-refused : {A : Type 0} (a : Asked (List A)) (room : List A) → 0 < listNumber (listed a room .0) → listed a room .1 ≡ room
 listed-refused (no-answer n) room k = refl
 listed-refused (answer xs) room k = go (leb (length xs) (length room)) k
   where
@@ -162,7 +162,7 @@ listed-refused (answer xs) room k = go (leb (length xs) (length room)) k
     go false l = refl
 
 -- a list done fills the front
-pub listed-fills : (a : Asked (List ℕ)) (room : List ℕ) (n : ℕ) → listSize (listed a room .0) ≡ some n → Filled n room (listed a room .1)
+pub listed-fills : {A : Type 0} (a : Asked (List A)) (room : List A) (n : ℕ) → listSize (listed a room .0) ≡ some n → Filled n room (listed a room .1)
 listed-fills (no-answer k) room n e = none-some n e
 listed-fills (answer xs) room n e = go (leb (length xs) (length room)) refl e
   where
@@ -205,7 +205,7 @@ list-fills-front L q m room n e =
 -- ---- the numbers of the questions
 
 -- an answer, or a refusal with one of some numbers
-abbrev RefusedIn : {A : Type 0} → List ℕ → Asked A → Type 0
+abbrev pub RefusedIn : {A : Type 0} → List ℕ → Asked A → Type 0
 RefusedIn ns (no-answer n) = member n ns ≡ true
 RefusedIn ns (answer x) = Unit {0}
 
@@ -268,7 +268,7 @@ no-zero (greatestCommonOf es) = refl
 no-zero (edgesInOrderOf e) = refl
 no-zero fileOfTable = refl
 
-listed-in : (ns : List ℕ) (a : Asked (List ℕ)) (room : List ℕ) → RefusedIn ns a → member 12 ns ≡ true → member 0 ns ≡ false → ListNumbered ns (listed a room .0)
+pub listed-in : {A : Type 0} (ns : List ℕ) (a : Asked (List A)) (room : List A) → RefusedIn ns a → member 12 ns ≡ true → member 0 ns ≡ false → ListNumbered ns (listed a room .0)
 listed-in ns (no-answer n) room h t z = refused-in n h
   where
     refused-in : (k : ℕ) → member k ns ≡ true → ListNumbered ns (ListRefused k)

@@ -7,6 +7,7 @@ use native.Mathlib.Nat.{le-trans, le-of-eq, suc-ne-zero, suc-mul, mul-le-mul-rig
 use native.Mathlib.Omega.{arith}
 use lib.Dec.{ltb, leb, eqb}
 use lib.Ieee.{Float}
+use lib.IntN.{ℤ}
 use lib.ListN.{length, length-map, length-drop, take, drop, replicate}
 use lib.Seq.{length-take-le, take-append-le, drop-append-le}
 use Rattle.rules.specs.Limits.{Limits, Readable, HasCubes, Roomier}
@@ -23,6 +24,7 @@ use Rattle.rules.specs.Touch.{touch, touchReply}
 use Rattle.rules.specs.Files.{fileOf, saveReply, openReply}
 use Rattle.rules.specs.Calls.{ListQuestion, subElementsOf, subElementsWithRank, vertexSetOf, greatestCommonOf, edgesInOrderOf, fileOfTable, listReply}
 use Rattle.rules.specs.CutLists.{mostCuts, CutList, listFits, ListedCut, dividerAt, cutAt, cutsOf, goingOn, cutsFrom, cutListReply, cutListNumber}
+use Rattle.rules.specs.Areas.{pieceOnGrid, areasReply}
 use Rattle.rules.specs.Rooms.{TablesAlike, RepliesAlike, RoomierAlike, moved, widened, widenedParams, widenedCut, SameCuts}
 use Rattle.rules.specs.declared.CutReply.{CutReply}
 use Rattle.rules.specs.declared.CutReply.the-variants as one
@@ -32,6 +34,7 @@ use Rattle.rules.specs.declared.ElementAnswer.{ElementAnswer}
 use Rattle.rules.specs.declared.Hyperplane.{Hyperplane}
 use Rattle.rules.specs.declared.TouchReply.{TouchReply}
 use Rattle.rules.specs.declared.TouchReply.the-variants.{Refused}
+use Rattle.rules.proofs.AreaReplies.{sheetBy, few, used, flat, sheet-by}
 use Rattle.rules.proofs.Built.{RuleNumber, refused-number}
 use Rattle.rules.proofs.CubeCalls.{cube-done}
 use Rattle.rules.proofs.CutLists.{as-many, listBy, list-by}
@@ -320,6 +323,17 @@ module _ (L M : Limits) (O : Roomier L M) (R : Readable L) (H : HasCubes L) (W :
           (λ j. let t = table-there m s j in by (sound-there m s j) t (dividerFits M (t .dimension) (widened M h)) (dividerOf (t .dimension) (widened M h)))
           ∙ (λ j. by (sym s j) (decode L m) (fits-same L M O h long (decode L m .dimension) low j) (divider-same L M O h long (decode L m .dimension) low j))
 
+    -- ---- an area sheet
+
+    areas-there : (pieces : List ℕ) (room : List ℤ) → areasReply M (moved L M m) pieces room ≡ areasReply L m pieces room
+    unfolding areasReply
+    areas-there pieces room =
+        ap (λ (a : Asked (List ℤ)). listed a room)
+        (sheet-by M (moved L M m) pieces ∙ (λ j. sheetOf (sound-there m s j) (table-there m s j)) ∙ (λ j. sheetOf (sym s j) (decode L m)) ∙ sym (sheet-by L m pieces))
+      where
+        sheetOf : Bool → Table → Asked (List ℤ)
+        sheetOf b t = sheetBy t pieces b (few pieces) (used t pieces) (flat t pieces) (all (pieceOnGrid t) pieces)
+
   replies-alike : RepliesAlike L M
   replies-alike = record {
     is-sound = is-sound;
@@ -332,6 +346,7 @@ module _ (L M : Limits) (O : Roomier L M) (R : Readable L) (H : HasCubes L) (W :
     list-alike = λ q m room s. list-there m s q room;
     facet-alike = λ m e s. facet-there m s e;
     touch-alike = λ h root m l s. touch-there m s h root l;
+    areas-alike = λ m pieces room s. areas-there m s pieces room;
   }
 
 tables-alike : (L M : Limits) → Roomier L M → TablesAlike L M

@@ -103,8 +103,8 @@ pub record FacetNumbered (ns : List ℕ) (r : FacetReply) : Type 0 where
   pub answered : facetNumber r ≡ 0 → (b : Bool) × (facetValue r ≡ some b)
   pub refused : 0 < facetNumber r → facetValue r ≡ none
 
--- a list of n numbers fits the room, and leaves all behind it
-pub record Filled (n : ℕ) (room filled : List ℕ) : Type 0 where
+-- a list of n entries fits the room, and leaves all behind it
+pub record Filled {A : Type 0} (n : ℕ) (room filled : List A) : Type 0 where
   pub fits : n ≤ length room
   pub size : length filled ≡ length room
   pub rest : drop n filled ≡ drop n room

@@ -25,6 +25,8 @@ pub mod TouchExamples
 pub mod Asking
 pub mod Calls
 pub mod CutLists
+pub mod Areas
+pub mod AreaExamples
 pub mod Rooms
 pub mod Promises
 pub mod Held

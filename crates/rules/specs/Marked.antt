@@ -3,6 +3,7 @@ use Prim.Native.Nat.{ℕ}
 use mathlib.Core.Bool.{Bool, false}
 use mathlib.Core.Option.{Option, none, some}
 use mathlib.Core.List.{List, [], _∷_}
+use lib.IntN.{ℤ}
 use lib.ListN.{take, drop, replicate}
 use lib.Ieee.{Float, inf, ofBits, binary64}
 use Rattle.rules.specs.Limits.{Limits, desk}
@@ -21,10 +22,11 @@ use Rattle.rules.specs.declared.ListReply.the-variants.{Refused as ListR
 
 -- ---- what a row shows
 
--- a cut: its number, its values, its warning, and the counts of elements, vertices and hyperplanes after it; a list: its number and what it wrote; a side; a verdict; numbers; floats
+-- a cut: its number, its values, its warning, and the counts of elements, vertices and hyperplanes after it; a list: its number and what it wrote; an area sheet the same; a side; a verdict; numbers; floats
 pub data Shown : Type 0 where
   cutShown : ℕ → List (Option ElementNumber) → Bool → List ℕ → Shown
   listShown : ℕ → List ℕ → Shown
+  sheetShown : ℕ → List ℤ → Shown
   sideShown : Side → Shown
   verdict : Bool → Shown
   numbers : List ℕ → Shown
@@ -38,6 +40,10 @@ showCut L h i o root m =
 abbrev pub showList : ListReply × List ℕ → Shown
 showList (ListRefused n, room) = listShown n []
 showList (Listed n, room) = listShown 0 (take n room)
+
+abbrev pub showSheet : ListReply × List ℤ → Shown
+showSheet (ListRefused n, room) = sheetShown n []
+showSheet (Listed n, room) = sheetShown 0 (take n room)
 
 -- ---- Q, the square of radius 1, and the segment of radius 1, in the desk's memory
 

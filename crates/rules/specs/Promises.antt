@@ -23,6 +23,7 @@ use Rattle.rules.specs.Files.{openReply}
 use Rattle.rules.specs.Saving.{RefusedOpenLeaves, OpenNumbers, OpenIsSound, SavedOpens, OpenedSaves, OneFile, OpensRoomier, LayoutAlone}
 use Rattle.rules.specs.Calls.{Call, cutting, asking, cubing, opening, after, afterCalls, TableStays, ListQuestion, listReply, listRefusals, Gives, CutNumbered, ListNumbered, FacetNumbered, Filled}
 use Rattle.rules.specs.CutLists.{CutListNumbers, RefusedCutListLeaves, CutListIsCuts, StoppedAtTheRefused}
+use Rattle.rules.specs.Areas.{AreasNumbers, RefusedAreasLeave, AreasFillFront, AreasFit}
 use Rattle.rules.specs.Rooms.{RoomierAlike}
 use Rattle.rules.specs.declared.Hyperplane.{Hyperplane}
 use Rattle.rules.specs.declared.Side.{Side}
@@ -307,3 +308,7 @@ pub record Promises (L : Limits) : Type 0 where
   pub refused-cut-list-leaves : RefusedCutListLeaves L
   pub cut-list-is-cuts : CutListIsCuts L
   pub stopped-at-the-refused : StoppedAtTheRefused L
+  pub areas-numbers : AreasNumbers L
+  pub refused-areas-leave : RefusedAreasLeave L
+  pub areas-fill-front : AreasFillFront L
+  pub areas-fit : AreasFit L

@@ -171,10 +171,11 @@ asked L m es q =
     else q
 
 -- a list done fills the front of its room and leaves the remainder
-abbrev pub listed : Asked (List ℕ) → List ℕ → ListReply × List ℕ
-listed (no-answer n) room = (ListRefused n, room)
-listed (answer xs) room =
-    if leb (length xs) (length room) then (Listed (length xs), xs ++ drop (length xs) room) else (ListRefused 12, room)
+module _ {A : Type 0} where
+  abbrev pub listed : Asked (List A) → List A → ListReply × List A
+  listed (no-answer n) room = (ListRefused n, room)
+  listed (answer xs) room =
+      if leb (length xs) (length room) then (Listed (length xs), xs ++ drop (length xs) room) else (ListRefused 12, room)
 
 unfoldable pub subElementsReply : Limits → Memory → ElementNumber → List ℕ → ListReply × List ℕ
 subElementsReply L m e room = listed (asked L m (e ∷ []) (answer (subElements (decode L m) e))) room

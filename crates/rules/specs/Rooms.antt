@@ -3,6 +3,7 @@ use Prim.Native.Nat.{ℕ}
 use mathlib.Core.Path.{_≡_}
 use mathlib.Core.Bool.{true}
 use mathlib.Core.List.{List, [], _∷_, map}
+use lib.IntN.{ℤ}
 use lib.ListN.{length}
 use lib.Ieee.{Float}
 use Rattle.rules.specs.Limits.{Limits, Readable, Roomier}
@@ -17,6 +18,7 @@ use Rattle.rules.specs.Touch.{touchReply}
 use Rattle.rules.specs.Files.{openReply}
 use Rattle.rules.specs.Calls.{ListQuestion, listReply}
 use Rattle.rules.specs.CutLists.{CutList, listFits, ListedCut, cutsOf, cutListReply, cutListNumber}
+use Rattle.rules.specs.Areas.{areasReply}
 use Rattle.rules.specs.declared.Hyperplane.{Hyperplane}
 use Rattle.rules.specs.declared.CutParams.{CutParams}
 use Rattle.rules.specs.declared.ElementAnswer.{ElementAnswer}
@@ -49,7 +51,7 @@ pub record SameCuts (L M : Limits) (l k : CutList) : Type 0 where
   pub cuts : cutsOf M k ≡ map (widenedCut M) (cutsOf L l)
 
 -- each public reply. A cut: done, and refusals 4, 5 and 7; 8 to 11 are the room's own. A list of cuts: the same, and 12. A cube: done, and refusal 2.
--- A file: done, and refusal 13. A question, saving and a touch too: every reply of a sound memory
+-- A file: done, and refusal 13. A question, saving, a touch and an area sheet too: every reply of a sound memory
 pub record RepliesAlike (L M : Limits) : Type 0 where
   pub is-sound : (m : Memory) → isSoundReply L m ≡ 0 → isSoundReply M (moved L M m) ≡ 0
   pub cube-done : (d : ℕ) (radius : Float) (m n : Memory) → cubeReply L d radius m .0 ≡ 0 → rightSize M n ≡ true
@@ -66,6 +68,7 @@ pub record RepliesAlike (L M : Limits) : Type 0 where
   pub facet-alike : (m : Memory) (e : ElementNumber) → soundMemory L m ≡ true → primordialFacetReply M (moved L M m) e ≡ primordialFacetReply L m e
   pub touch-alike : (h : Hyperplane) (root : ElementNumber) (m : Memory) → length (h .normal) ≡ L .dimensions → soundMemory L m ≡ true
       → touchReply M (widened M h) root (moved L M m) ≡ touchReply L h root m
+  pub areas-alike : (m : Memory) (pieces : List ElementNumber) (room : List ℤ) → soundMemory L m ≡ true → areasReply M (moved L M m) pieces room ≡ areasReply L m pieces room
 
 -- what a room does not refuse, a roomier one answers alike; in memory, where its rows can be read back
 abbrev pub RoomierAlike : Limits → Type 0

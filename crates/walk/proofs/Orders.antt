@@ -37,7 +37,7 @@ use Rattle.walk.proofs.Whole.{rising, all-steps}
 
 -- ---- 12, or the list written
 
-two-each : (n : ℕ) (es xs : List ℕ) (v e : ℕ) → length (numbersFrom n es xs v e) ≡ 2 * n
+pub two-each : (n : ℕ) (es xs : List ℕ) (v e : ℕ) → length (numbersFrom n es xs v e) ≡ 2 * n
 unfolding numbersFrom
 two-each zero es xs v e = refl
 two-each (suc n) es xs v e =
@@ -64,17 +64,17 @@ module _ (es : List ℕ) (f n : ℕ) (room : List ℕ) (B : BoundaryFits es f) (
   pub no-room : length room < 2 * n → (Refused 12, room) ≡ listed (answer numbers) room
   no-room l = ap choice (sym (test-above (length numbers) (length room) (le-trans l (le-of-eq (sym size-is)))))
 
-  module _ (start first : ℕ) (hs : start ≡ lowestEnd es noEdge xs) (hf : first ≡ firstWay es start xs) where
-    numbers-are : numbersFrom (length xs) es xs start first ≡ numbers
-    unfolding wordsInOrder
-    numbers-are = ap (numbersFrom (length xs) es xs start) hf ∙ ap (λ (v : ℕ). numbersFrom (length xs) es xs v (firstWay es v xs)) hs
+  pub list-done : (out : List ℕ) → 2 * n ≤ length room → out ≡ sets room 0 numbers → (Listed (2 * n), out) ≡ listed (answer numbers) room
+  list-done out l e =
+      let fit : length numbers ≤ length room = le-trans (le-of-eq size-is) l in
+      let all-in = sets-eq numbers room 0 (le-trans (le-of-eq (zero-add (length numbers))) fit) in
+      (λ i. (Listed (sym size-is i), (e ∙ all-in ∙ ap (λ (k : ℕ). numbers ++ drop k room) (zero-add (length numbers))) i))
+      ∙ ap choice (sym (test-le (length numbers) (length room) fit))
 
-    pub list-done : (out : List ℕ) → 2 * n ≤ length room → out ≡ sets room 0 (numbersFrom (length xs) es xs start first) → (Listed (2 * n), out) ≡ listed (answer numbers) room
-    list-done out l e =
-        let fit : length numbers ≤ length room = le-trans (le-of-eq size-is) l in
-        let all-in = sets-eq numbers room 0 (le-trans (le-of-eq (zero-add (length numbers))) fit) in
-        (λ i. (Listed (sym size-is i), (e ∙ ap (sets room 0) numbers-are ∙ all-in ∙ ap (λ (k : ℕ). numbers ++ drop k room) (zero-add (length numbers))) i))
-        ∙ ap choice (sym (test-le (length numbers) (length room) fit))
+-- the walk from the lowest corner by the first edge is the whole
+pub whole-walk : (es xs : List ℕ) (start first : ℕ) → start ≡ lowestEnd es noEdge xs → first ≡ firstWay es start xs → numbersFrom (length xs) es xs start first ≡ wordsInOrder es xs
+unfolding wordsInOrder
+whole-walk es xs start first hs hf = ap (numbersFrom (length xs) es xs start) hf ∙ ap (λ (v : ℕ). numbersFrom (length xs) es xs v (firstWay es v xs)) hs
 
 -- ---- a face of a sound table
 

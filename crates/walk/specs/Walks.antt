@@ -92,7 +92,12 @@ pub record FaceFits (es : List ℕ) (f : ℕ) : Type 0 where
   pub none : EdgeFits es 0
   pub start : lowestEnd es noEdge (rowBoundary es f) < 512
 
--- and so are the corner and the edge that the walk begins with; the list has room for all its numbers
+-- and a list has room for all its numbers
+pub record ListFits (es : List ℕ) (f : ℕ) (room : List ℕ) : Type 0 where
+  pub face : FaceFits es f
+  pub enough : 2 * length (rowBoundary es f) ≤ length room
+
+-- and the corner and the edge that the walk begins with are numbers within the room
 pub record WalkFits (es : List ℕ) (f start first : ℕ) (room : List ℕ) : Type 0 where
   pub face : FaceFits es f
   pub corner : start < 512

@@ -20,7 +20,7 @@ ghost use Rattle.rules.specs.Replies.{listed, edgesInOrderReply};
 ghost use Rattle.space.specs.Ready.{ElementReady};
 ghost use Rattle.walk.specs.Boundaries.{rowBoundary, BoundaryFits};
 ghost use Rattle.walk.specs.Walks as words;
-ghost use Rattle.walk.specs.Walks.{hasEnd, endAcross, edgeBeside, lowestEnd, noEdge, firstWay, numbersRound, wordsInOrder, EndReady, VertexOf, FaceFits, WalkFits};
+ghost use Rattle.walk.specs.Walks.{hasEnd, endAcross, edgeBeside, lowestEnd, noEdge, firstWay, numbersRound, wordsInOrder, EndReady, VertexOf, FaceFits, ListFits, WalkFits};
 
 // No element has this number.
 const NO_EDGE: usize = 65535;
@@ -146,6 +146,16 @@ fn walk_round(elements: &[u16], f: ElementId, start: ElementId, first: ElementId
     }
 }
 
+// From the lowest vertex, first to the lower neighbour, into a list that has room for it.
+pub fn walk_face(elements: &[u16], f: ElementId, list: &mut [u16])
+    requires { ⌜ ListFits (now elements) (f .0) (now list) ⌝ }
+    ensures { λ r. ⌜ now (list .exit) ≡ sets (now (list .entry)) 0 (wordsInOrder (now (elements .entry)) (rowBoundary (now (elements .entry)) (f .0))) ⌝ }
+{
+    let start = lowest_end(elements, f);
+    let first = first_way(elements, f, start);
+    walk_round(elements, f, start, first, list);
+}
+
 // 12, and only then is the list written.
 fn face_in_order(elements: &[u16], f: ElementId, list: &mut [u16]) -> ListReply
     requires { ⌜ FaceFits (now elements) (f .0) ⌝ }
@@ -155,9 +165,7 @@ fn face_in_order(elements: &[u16], f: ElementId, list: &mut [u16]) -> ListReply
     if list.len() < 2 * n {
         return ListReply::Refused(12);
     }
-    let start = lowest_end(elements, f);
-    let first = first_way(elements, f, start);
-    walk_round(elements, f, start, first, list);
+    walk_face(elements, f, list);
     ListReply::Listed(2 * n)
 }
 
