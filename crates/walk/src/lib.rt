@@ -147,7 +147,7 @@ fn walk_round(elements: &[u16], f: ElementId, start: ElementId, first: ElementId
 }
 
 // 12, and only then is the list written.
-fn face_in_order(elements: &[u16], f: ElementId, list: &mut [u16]) -> ListReply
+pub fn face_in_order(elements: &[u16], f: ElementId, list: &mut [u16]) -> ListReply
     requires { ⌜ FaceFits (now elements) (f .0) ⌝ }
     ensures { λ r. ⌜ (r, now (list .exit)) ≡ listed (answer (wordsInOrder (now (elements .entry)) (rowBoundary (now (elements .entry)) (f .0)))) (now (list .entry)) ⌝ }
 {
