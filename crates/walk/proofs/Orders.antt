@@ -36,7 +36,7 @@ use Rattle.walk.proofs.Walking.{first-is, first-met, walk-is}
 
 -- ---- 12, or the list written
 
-two-each : (n : ℕ) (es xs : List ℕ) (v e : ℕ) → length (numbersFrom n es xs v e) ≡ 2 * n
+pub two-each : (n : ℕ) (es xs : List ℕ) (v e : ℕ) → length (numbersFrom n es xs v e) ≡ 2 * n
 unfolding numbersFrom
 two-each zero es xs v e = refl
 two-each (suc n) es xs v e =
