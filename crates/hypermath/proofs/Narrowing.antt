@@ -4,7 +4,8 @@ use Prim.Native.Nat.{ℕ, zero, suc, _+_, _-_, _*_, _/_, _%_, _^_, _≤_, _<_, c
 use mathlib.Core.Bool.{Bool, true, false, not, cond, false≢true, true≢false}
 use mathlib.Core.Logic.{_⊎_, inl, inr}
 use mathlib.Core.Path.{_≡_, refl, sym, ap, _∙_, subst}
-use native.Mathlib.Nat.{le-refl, le-trans, le-of-eq, le-antisymm, zero-add, lt-of-lt-of-le, lt-of-le-of-lt, lt-of-not-le, not-le-of-lt, lt-suc-self, lt-irrefl, le-of-suc-le-suc, le-of-mul-le-mul-right, mod-lt, eq-or-lt-of-le, add-assoc, suc-add, mul-one, mul-assoc, mul-pos, suc-mul, mul-le-mul-right, mul-div-cancel, div-one, div-le-self, div-eq-of-lt, mod-eq-of-lt, le-div-iff-mul-le, two-pow-succ}
+use native.Mathlib.Nat.{le-refl, le-trans, le-of-eq, le-antisymm, zero-add, lt-of-lt-of-le, lt-of-le-of-lt, lt-of-not-le, not-le-of-lt, lt-suc-self, lt-irrefl, le-of-suc-le-suc, le-of-mul-le-mul-right, mod-lt}
+use native.Mathlib.Nat.{eq-or-lt-of-le, add-assoc, suc-add, mul-one, mul-assoc, mul-pos, suc-mul, mul-le-mul-right, mul-div-cancel, div-one, div-le-self, div-eq-of-lt, mod-eq-of-lt, le-div-iff-mul-le, two-pow-succ}
 use native.Mathlib.Omega.{arith}
 use lib.Dec.{isLe, isEq, leb, ltb, eqb}
 use lib.Arith.{add-le-cancel-left}

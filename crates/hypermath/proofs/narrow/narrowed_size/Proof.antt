@@ -76,7 +76,8 @@ returns-4 : tie.Need-returns-4
 returns-4 c =
     let a = c .before .before .before .before .before .args in
     record {
-      is = ap (λ (z : ℕ). (a .field - 897) * 2 ^ 23 + z) (c .rounded2 .ensures .is ∙ ap (closest (withLeading (a .digits))) (c .before .unit-of2 .ensures)) ∙ sym (size-normal (a .field) (a .digits) (omega arith) (omega arith) (omega arith));
+      is = ap (λ (z : ℕ). (a .field - 897) * 2 ^ 23 + z) (c .rounded2 .ensures .is ∙ ap (closest (withLeading (a .digits))) (c .before .unit-of2 .ensures))
+          ∙ sym (size-normal (a .field) (a .digits) (omega arith) (omega arith) (omega arith));
       below = omega (arith, c .rounded2 .ensures .below);
     }
 
