@@ -20,6 +20,7 @@ ghost use Rattle.rules.specs.Held.{memoryOf};
 ghost use Rattle.rules.specs.CutLists.{mostCuts, cutListReply, answersWritten};
 ghost use Rattle.rules.specs.Areas.{areasReply};
 ghost use Rattle.rules.specs.Files.{saveReply, openReply};
+ghost use Rattle.rules.specs.Print.{printReply};
 ghost use Rattle.rules.specs.Replies.{isSoundReply, cubeReply, cutBy, cutReply, subElementsReply, withRankReply, vertexSetReply, greatestCommonReply, edgesInOrderReply, primordialFacetReply};
 ghost use Rattle.rules.specs.Touch.{touchValue, touchReply};
 ghost use Rattle.space.specs.Numbers.{NumberBelow};
@@ -382,4 +383,27 @@ pub extern "C" fn desk_open(
         openReply desk (now (file .entry)) (memoryOf (now (counts .entry)) (now (points .entry)) (now (planes .entry)) (now (elements .entry))) ⌝ }
 {
     files::open::open(counts, points, planes, elements, file) as u32
+}
+
+// As saving replies.
+#[no_mangle]
+pub extern "C" fn desk_stl(
+    counts: &[u16],
+    points: &[f64],
+    planes: &[f64],
+    elements: &[u16],
+    root: u32,
+    file: &mut [u8],
+) -> u64
+    ensures { λ r. ⌜ (r, now (file .exit)) ≡ listWord (printReply desk (memoryOf (now (counts .entry)) (now (points .entry)) (now (planes .entry)) (now (elements .entry))) root (now (file .entry))) ⌝ }
+{
+    let reply = print::stl(
+        counts,
+        points,
+        planes,
+        elements,
+        ElementId(root as usize),
+        file,
+    );
+    list_word(reply) as u64
 }
