@@ -1,6 +1,7 @@
 // The answer of the record that we are at: cutlist's line with a name under each number, and what it means.
 import { NEAR, ON, closely } from "./close.js";
 import { $, escaped, html } from "./dom.js";
+import { clickWords } from "./every.js";
 import { STATES, meaning } from "./meaning.js";
 import { lineOf } from "./session.js";
 
@@ -33,7 +34,7 @@ const warning = ({ close }) => `<strong>${html(closely(close))}</strong> A corne
 
 export const answer = {
     changed(desk) {
-        const { step, history, live, aside } = desk;
+        const { step, history, live, aside, clicked } = desk;
         if (!step) return;
         aside.restore(live.bytes);
         const { places, says } = meaning({ ...step, table: live, copy: aside });
@@ -46,5 +47,7 @@ export const answer = {
         $("places").innerHTML = places.map(place).join("");
         $("answerwarns").innerHTML = step.reply.warning ? warning(step) : "";
         $("says").innerHTML = says.map(text => `<p>${html(text)}</p>`).join("");
+        $("clicksays").innerHTML = clicked ? clickWords(clicked, desk).map(text => `<p>${html(text)}</p>`).join("") : "";
+        $("clicksays").classList.toggle("refused", Boolean(clicked?.stopped));
     },
 };

@@ -2,9 +2,10 @@
 import { TABLE_BYTES, Table } from "./table.js";
 import { fits, load } from "./engine.js";
 import { FILE_BYTES, FileRoom } from "./file.js";
-import { ask, bytesOf, printed, turns } from "./session.js";
+import { ask, askAll, bytesOf, printed, turns } from "./session.js";
 import { History } from "./history.js";
 import { Bench } from "./bench.js";
+import { everyPiece } from "./every.js";
 import { openingOf } from "./opened.js";
 import { previewOf } from "./preview.js";
 import { NOTHING, stepOf } from "./step.js";
@@ -30,6 +31,8 @@ class Desk {
         this.look = { ...VIEW, numbers: "both" };
         this.pointed = null;
         this.preview = null;
+        this.touch = null; // the sides of the plane that the chosen element has corners on
+        this.click = null; // the last that was many cuts
         this.panels = [];
     }
 
@@ -45,6 +48,11 @@ class Desk {
         return this.step?.bench ?? new Bench();
     }
 
+    // the click that ends with the record that we are at, if one does
+    get clicked() {
+        return [this.step?.click, this.click].find(click => click && click.end === this.step) ?? null;
+    }
+
     get radius() {
         return this.history.beginning?.record.radius ?? 1;
     }
@@ -52,7 +60,7 @@ class Desk {
     // ---- telling the panels: `changed` after a record or a step, `aimed` when the plane moved, `looked` when the view did
 
     tell(what) {
-        if (what !== "looked" && what !== "pointed") this.preview = this.previewNow();
+        if (what !== "looked" && what !== "pointed") Object.assign(this, { preview: this.previewNow(), touch: this.touchNow() });
         for (const panel of this.panels) panel[what]?.(this);
     }
 
@@ -71,10 +79,15 @@ class Desk {
         return this.stands ? previewOf(this.live, this.trial, this.asked()) : null;
     }
 
+    // asked of the table that stands, for nothing is cut
+    touchNow() {
+        return this.stands ? this.live.touch(this.asked()) : null;
+    }
+
     // ---- records
 
-    take(record, reply, line, before) {
-        this.history.take(stepOf(this, { record, reply, line, before }));
+    take(record, reply, line, before, click) {
+        this.history.take(stepOf(this, { record, reply, line, before, click }));
     }
 
     make(record) {
@@ -98,6 +111,36 @@ class Desk {
         if (!this.stands || !fits(this.aim.root, 16)) return;
         this.make(this.asked());
         this.tell("changed");
+    }
+
+    // a list of cuts in one call. Its answers are the records' replies; the table after each of them is told by the same cuts, one by one
+    makeAll(records, click) {
+        const before = this.live.bytes.slice();
+        const given = askAll(this.live, records);
+        const after = this.live.bytes.slice();
+        const replies = given.at === null ? given.answers : [...given.answers, { number: given.number }];
+        this.live.restore(before);
+        for (const [i, reply] of replies.entries()) {
+            const { sizes } = this.live;
+            ask(this.live, records[i]);
+            this.take(records[i], reply, printed(records[i], reply, this.live.sizes), sizes, click);
+        }
+        this.live.restore(after);
+        return given;
+    }
+
+    // planes over every piece on the bench: { name, planes, kept }
+    cutEvery(asked) {
+        if (!this.stands || this.bench.pieces.length === 0) return;
+        this.click = everyPiece(this, asked);
+        this.click.end = this.step;
+        this.aimNext();
+        this.tell("changed");
+    }
+
+    cutEveryPiece() {
+        const { kept, normal, distance } = this.aim;
+        this.cutEvery({ name: "This plane", planes: [{ normal, distance }], kept });
     }
 
     // a session of its own; the one before it is kept, to go back to
@@ -167,11 +210,11 @@ class Desk {
 
     by(steps) {
         if (!this.history.can(steps)) return;
-        const undone = steps === -1 ? this.step.record : null;
-        this.history.go(this.history.at + steps);
+        const { record, click } = steps === -1 ? this.step : {};
+        this.history.go(this.history.next(steps));
         this.live.restore(this.step.bytes);
         this.aimNext();
-        if (undone?.kind === "cut" && undone.normal.length === this.live.dimension) Object.assign(this.aim, aimOf(undone, true));
+        if (record?.kind === "cut" && record.normal.length === this.live.dimension) Object.assign(this.aim, aimOf(click?.aim ?? record, true));
         this.tell("changed");
     }
 

@@ -21,6 +21,14 @@ export class History {
         return this.at + by >= 0 && this.at + by < this.steps.length;
     }
 
+    // where a step of undo or redo leads: the cuts of one click are one step
+    next(by) {
+        let to = this.at + by;
+        const click = (by < 0 ? this.step : this.steps[to])?.click;
+        while (click && this.steps[to + Math.max(0, by)]?.click === click) to += by;
+        return to;
+    }
+
     go(to) {
         this.at = Math.max(0, Math.min(this.steps.length - 1, to));
     }

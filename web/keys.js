@@ -3,6 +3,7 @@ import { spoken } from "./close.js";
 import { $ } from "./dom.js";
 import { anglesOf, axis, normalOf, rounded } from "./plane.js";
 import { KEPT } from "./session.js";
+import { spokenTouch } from "./touch.js";
 
 function turned({ live, aim }, i, by) {
     if (live.dimension === 1) return { normal: [-aim.normal[0]] };
@@ -49,7 +50,8 @@ const LOOKING = {
 function inDrawing(event, desk) {
     if (event.ctrlKey || event.metaKey || event.altKey || !desk.stands) return;
     const key = event.key.length === 1 ? event.key.toLowerCase() : event.key;
-    if (key === "Enter") desk.cut();
+    if (key === "Enter" && event.shiftKey) desk.cutEveryPiece();
+    else if (key === "Enter") desk.cut();
     else if (AIMING[key]) desk.aimAt(AIMING[key](desk, event.shiftKey));
     else if (LOOKING[key]) desk.lookFrom(LOOKING[key](desk));
     else return;
@@ -73,12 +75,12 @@ function everywhere(event, desk) {
 const REST = 400;
 let resting = 0;
 
-function say({ aim, preview }) {
+function say({ aim, preview, touch }) {
     clearTimeout(resting);
     if (document.activeElement !== $("drawing") || !preview) return;
     const where = `normal ${aim.normal.map(rounded).join(", ")}, distance ${aim.distance}`;
     const close = preview.reply.warning ? `; ${spoken(preview.close)}` : "";
-    resting = setTimeout(() => ($("said").textContent = `element ${aim.root}, ${where}, keep ${aim.kept}: would print ${preview.line}${close}`), REST);
+    resting = setTimeout(() => ($("said").textContent = `element ${aim.root}, ${where}, keep ${aim.kept}: would print ${preview.line}; ${spokenTouch(touch)}${close}`), REST);
 }
 
 export const keys = {

@@ -44,9 +44,13 @@ async function start(desk, i) {
     $("lessonnext").focus({ preventScroll: true });
 }
 
-function row({ record, line }, i, at) {
+// what is done off the lesson's path stands there too; a click of many cuts as one step, its last
+const isStep = ({ click }, i, steps) => !click || steps[i + 1]?.click !== click;
+
+function row({ record, line, click }, i, at) {
     const state = i < at ? "done" : i === at ? "now" : "to come";
-    return `<li class="${state === "to come" ? "later" : state}"${i === at ? ' aria-current="step"' : ""}><code>${escaped(lineOf(record))}</code>` +
+    const asked = click ? `${click.name}: ${click.cuts} cuts` : lineOf(record);
+    return `<li class="${state === "to come" ? "later" : state}"${i === at ? ' aria-current="step"' : ""}><code>${escaped(asked)}</code>` +
         `<code class="gives">${i <= at ? escaped(line) : "?"}</code></li>`;
 }
 
@@ -61,7 +65,7 @@ export const lesson = {
             if (button) start(desk, Number(button.dataset.lesson));
         };
         $("lessonnext").onclick = () => desk.by(1);
-        $("lessonback").onclick = () => desk.go(desk.history.at - 1);
+        $("lessonback").onclick = () => desk.go(desk.history.next(-1));
         $("lessonleave").onclick = () => {
             desk.lesson = null;
             desk.tell("changed");
@@ -75,8 +79,9 @@ export const lesson = {
         if (i === null) return;
         const { title, paragraphs } = parts[i];
         $("lessontitle").textContent = `${i + 1}. ${title}`;
-        $("lessonsteps").innerHTML = history.steps.map((step, k) => row(step, k, history.at)).join("");
-        $("lessonat").textContent = `step ${history.at + 1} of ${history.steps.length}`;
+        const steps = history.steps.map((step, k, all) => (isStep(step, k, all) ? { k, html: row(step, k, history.at) } : null)).filter(Boolean);
+        $("lessonsteps").innerHTML = steps.map(({ html }) => html).join("");
+        $("lessonat").textContent = `step ${steps.filter(({ k }) => k <= history.at).length} of ${steps.length}`;
         $("lessontext").innerHTML = paragraphs.map(paragraph).join("");
         enable($("lessonnext"), history.can(1));
         enable($("lessonback"), history.can(-1));

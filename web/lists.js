@@ -29,46 +29,47 @@ function entry(list, n, { looks, says, chosen = null }, content) {
     return `<li class="${looks}" data-${list}="${n}" tabindex="-1" role="option"${selected} aria-label="${says}">${content}</li>`;
 }
 
-function elementRow(desk, e, isAdded) {
+function elementRow(desk, e, added) {
     const { live, aim, step } = desk;
     const { rank, vertex, boundary, hyperplane, primordial } = live.element(e);
     const places = Object.keys(PLACES).filter(place => step.reply[place] === e);
     const marks = places.map(place => `<i class="mark ${place}">${PLACES[place]}</i>`).join(" ");
-    const isLit = places.length > 0 && !isAdded;
+    const isLit = places.length > 0 && !added;
     const old = isLit ? ' <i class="mark old">old entry</i>' : "";
     const what = rank === 0 ? tag("v", vertex) : boundary.map(b => tag("E", b)).join(" ");
     const mark = primordial ? ' <abbr title="primordial">prim.</abbr>' : "";
     const where = hyperplane === null ? "" : ` <span class="in">in ${tag("h", hyperplane)}${mark}</span>`;
     const says = [`element ${e}`, RANKS[rank], rank === 0 ? `vertex ${vertex}` : `boundary elements ${boundary.join(", ")}`,
         ...(hyperplane === null ? [] : [`in hyperplane ${hyperplane}${primordial ? ", primordial" : ""}`]),
-        ...places.map(place => `${PLACES[place]} of the answer`), ...(isAdded ? ["added by this record"] : isLit ? ["an old entry"] : [])].join(", ");
-    const looks = `${isAdded ? "added" : ""}${isLit ? " lit" : ""}${aim.root === e ? " chosen" : ""}`;
+        ...places.map(place => `${PLACES[place]} of the answer`), ...(added ? [added] : isLit ? ["an old entry"] : [])].join(", ");
+    const looks = `${added ? "added" : ""}${isLit ? " lit" : ""}${aim.root === e ? " chosen" : ""}`;
     return entry("e", e, { looks, says, chosen: aim.root === e },
         `${tag("E", e)}<span class="rank">${RANKS[rank]}</span><span class="what">${what}${where} ${marks}${old}</span>`);
 }
 
-function rows(size, before, row) {
-    const parting = `<li class="parting" role="presentation">added by this record: ${size - before}</li>`;
-    return Array.from({ length: size }, (_, n) => (n === before && before > 0 ? parting : "") + row(n, n >= before && before > 0)).join("");
+// each row with the words for what is new, or none; `from` is how many entries were there before, and by what the others came
+function rows(size, { before, words }, row) {
+    const parting = `<li class="parting" role="presentation">${words}: ${size - before}</li>`;
+    return Array.from({ length: size }, (_, n) => (n === before && before > 0 ? parting : "") + row(n, n >= before && before > 0 ? words : "")).join("");
 }
 
-function vertexRows({ live }, before) {
+function vertexRows({ live }, from) {
     const points = Array.from({ length: live.sizes.vertices }, (_, v) => live.vertex(v));
     const [texts, corners] = [toldApart(points), live.cornerElements()];
-    return rows(points.length, before, (v, isAdded) => {
-        const says = `vertex ${v}, at ${exact(points[v])}, is element ${corners[v]}${isAdded ? ", added by this record" : ""}`;
-        return entry("v", v, { looks: isAdded ? "added" : "", says },
+    return rows(points.length, from, (v, added) => {
+        const says = `vertex ${v}, at ${exact(points[v])}, is element ${corners[v]}${added ? `, ${added}` : ""}`;
+        return entry("v", v, { looks: added ? "added" : "", says },
             `${tag("v", v)}<span class="numbers" title="${exact(points[v])}">${texts[v]}</span><span class="is">is ${tag("E", corners[v])}</span>`);
     });
 }
 
-function hyperplaneRows({ live }, before) {
+function hyperplaneRows({ live }, from) {
     const planes = Array.from({ length: live.sizes.hyperplanes }, (_, h) => live.hyperplane(h)).map(({ normal, distance }) => [...normal, distance]);
     const texts = toldApart(planes);
-    return rows(planes.length, before, (h, isAdded) => {
+    return rows(planes.length, from, (h, added) => {
         const [normal, distance] = [texts[h].split(", ").slice(0, -1).join(", "), texts[h].split(", ").at(-1)];
         const says = `hyperplane ${h}, normal ${exact(planes[h].slice(0, -1))}, distance ${plain(planes[h].at(-1))}`;
-        return entry("h", h, { looks: isAdded ? "added" : "", says: says + (isAdded ? ", added by this record" : "") },
+        return entry("h", h, { looks: added ? "added" : "", says: says + (added ? `, ${added}` : "") },
             `${tag("h", h)}<span class="numbers" title="${exact(planes[h])}">${normal} <span class="at">at</span> ${distance}</span>`);
     });
 }
@@ -113,12 +114,13 @@ export const lists = {
     },
 
     changed(desk) {
-        const { live, step: { record, reply, before, after } } = desk;
+        const { live, clicked, step: { record, reply, before, after } } = desk;
         const isCut = record.kind === "cut" && reply.number === 0;
-        const from = isCut ? before : after;
-        $("elements").innerHTML = rows(live.sizes.elements, from.elements, (e, isAdded) => elementRow(desk, e, isAdded));
-        $("vertices").innerHTML = vertexRows(desk, from.vertices);
-        $("hyperplanes").innerHTML = hyperplaneRows(desk, from.hyperplanes);
+        const sizes = clicked?.before ?? (isCut ? before : after);
+        const from = list => ({ before: sizes[list], words: `added by this ${clicked ? "click" : "record"}` });
+        $("elements").innerHTML = rows(live.sizes.elements, from("elements"), (e, added) => elementRow(desk, e, added));
+        $("vertices").innerHTML = vertexRows(desk, from("vertices"));
+        $("hyperplanes").innerHTML = hyperplaneRows(desk, from("hyperplanes"));
         for (const id of LISTS) {
             $(`${id}count`).textContent = `${live.sizes[id]} of ${ROOM[id]}`;
             $(id).querySelector("li:not(.parting)")?.setAttribute("tabindex", "0");

@@ -63,11 +63,11 @@ function face(answer) {
 }
 
 // what was added between two sizes of the table, in a sentence
-function added(before, after) {
+export function addedWords(before, after, why = ": all that this cut needs is in the table already") {
     const parts = [["E", "elements", "element"], ["v", "vertices", "vertex"], ["h", "hyperplanes", "hyperplane"]]
         .filter(([, list]) => after[list] > before[list])
         .map(([letter, list, one]) => `${count(after[list] - before[list], one, list)}, ${runs(letter, before[list], after[list])}`);
-    if (parts.length === 0) return "Nothing was added: all that this cut needs is in the table already.";
+    if (parts.length === 0) return `Nothing was added${why}.`;
     const text = parts.length === 1 ? parts[0] : `${parts.slice(0, -1).join("; ")}; and ${parts.at(-1)}`;
     return `Added to the table: ${text}. No old entry was changed or taken away.`;
 }
@@ -93,7 +93,7 @@ export function meaning(answer) {
         return { places: [], says: [refusal(reply.number, record, table), "A refused record leaves the table as it was."] };
     if (record.kind === "cube") return { places: [], says: cubeSays(answer) };
     if (record.kind === "open") return { places: [], says: openSays(answer) };
-    const says = [added(before, after)];
+    const says = [addedWords(before, after)];
     if (reply.flush) return { places: [], says: [`${E(record.root)} lies in the plane: it is flush, and neither side can be told.`, ...says] };
     return {
         places: [

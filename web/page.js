@@ -8,15 +8,17 @@ import { partsOf, lesson } from "./lesson.js";
 import { aim, number } from "./aim.js";
 import { answer } from "./answer.js";
 import { facets } from "./facets.js";
+import { grid } from "./grid.js";
 import { keys } from "./keys.js";
 import { lists } from "./lists.js";
 import { questions } from "./questions.js";
 import { records } from "./records.js";
 import { saving } from "./saving.js";
 import { sheet } from "./sheet.js";
+import { touch } from "./touch.js";
 import { view } from "./view.js";
 
-const PANELS = [facets, view, aim, answer, lists, lesson, records, saving, questions, sheet, keys];
+const PANELS = [facets, view, aim, touch, answer, lists, lesson, records, saving, grid, questions, sheet, keys];
 
 async function fetched(name) {
     const response = await fetch(name);

@@ -36,9 +36,14 @@ export function openSession(desk, bytes) {
 // cutlist has no record that opens a table, so its records are read only where that table stands
 const goesOn = ({ name }) => `These records go on from the table of ${name}. Open that first, and then them; cutlist has no table for them.`;
 
-const row = ({ record, reply, line }, i, at) =>
-    `<li class="${i === at ? "now" : i > at ? "later" : ""}${record.kind === "open" ? " opened" : ""}"><button type="button" data-step="${i}"${i === at ? ' aria-current="step"' : ""}>` +
-    `<code>${escaped(lineOf(record))}</code>${reply.warning ? '<i class="mark close">close call</i>' : ""}<code class="gives">${escaped(line)}</code></button></li>`;
+// the cuts of one click stand beside a line, and the first of them has its name
+const clickMark = ({ click }, i, steps) => (click && steps[i - 1]?.click !== click ? `<i class="mark click">${escaped(click.name)}: one click</i>` : "");
+
+const row = (step, i, steps, at) => {
+    const { record, reply, line, click } = step;
+    return `<li class="${i === at ? "now" : i > at ? "later" : ""}${record.kind === "open" ? " opened" : ""}${click ? " ofclick" : ""}"><button type="button" data-step="${i}"${i === at ? ' aria-current="step"' : ""}>` +
+        `<code>${escaped(lineOf(record))}</code>${clickMark(step, i, steps)}${reply.warning ? '<i class="mark close">close call</i>' : ""}<code class="gives">${escaped(line)}</code></button></li>`;
+};
 
 export const records = {
     wire(desk) {
@@ -63,7 +68,7 @@ export const records = {
     },
 
     changed({ history, earlier }) {
-        $("history").innerHTML = history.steps.map((step, i) => row(step, i, history.at)).join("");
+        $("history").innerHTML = history.steps.map((step, i, steps) => row(step, i, steps, history.at)).join("");
         $("lines").value = linesOf(history.records());
         $("goeson").textContent = history.opened ? goesOn(history.opened.record) : "";
         enable($("undo"), history.can(-1));

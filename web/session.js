@@ -108,11 +108,18 @@ export function checksum(bytes) {
 
 // ---- what is asked of the engine for a record, and the line that is printed
 
+function cutOf(record, kept = record.kept) {
+    const sides = KEPT.indexOf(kept);
+    return { ...record, inside: (sides & 1) !== 0, outside: (sides & 2) !== 0 };
+}
+
 export function ask(table, record, kept = record.kept) {
     if (record.kind === "cube") return { number: table.cube(record.dimension, record.radius) };
-    const sides = KEPT.indexOf(kept);
-    return table.cut({ ...record, inside: (sides & 1) !== 0, outside: (sides & 2) !== 0 });
+    return table.cut(cutOf(record, kept));
 }
+
+// cuts as one list
+export const askAll = (table, records) => table.cutAll(records.map(record => cutOf(record)));
 
 export function printed(record, reply, { elements, vertices, hyperplanes }) {
     const counts = [elements, vertices, hyperplanes];

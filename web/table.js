@@ -45,6 +45,14 @@ export class Table {
         return this.engine.cut(this.lent, asked);
     }
 
+    cutAll(asked) {
+        return this.engine.cutAll(this.lent, asked);
+    }
+
+    touch(asked) {
+        return this.engine.touch(this.lent, asked);
+    }
+
     // one of the six questions, by its name, with its reply's number
     ask(question, ...words) {
         return this.engine[question](this.lent, ...words);

@@ -31,9 +31,10 @@ export async function checkBroken(checks, chromium) {
             ["refused 3", ["The table is not sound, or its room has another size.", "A refused record leaves the table as it was."]]);
         checks.same(`${name}: not saved, not opened`, await hands.run(`(async () => [desk.save(), await desk.open("none.table", Uint8Array.from([${[...NO_ELEMENTS]}]))])()`), [{ number: 3 }, 3]);
         await hands.press("#cut");
+        await hands.press("#grid2");
         await hands.press('[data-lesson="0"]');
         await hands.press("#lessonnext");
-        checks.same(`${name}: no answer`, [await hands.printed(), await hands.count(".lists li"), await hands.count("#drawing *"), await hands.would()], ["refused 3\n", 0, 0, ""]);
+        checks.same(`${name}: no answer`, [await hands.printed(), await hands.count(".lists li"), await hands.count("#drawing *"), await hands.would(), await hands.text("#touch")], ["refused 3\n", 0, 0, "", ""]);
         await hands.toSheet();
         checks.same(`${name}: no sheet`, await hands.text("#sheet"), "There is no table, so there is no sheet.");
         checks.same(`${name}: no error`, page.errors, []);

@@ -6,18 +6,11 @@ import { load } from "../engine.js";
 import { partsOf } from "../lesson.js";
 import { ask, bytesOf, lineOf, recordsOf, turns } from "../session.js";
 import { TABLE_BYTES, Table } from "../table.js";
+import { T, signed } from "./signed.mjs";
 
-const T = 2 ** -20;
 const OFFSETS = [0, T, T + 2 ** -52, 8 * T, 16 * T, 16 * T + 2 ** -52, 1 / 64].flatMap(far => [far, -far]);
 const NORMALS = { 1: [[1], [-1]], 2: [[1, 0], [0.8, -0.6]], 3: [[0, 0, 1], [0.6, 0, 0.8]], 4: [[0, 1, 0, 0], [0.5, -0.5, 0.5, 0.5]] };
 const BEGUN = ["cube 1 1", "cube 2 1\ncut both 8 0.8 -0.6 0.2", "cube 3 1\ncut both 26 0.6 0.8 0 0.1", "cube 4 1\ncut both 80 1 0 0 0 0.25"];
-
-// document 01's signed distance: the products in the order of the axes, and then the plane's distance
-function signed(normal, distance, point) {
-    let sum = 0;
-    for (let axis = 0; axis < normal.length; axis++) sum += normal[axis] * point[axis];
-    return sum - distance;
-}
 
 const isClose = s => Math.abs(s) > T && Math.abs(s) <= 16 * T;
 
@@ -91,7 +84,7 @@ const NOTHING = ["", 0, true];
 async function checkAimed(checks, hands) {
     await hands.start(2);
     await aimAt(hands, [0.8, -0.6], 0.15);
-    checks.same("well away: nothing is said", await shown(hands), NOTHING);
+    checks.same("well away: nothing is said", [...await shown(hands), await hands.run("document.querySelector('#warns').offsetHeight")], [...NOTHING, 0]);
     await hands.type("#distance", "0.199992");
     checks.same("before it is made", await shown(hands), [`${CALL} ${ADVICE}`, 1, false]);
     checks.same("the table is as it was", [await hands.line(), await hands.count("#elements li[data-e]")], ["cube 9 4 4", 9]);

@@ -24,6 +24,7 @@ async function checkTabs(checks, hands) {
         seen.add(name);
     }
     for (const name of ["shape", "radius", "newsession", "addcube", "undo", "redo", "savetable", "opentable", "numbers", "apart", "front", "drawing", "distance", "slide", "kept", "root", "cut",
+        "grid2", "grid3", "cutevery", "planes", "addplane", "cutplanes",
         "history", "savebytes", "savelines", "open", "lines", "run", "question", "questionroots", "print"])
         checks.holds(`${name} is reached`, seen.has(name) || (name === "history" && seen.has("BUTTON")));
     const rows = await hands.run("['elements', 'vertices', 'hyperplanes'].map(id => document.querySelectorAll(`#${id} [tabindex=\"0\"]`).length)");

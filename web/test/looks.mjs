@@ -31,7 +31,7 @@ export async function checkLooks(checks, hands) {
         await page.media(["prefers-color-scheme", scheme], ["prefers-reduced-motion", "reduce"]);
         await hands.press('[data-lesson="1"]');
         await hands.press("#lessonnext");
-        await hands.press("#lessonnext");
+        await hands.press("#grid2");
         await hands.toSheet();
         const { count, low } = await hands.run(CONTRASTS);
         checks.same(`${scheme}: contrast of ${count} texts`, [count > 100, low], [true, []]);
@@ -53,6 +53,7 @@ export async function checkLooks(checks, hands) {
             checks.same(`${name}, ${dimension} dimensions: no part lies over another`, over, 0);
             checks.holds(`${name}, ${dimension} dimensions: there is a drawing`, await hands.run("document.querySelector('#drawing').clientHeight >= 120"));
         }
+    checks.same("a phone shows every lesson's button", await hands.run("[...document.querySelectorAll('#lessons button')].filter(part => part.getBoundingClientRect().right > innerWidth).length"), 0);
     await page.size(1024, 768);
     await hands.press('[data-lesson="1"]');
     const low = await hands.run("['#drawing', '#cut', '#line', '#elements'].map(id => document.querySelector(id).getBoundingClientRect()).filter(({ top, bottom, height }) => top < 0 || height < 20 || bottom > 770).length");

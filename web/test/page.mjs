@@ -6,6 +6,7 @@ import { browser, serve } from "./browser.mjs";
 import { checkBroken } from "./broken.mjs";
 import { Checks } from "./check.mjs";
 import { checkClose } from "./close.mjs";
+import { checkEvery } from "./every.mjs";
 import { checkCuts, checkDimensions, checkHand, checkRefusals } from "./desk.mjs";
 import { Hands } from "./hands.mjs";
 import { checkKeys, checkNames } from "./keys.mjs";
@@ -14,9 +15,10 @@ import { checkDrag, checkLooks } from "./looks.mjs";
 import { checkRandom } from "./random.mjs";
 import { checkSaving } from "./saving.mjs";
 import { checkCutlist, checkSessions, checkSheet } from "./session.mjs";
+import { checkTouch } from "./touch.mjs";
 
 const PARTS = [checkLesson, checkWords, checkCuts, checkHand, checkDimensions, checkRefusals, checkKeys, checkNames, checkSessions, checkCutlist,
-    checkSheet, checkClose, checkSaving, checkLooks, checkDrag, checkRandom];
+    checkSheet, checkClose, checkSaving, checkTouch, checkEvery, checkLooks, checkDrag, checkRandom];
 
 const [program, ...parts] = process.argv.slice(2);
 const isAsked = part => parts.length === 0 || parts.includes(part.name);

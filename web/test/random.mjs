@@ -20,7 +20,7 @@ const ACTIONS = `(async count => {
     const actions = [
         () => { shape("1"); press("#newsession"); },
         () => { shape(one("1", "2", "0.5", "65536", "x")); press("#addcube"); },
-        () => press("#undo"), () => press("#redo"), () => press("#earlier"),
+        () => press("#undo"), () => press("#redo"), () => { press("#undo"); press("#redo"); }, () => press("#earlier"),
         () => one(...document.querySelectorAll("#lessons button")).click(),
         () => desk.stands && desk.open("random.table", desk.save().file),
         async () => wrong.push(...[await desk.open("broken.table", desk.save().file?.slice(any(9)) ?? [])].filter(number => number !== 0 && number !== 13)),
@@ -29,6 +29,7 @@ const ACTIONS = `(async count => {
         () => desk.aimAt({ distance: one(Infinity, -Infinity, NaN, 1e300) }),
         () => document.querySelector(one("#sheetpart", ".top")).scrollIntoView(),
         () => desk.pointAt({ list: one("e", "v", "h"), n: any(60) }),
+        () => press(one("#grid2", "#grid3", "#cutevery")),
         ...Array(11).fill(() => { aim(); if (any(3) > 0) press("#cut"); }),
     ];
     const wrong = [], kinds = new Set();
