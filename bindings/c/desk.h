@@ -330,6 +330,13 @@ struct desk_sheet {
     int64_t areas[DESK_LONGEST_SHEET];
 };
 
+/* Adds a piece to a sheet: 0, or 26 where it is full. A number has 16 bits there, so one that has more becomes 65,535, which is in no table. */
+static inline uint32_t desk_sheet_add(struct desk_sheet *sheet, uint32_t piece) {
+    if (sheet->count >= DESK_MOST_PIECES) return DESK_REFUSED_LIST_LONG;
+    sheet->pieces[sheet->count++] = piece < 0xffff ? (uint16_t)piece : 0xffff;
+    return DESK_DONE;
+}
+
 /* Reads count and pieces, and writes areas: so many as there are pieces, then their count and the sum of sizes. */
 static inline uint32_t desk_table_areas(const struct desk_table *table, struct desk_sheet *sheet) {
     return desk_areas(DESK_LENT(table), sheet->pieces, sheet->count, sheet->areas, DESK_LONGEST_SHEET);

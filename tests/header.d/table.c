@@ -244,9 +244,17 @@ static int areas(void) {
     HOLDS(desk_table_areas(&table, &sheet) == DESK_REFUSED_RANK);
     sheet.pieces[0] = 600;
     HOLDS(desk_table_areas(&table, &sheet) == DESK_REFUSED_NOT_IN_USE);
+    sheet.count = 0;
+    HOLDS(desk_sheet_add(&sheet, 65544) == DESK_DONE && sheet.pieces[0] == 0xffff);
+    for (int i = 1; i < DESK_MOST_PIECES; i++) HOLDS(desk_sheet_add(&sheet, 8) == DESK_DONE);
+    HOLDS(desk_sheet_add(&sheet, 8) == DESK_REFUSED_LIST_LONG && sheet.count == DESK_MOST_PIECES && sheet.pieces[15] == 8);
+    HOLDS(desk_table_areas(&table, &sheet) == DESK_REFUSED_NOT_IN_USE);
+    sheet.pieces[0] = 17;
+    HOLDS(desk_table_areas(&table, &sheet) == 18 << 8 && sheet.areas[16] == 16 && desk_sum_of_sizes(&sheet) == 124 << 20);
+    sheet.count = 2;
     uint64_t cut = at_x(1.0 / 2048, DESK_KEEP_BOTH, 8);
     sheet.pieces[0] = 8, sheet.pieces[1] = desk_inside(cut);
-    HOLDS(desk_table_areas(&table, &sheet) == DESK_REFUSED_OFF_GRID && sheet.areas[0] == 0);
+    HOLDS(desk_table_areas(&table, &sheet) == DESK_REFUSED_OFF_GRID && sheet.areas[16] == 16);
     HOLDS(desk_areas(DESK_LENT(&table), sheet.pieces, 1, sheet.areas, 2) == DESK_REFUSED_ROOM_SHORT);
     HOLDS(desk_table_cube(&table, 3, 1.0) == DESK_DONE);
     sheet.count = 0;
