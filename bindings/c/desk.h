@@ -103,7 +103,7 @@ extern "C" {
     each(12, ROOM_SHORT, "the room for the list or the file is too short")                                    \
     each(13, LAYOUT, "the bytes are not laid out as a file")                                                  \
     each(16, PRIMORDIAL_FACET, "the piece has a primordial facet")                                            \
-    each(25, OFF_GRID, "a coordinate is not a multiple of 1/1,024")                                           \
+    each(25, OFF_GRID, "a coordinate of a piece is no multiple of 1/1,024")                                   \
     each(26, LIST_LONG, "the list has more than its limit, or its parts do not belong together")
 
 #define DESK_NAMED(number, name, words) DESK_REFUSED_##name = number,

@@ -48,7 +48,7 @@ refusals! {
     12 ROOM_SHORT "the room for the list or the file is too short"
     13 LAYOUT "the bytes are not laid out as a file"
     16 PRIMORDIAL_FACET "the piece has a primordial facet"
-    25 OFF_GRID "a coordinate is not a multiple of 1/1,024"
+    25 OFF_GRID "a coordinate of a piece is no multiple of 1/1,024"
     26 LIST_LONG "the list has more than its limit, or its parts do not belong together"
 }
 
