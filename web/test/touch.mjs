@@ -109,7 +109,7 @@ async function checkMoved(checks, hands) {
     const long = await hands.run("(xs => (Math.max(...xs) - Math.min(...xs)) / 3)([...document.querySelectorAll('.axes line')].map(line => Number(line.getAttribute('x1'))))");
     const { x, y } = await hands.middle(".hand .foot");
     const mouse = (type, far, buttons) => page.call("Input.dispatchMouseEvent", { type, x: x + far * long, y, button: "left", buttons, clickCount: 1 }).then(page.frame);
-    const tall = () => hands.run("document.querySelector('#touch').clientHeight");
+    const tall = () => hands.run("document.querySelector('#touch').getBoundingClientRect().height");
     const heights = [await tall()];
     await mouse("mousePressed", 0, 1);
     const said = [];
@@ -124,7 +124,7 @@ async function checkMoved(checks, hands) {
         await hands.type("#distance", distance);
         heights.push(await tall());
     }
-    checks.same("one line on a projector, whatever it says", [new Set(heights).size, heights[0] > 10 && heights[0] < 36], [1, true]);
+    checks.same("one line on a projector, whatever it says", [...new Set(heights)], [30]);
     await page.size(1280, 800);
 
     await hands.type("#distance", "0.95");
