@@ -31,8 +31,8 @@ impl Left {
     /// As the order says it of single cuts: what refuses the list as such, and else one after another up to the first that is refused.
     pub fn singly(memory: &Memory, list: &CutList, room: &[u64]) -> Self {
         let mut left = Self { reply: 0, answers: room.to_vec(), memory: memory.clone() };
-        left.reply = match refused_as_such(memory, list, room) {
-            Some(number) => number.into(),
+        left.reply = match every_reason(memory, list, room).first() {
+            Some(&number) => number.into(),
             None => left.make(list.cuts()),
         };
         left
@@ -56,10 +56,6 @@ impl Left {
     pub fn shown(&self) -> String {
         format!("reply {:#x}, answers {:x?}, memory\n{}", self.reply, self.answers, self.memory.shown())
     }
-}
-
-fn refused_as_such(memory: &Memory, list: &CutList, room: &[u64]) -> Option<Refusal> {
-    every_reason(memory, list, room).first().copied()
 }
 
 /// The numbers that refuse the list before any cut, in their order.
