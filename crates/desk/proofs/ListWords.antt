@@ -16,7 +16,7 @@ use Rattle.rules.specs.Walk.{walk, otherEnd, otherEdge, firstEdge, startOf, eac
 use Rattle.rules.specs.Replies.{asked, listed, subElementsReply, withRankReply, vertexSetReply, greatestCommonReply, inNumbers, edgesInOrderReply}
 use Rattle.rules.specs.declared.ListReply.{ListReply}
 use Rattle.rules.specs.declared.ListReply.the-variants.{Refused, Listed}
-use Rattle.rules.proofs.AllSteps.{walk-short}
+use Rattle.rules.proofs.WalkSteps.{walk-short}
 use Rattle.rules.proofs.Counting.{length-up}
 use Rattle.rules.proofs.Good.{sound-good}
 use Rattle.rules.proofs.Growing.{all-get}

@@ -24,7 +24,9 @@ use Rattle.rules.specs.declared.FacetReply.the-variants.{Refused as FacetRefuse
 use Rattle.rules.proofs.Laws.{le-test, eq-test, test-eq, not-eq, none-some}
 use Rattle.lent_bytes.proofs.Fronts.{drop-front}
 use Rattle.space.proofs.Slices.{slices}
-use Rattle.walk.proofs.Asking as ask
+use Rattle.space.proofs.Lent.{memory-sound-table}
+use Rattle.space.proofs.RowAdds.{readable-desk}
+use Rattle.soundness.proofs.AskedOnce as ask
 use Rattle.print.specs.Pieces.{pointIn, fileIn, SolidReady}
 use Rattle.print.proofs.Printing.{row-point, solid-ready, file-is}
 
@@ -77,7 +79,7 @@ module _ (cs : List ℕ) (ps hs : List Float) (es : List ℕ) (root : ℕ) where
 
   module _ {d : Bool} (K : Known d) where
     pub four-counts : length cs ≡ 4
-    four-counts = ask.counts-four cs ps hs es (K .sound)
+    four-counts = ask.counts-long cs ps hs es (K .sound)
 
     reply-by : (k : Bool) → eqb (t .dimension) 3 ≡ k → (room : List ℕ) → listed (if k then unlessFacet (answer d) (printFile t root) else no-answer 6) room ≡ printReply desk m root room
     unfolding primordialFacet printReply printed
@@ -87,7 +89,7 @@ module _ (cs : List ℕ) (ps hs : List Float) (es : List ℕ) (root : ℕ) where
 
     module _ (w : ℕ) (e : w ≡ getD cs 0 0) where
       dimension-is : w ≡ t .dimension
-      dimension-is = e ∙ ask.dimension-is cs ps hs es (K .sound)
+      dimension-is = e ∙ ask.dimension-known cs ps hs es (K .sound)
 
       pub not-solid : (room : List ℕ) → (w ≡ 3 → ⊥) → (Refused 6, room) ≡ printReply desk m root room
       not-solid room h = reply-by false (not-eq (t .dimension) 3 (λ z. h (dimension-is ∙ z))) room
@@ -106,16 +108,16 @@ module _ (cs : List ℕ) (ps hs : List Float) (es : List ℕ) (root : ℕ) where
         full = eq-test (rank t root) (t .dimension) (K .ranked) ∙ three
 
         pub solid-asked : SolidReady ps es root
-        solid-asked = solid-ready (ask.holds cs ps hs es (K .sound)) (ask.table-sound cs ps hs es (K .sound)) root in-use full
+        solid-asked = solid-ready (ask.held cs ps hs es (K .sound)) (memory-sound-table desk readable-desk m (K .sound)) root in-use full
 
         at-row : (v : ℕ) → v < length (t .points) → pointIn ps v ≡ vertexAt t v
         unfolding decode
         at-row v l =
-            let n = slices (ask.holds cs ps hs es (K .sound)) .pointCount in
+            let n = slices (ask.held cs ps hs es (K .sound)) .pointCount in
             drop-front (v * 4) 3 ps ∙ ap (λ (j : ℕ). take j (drop (v * 4) ps)) (sym z ∙ e)
             ∙ sym (row-point (getD cs 0 0) (getD cs 2 0) 4 v ps (le-trans l (le-of-eq (sym n))) (omega (arith, z, e)))
 
         pub printed-solid : {x : ListReply × List ℕ} (room : List ℕ) → d ≡ false → x ≡ listed (answer (fileIn ps es root)) room → x ≡ printReply desk m root room
         printed-solid room h q =
-            q ∙ ap (λ (xs : List ℕ). listed (answer xs) room) (file-is (ask.holds cs ps hs es (K .sound)) (ask.table-sound cs ps hs es (K .sound)) root in-use full three at-row)
+            q ∙ ap (λ (xs : List ℕ). listed (answer xs) room) (file-is (ask.held cs ps hs es (K .sound)) (memory-sound-table desk readable-desk m (K .sound)) root in-use full three at-row)
             ∙ ap (λ (b : Bool). listed (unlessFacet (answer b) (printFile t root)) room) (sym h) ∙ reply-by true (test-eq (t .dimension) 3 three) room

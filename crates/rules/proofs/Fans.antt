@@ -11,7 +11,7 @@ use lib.ListN.{length, getD, take, drop, length-append}
 use lib.Seq.{drop-cons, take-append-le, length-take-le}
 use Rattle.rules.specs.Lists.{if_then_else_, keep, joined, upFrom}
 use Rattle.rules.specs.Print.{Triangle, Way, wayAt, fan, sidesOf, goes, Fanned}
-use Rattle.rules.specs.Promises.{Chain}
+use Rattle.rules.specs.Asking.{Chain}
 use Rattle.rules.proofs.Growing.{keep-append}
 use Rattle.rules.proofs.Laws.{and-swap}
 

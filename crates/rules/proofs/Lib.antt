@@ -1,4 +1,4 @@
-pub mod AllSteps
+pub mod WalkSteps
 pub mod Answers
 pub mod Apart
 pub mod AreaReplies

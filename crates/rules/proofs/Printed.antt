@@ -23,8 +23,8 @@ use Rattle.rules.specs.Print.{narrowed, narrowedBytes, Triangle, Way, wa
 use Rattle.rules.specs.Print.{unlessFacet, printed, printReply, totalOf, triangleCount, PrintIsSized, Fanned, FacesAreFanned}
 use Rattle.rules.specs.declared.ListReply.{ListReply}
 use Rattle.rules.specs.declared.ListReply.the-variants.{Refused as ListRefused, Listed}
-use Rattle.rules.specs.Promises.{border, Runs, forth, back, Paired, lowest}
-use Rattle.rules.proofs.AllSteps.{walk-long}
+use Rattle.rules.specs.Asking.{border, Runs, forth, back, Paired, lowest}
+use Rattle.rules.proofs.WalkSteps.{walk-long}
 use Rattle.rules.proofs.Borders.{sound-bordered}
 use Rattle.rules.proofs.ByteLaws.{bytes-long, number-there}
 use Rattle.rules.proofs.Corners.{corner-named}

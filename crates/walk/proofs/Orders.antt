@@ -19,7 +19,7 @@ use Rattle.rules.specs.Questions.{Asked, no-answer, answer, pairs, edgesInOrder
 use Rattle.rules.specs.Replies.{listed, inNumbers, edgesInOrderReply}
 use Rattle.rules.specs.declared.ListReply.{ListReply}
 use Rattle.rules.specs.declared.ListReply.the-variants.{Refused, Listed}
-use Rattle.rules.proofs.AllSteps.{rising, all-steps}
+use Rattle.rules.proofs.WalkSteps.{rising, all-steps}
 use Rattle.rules.proofs.FaceEdges.{start-first, takes-all}
 use Rattle.rules.proofs.Good.{Good, sound-good}
 use Rattle.rules.proofs.Laws.{if-true, if-false, test-eq, not-eq, test-le, test-above}

@@ -13,7 +13,7 @@ use Rattle.rules.specs.Table.{Table, elementCount, boundary}
 use Rattle.rules.specs.Held.{AllOf}
 use Rattle.rules.specs.Walk.{edgesAt, otherEnd, otherEdge, walk, firstEdge}
 use Rattle.rules.specs.Questions.{pairs}
-use Rattle.rules.proofs.AllSteps.{none-again}
+use Rattle.rules.proofs.WalkSteps.{none-again}
 use Rattle.rules.proofs.Laws.{if-true, if-false, either, and-left, and-right, le-test, not-eq, eqb-self}
 use Rattle.rules.proofs.VertexSet.{keep-rises}
 use Rattle.rules.proofs.WalkRound.{taken}

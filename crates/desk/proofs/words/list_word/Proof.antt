@@ -4,8 +4,8 @@ use native.Mathlib.Omega.{arith}
 use Rattle.desk.specs.Words.{sizeWord}
 use Rattle.desk.proofs.ListWords.{listed-low}
 use borrow.Author.Needs.{needs}
-use Rattle.desk.proofs.list_word.Statement.{statement}
-use Rattle.desk.proofs.list_word.Tie as tie
+use Rattle.desk.proofs.words.list_word.Statement.{statement}
+use Rattle.desk.proofs.words.list_word.Tie as tie
 
 enum-known-r : tie.Need-enum-known-r
 enum-known-r c = search needs

@@ -2,8 +2,8 @@
 use native.Mathlib.Omega.{arith}
 use Rattle.desk.proofs.RankWords.{byte-low, byte-high}
 use borrow.Author.Needs.{needs}
-use Rattle.desk.proofs.rank_byte.Statement.{statement}
-use Rattle.desk.proofs.rank_byte.Tie as tie
+use Rattle.desk.proofs.words.rank_byte.Statement.{statement}
+use Rattle.desk.proofs.words.rank_byte.Tie as tie
 
 returns : tie.Need-returns
 returns c = byte-high _ (c .if1 .taken)

@@ -1,7 +1,7 @@
 -- The byte is 0, or is not.
 use Rattle.desk.proofs.CutWords.{fate-none, fate-some}
-use Rattle.desk.proofs.fate.Statement.{statement}
-use Rattle.desk.proofs.fate.Tie as tie
+use Rattle.desk.proofs.words.fate.Statement.{statement}
+use Rattle.desk.proofs.words.fate.Tie as tie
 
 returns : tie.Need-returns
 returns c = fate-none _ (c .if1 .taken)

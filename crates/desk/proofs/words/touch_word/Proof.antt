@@ -3,8 +3,8 @@ use mathlib.Core.Path.{sym, ap}
 use native.Mathlib.Omega.{arith}
 use Rattle.desk.proofs.TouchWords.{touched-low, word-touched}
 use borrow.Author.Needs.{needs}
-use Rattle.desk.proofs.touch_word.Statement.{statement}
-use Rattle.desk.proofs.touch_word.Tie as tie
+use Rattle.desk.proofs.words.touch_word.Statement.{statement}
+use Rattle.desk.proofs.words.touch_word.Tie as tie
 
 enum-known-reply : tie.Need-enum-known-reply
 enum-known-reply c = search needs

@@ -4,8 +4,8 @@ use native.Mathlib.Omega.{arith}
 use Rattle.desk.specs.Words.{writtenWord}
 use Rattle.desk.proofs.CutListWords.{stopped-low, answered-low}
 use borrow.Author.Needs.{needs}
-use Rattle.desk.proofs.written_word.Statement.{statement}
-use Rattle.desk.proofs.written_word.Tie as tie
+use Rattle.desk.proofs.words.written_word.Statement.{statement}
+use Rattle.desk.proofs.words.written_word.Tie as tie
 
 enum-known-r : tie.Need-enum-known-r
 enum-known-r c = search needs
