@@ -22,7 +22,7 @@ class Desk {
         this.live = new Table(engine); // the table that stands
         this.trial = new Table(engine); // the copy that is cut before a cut is made
         this.aside = new Table(engine); // a copy for what is asked beside an answer
-        this.room = new FileRoom(engine); // for the file that is saved or opened
+        this.room = new FileRoom(engine); // for a file that is saved, opened or printed
         this.blank = this.live.bytes.slice();
         this.history = new History();
         this.earlier = null; // the session before this one and its lesson, if there was one
@@ -177,6 +177,11 @@ class Desk {
     // { number } when refused, else { number: 0, file }
     save() {
         return this.room.save(this.live);
+    }
+
+    // the same of a piece, for a printer
+    printFile(root) {
+        return this.room.stl(this.live, root);
     }
 
     // the table of a file in place of the one that stands, as the beginning of a session of its own; gives the number of a refusal, or 0

@@ -2,10 +2,12 @@
 
 export const NONE = 0xffff;
 export const MOST_CUTS = 64; // in a list
+export const MOST_PIECES = 16; // on an area sheet
 const LIST_WORDS = 512;
 const DIVIDER_FLOATS = 5;
 const CALLS = ["desk_is_sound", "desk_cube", "desk_cut", "desk_cut_all", "desk_touch", "desk_subelements_of", "desk_subelements_with_rank",
-    "desk_vertex_set", "desk_greatest_common_subelements", "desk_edges_in_order", "desk_has_primordial_facet", "desk_save", "desk_open"];
+    "desk_vertex_set", "desk_greatest_common_subelements", "desk_edges_in_order", "desk_has_primordial_facet", "desk_areas", "desk_stl", "desk_save",
+    "desk_open"];
 const BEFORE_ANY_CUT = [3, 26, 12];
 const SIDES = ["on", "inside", "outside", "both"];
 
@@ -33,6 +35,18 @@ function answerOf(word) {
 const CUTS = MOST_CUTS + 1;
 const CUTS_BYTES = CUTS * (8 * DIVIDER_FLOATS + 1 + 2 + 8) + 64;
 
+// and for one piece more than a sheet may have, its numbers, their count and their sum
+const PIECES = MOST_PIECES + 1;
+const AREAS = PIECES + 2;
+const SHEET_BYTES = 2 * PIECES + 8 * AREAS + 32;
+
+// the word of a file: { number } when refused, else { number: 0, size }
+function sizeOf(signed) {
+    const word = BigInt.asUintN(64, signed);
+    const number = Number(word & 0xffn);
+    return number === 0 ? { number, size: Number(word >> 8n) } : { number };
+}
+
 // `room` is how many bytes will be lent: memory that grows later would take the views of what was lent before.
 export async function load(bytes, room) {
     const { module, instance } = await WebAssembly.instantiate(bytes, {});
@@ -46,7 +60,7 @@ class Engine {
         this.module = module;
         this.calls = Object.fromEntries(CALLS.map(name => [name, exports[name]]));
         this.free = (exports.__heap_base.value + 15) & ~15;
-        const short = this.free + room + 4 * LIST_WORDS + 64 + CUTS_BYTES - exports.memory.buffer.byteLength;
+        const short = this.free + room + 4 * LIST_WORDS + 64 + CUTS_BYTES + SHEET_BYTES - exports.memory.buffer.byteLength;
         if (short > 0) exports.memory.grow(Math.ceil(short / 65536));
         this.memory = exports.memory.buffer;
         this.list = this.lend(2 * LIST_WORDS);
@@ -54,6 +68,7 @@ class Engine {
         const view = (type, length) => new type(this.memory, this.lend(type.BYTES_PER_ELEMENT * length), length);
         this.cuts = { dividers: view(Float64Array, CUTS * DIVIDER_FLOATS), kept: view(Uint8Array, CUTS), roots: view(Uint16Array, CUTS),
             answers: view(BigUint64Array, CUTS) };
+        this.sheet = { pieces: view(Uint16Array, PIECES), areas: view(BigInt64Array, AREAS) };
     }
 
     lend(bytes) {
@@ -109,11 +124,23 @@ class Engine {
         return number === 0 ? { number, sides: SIDES[reply >>> 8 & 3], tested: reply >>> 16 } : { number };
     }
 
-    // { number } when refused, else { number: 0, size }: so many bytes at the front of the room
+    // of flat pieces twice the signed area of each and the sum of their sizes, in units of 1/1,048,576, as BigInts: { number } when
+    // refused, else { number: 0, areas, sizes }
+    areas(lent, asked) {
+        const { pieces, areas } = this.sheet;
+        const list = asked.slice(0, PIECES).map(e => (fits(e, 16) ? e : NONE));
+        pieces.set(list);
+        const number = this.calls.desk_areas(...lent, pieces.byteOffset, BigInt(list.length), areas.byteOffset, BigInt(AREAS)) & 0xff;
+        return number === 0 ? { number, areas: [...areas.subarray(0, list.length)], sizes: areas[list.length + 1] } : { number };
+    }
+
+    // each so many bytes at the front of the room, or refused
     save(lent, at, length) {
-        const word = BigInt.asUintN(64, this.calls.desk_save(...lent, at, BigInt(length)));
-        const number = Number(word & 0xffn);
-        return number === 0 ? { number, size: Number(word >> 8n) } : { number };
+        return sizeOf(this.calls.desk_save(...lent, at, BigInt(length)));
+    }
+
+    stl(lent, root, at, length) {
+        return sizeOf(this.calls.desk_stl(...lent, whole(root), at, BigInt(length)));
     }
 
     open(lent, at, length) {

@@ -1,4 +1,5 @@
-// The one file of a table, saved and opened by the engine in room that is lent for its bytes. docs/FILE.md says how they lie.
+// The one file of a table, saved and opened by the engine in room that is lent for its bytes, and a piece's print file, which has fewer.
+// docs/FILE.md says how the first lie.
 import { ROOM, TABLE_BYTES, Table } from "./table.js";
 
 // no table of this room has a longer one: a header, and then every vertex, hyperplane and element
@@ -16,7 +17,14 @@ export class FileRoom {
 
     // { number } when refused, else { number: 0, file }
     save({ lent }) {
-        const { number, size } = this.engine.save(lent, this.bytes.byteOffset, this.bytes.length);
+        return this.written(this.engine.save(lent, this.bytes.byteOffset, this.bytes.length));
+    }
+
+    stl({ lent }, root) {
+        return this.written(this.engine.stl(lent, root, this.bytes.byteOffset, this.bytes.length));
+    }
+
+    written({ number, size }) {
         return number === 0 ? { number, file: this.bytes.slice(0, size) } : { number };
     }
 

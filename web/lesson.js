@@ -14,7 +14,7 @@ export function partsOf(markdown) {
             if (kind === "opened") all.push({ session: text, from: last });
             if (kind === "lines" || kind === "prints") all.at(-1).lines = text;
         }
-        // which cuts come with a warning, lists and touches stand in the text; what is run stands as steps
+        // which cuts come with a warning, lists, touches and area sheets stand in the text; what is run stands as steps
         const told = part.slice(part.indexOf("\n")).replace(TOLD, (_, lines) => lines.replace(/^/gm, "    "));
         const text = told.replace(/^```[^]*?^```$/gm, "").trim();
         const paragraphs = text.split(/\n\s*\n/).map(words => (isCode(words) ? words : words.replace(/\s+/g, " ")));
@@ -22,7 +22,7 @@ export function partsOf(markdown) {
     });
 }
 
-const TOLD = /^```(?:warned|listed|answers|dragged|touches)\n([^]*?)\n```$/gm;
+const TOLD = /^```(?:warned|listed|answers|dragged|touches|measured|sheet)\n([^]*?)\n```$/gm;
 const isCode = text => text.startsWith("    ");
 const marked = text => escaped(text).replace(/`([^`]+)`/g, "<code>$1</code>").replace(/\*([^*]+)\*/g, "<em>$1</em>");
 const paragraph = text => (isCode(text) ? `<pre>${escaped(text.replace(/^ {4}/gm, ""))}</pre>` : `<p>${marked(text)}</p>`);

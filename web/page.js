@@ -11,6 +11,7 @@ import { facets } from "./facets.js";
 import { grid } from "./grid.js";
 import { keys } from "./keys.js";
 import { lists } from "./lists.js";
+import { printing } from "./printing.js";
 import { questions } from "./questions.js";
 import { records } from "./records.js";
 import { saving } from "./saving.js";
@@ -18,7 +19,7 @@ import { sheet } from "./sheet.js";
 import { touch } from "./touch.js";
 import { view } from "./view.js";
 
-const PANELS = [facets, view, aim, touch, answer, lists, lesson, records, saving, grid, questions, sheet, keys];
+const PANELS = [facets, view, aim, touch, answer, lists, lesson, records, saving, printing, grid, questions, sheet, keys];
 
 async function fetched(name) {
     const response = await fetch(name);

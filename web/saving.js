@@ -13,7 +13,7 @@ const WHY = {
     3: "It is laid out as a saved table, but the table in it does not fit this desk or is not sound.",
 };
 
-function say(words, isRefused = false) {
+export function say(words, isRefused = false) {
     $("filesays").textContent = words;
     $("filesays").classList.toggle("refused", isRefused);
 }

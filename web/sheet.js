@@ -1,5 +1,6 @@
-// The sheet for the mould shop: for each piece its counts, its corners exactly, and each face's walk and plane. Every number is
-// the engine's; what is printed is this sheet and nothing else.
+// The sheet for the mould shop: for each piece its counts, its corners exactly, and each face's walk and plane; of flat pieces the areas.
+// Every number is the engine's; what is printed is this sheet and nothing else.
+import { areaTable } from "./areas.js";
 import { $, tag } from "./dom.js";
 import { picture } from "./drawing.js";
 import { originOf, promiseOf, tableOf, warningsOf } from "./origin.js";
@@ -84,7 +85,7 @@ function sheetOf(desk, pieces) {
         <p>${pieces.length} ${pieces.length === 1 ? "piece" : "pieces"} of ${tableOf(desk)}.
         Three numberings, never one for another: ${tag("v")} a vertex, ${tag("E")} an element, ${tag("h")} a hyperplane.</p></div>
         <dl class="sign"><div><dt>Date</dt><dd></dd></div><div><dt>Signed</dt><dd></dd></div></dl></header>
-        ${promiseOf(desk)}${warningsOf(desk)}${pieces.map(e => piece(live, step.shapes, e, live.cornerElements(), look, radius)).join("") || "<p>No piece is chosen.</p>"}
+        ${promiseOf(desk)}${warningsOf(desk)}${areaTable(live, pieces)}${pieces.map(e => piece(live, step.shapes, e, live.cornerElements(), look, radius)).join("") || "<p>No piece is chosen.</p>"}
         <footer>${originOf(desk)}
         <p>Coordinates are the shortest decimals that read back as the same numbers, to the last bit.</p></footer>`;
 }

@@ -21,6 +21,8 @@ export const REFUSALS = {
     11: "a boundary would have more than 32 elements",
     12: "the room for the list or the file is too short",
     13: "the bytes are not laid out as a file",
+    16: "the piece has a primordial facet",
+    25: "a coordinate of a piece is no multiple of 1/1,024",
     26: "the list has more than its limit, or its parts do not belong together",
 };
 

@@ -1,4 +1,4 @@
-/* Every entry point of the desk, for C: first what there is to know, then the thirteen functions of the archive, then readers of
+/* Every entry point of the desk, for C: first what there is to know, then the fifteen functions of the archive, then readers of
    their replies and a table as one struct, which are written here. What each function does is its contract in
    crates/desk/src/lib.rt: every table, number, float and byte is allowed, and a refused call leaves the table and the room for a
    list or a file as they came. In a list of cuts the refused one does: those before it stay.
@@ -8,7 +8,7 @@
 
    Numbers are handed over in 32 bits, so that no int is cut to another number: dimension 258 is refused with 1, roots 65,544 and -1
    with 4, and a rank that nobody has gives an empty list. A longer type is the host's to test. Words of tables and lists have 16
-   bits, also the list of roots.
+   bits, also the lists of roots and of pieces.
 
    Lent: each slice is a pointer and how many entries it has, which is not how many bytes. Slices lie apart from one another.
    Stack: a call takes less than 16 KB of it, and nothing of the heap. A table has 47,624 bytes, so make it static or allocate it.
@@ -71,8 +71,15 @@ extern "C" {
 /* A list of cuts has no more of them. */
 #define DESK_MOST_CUTS 64
 
+/* An area sheet has no more pieces, and so many numbers with their count and the sum of their sizes. */
+#define DESK_MOST_PIECES 16
+#define DESK_LONGEST_SHEET 18
+
 /* No file of a table has more bytes: a header, and so many vertices, hyperplanes and elements as there is room for. */
 #define DESK_LONGEST_FILE 48266
+
+/* No print file has more bytes: a header, and for each face of a boundary, triangles two fewer than a boundary has edges. */
+#define DESK_LONGEST_PRINT 48084
 
 /* What stands for "none" in the reply of a cut, and for "no hyperplane" in a row. */
 #define DESK_NONE 0xffff
@@ -95,6 +102,8 @@ extern "C" {
     each(11, BOUNDARY_FULL, "a boundary would have more than 32 elements")                                    \
     each(12, ROOM_SHORT, "the room for the list or the file is too short")                                    \
     each(13, LAYOUT, "the bytes are not laid out as a file")                                                  \
+    each(16, PRIMORDIAL_FACET, "the piece has a primordial facet")                                            \
+    each(25, OFF_GRID, "a coordinate of a piece is no multiple of 1/1,024")                                   \
     each(26, LIST_LONG, "the list has more than its limit, or its parts do not belong together")
 
 #define DESK_NAMED(number, name, words) DESK_REFUSED_##name = number,
@@ -156,6 +165,19 @@ uint32_t desk_edges_in_order(DESK_READS, uint32_t root, uint16_t *list, size_t l
 /* Bits 0 to 7 the number, bit 8 the answer. */
 uint32_t desk_has_primordial_facet(DESK_READS, uint32_t root);
 
+/* The area sheet of flat pieces, faces of a table of two dimensions: of each the twice signed area of its walk in units of 1/1,048,576,
+   positive where the walk turns from axis 0 towards axis 1; then how many pieces there are, and the sum of the sizes. Bits 0 to 7 the
+   number, above them how many numbers were written: two more than pieces. Refused, each of all pieces before the next: 3; 26 for more than
+   DESK_MOST_PIECES; 4; 6 unless the table has two dimensions and each piece rank 2; 25 where a coordinate is no multiple of 1/1,024; 12. */
+uint32_t desk_areas(DESK_READS, const uint16_t *pieces, size_t pieces_len, int64_t *areas, size_t areas_len);
+
+/* A piece of three dimensions as binary STL, for a printer: 80 bytes of 0, the count of triangles in 4 bytes, and 50 for each triangle,
+   all lowest byte first: a normal of zeros, three corners as 32-bit floats, and 0 in 2 bytes. A face is a fan from the first corner of its
+   walk, and faces rise. A coordinate is narrowed to the nearest, and of two equally near to the even one. The winding of a face is
+   its walk's, which need not be outward. Bits 0 to 7 the number: 0, 3, 4, 6 unless the table has three dimensions and the root is of rank 3,
+   16 where the piece has a primordial facet, or 12; above them how many bytes the file has. It fills the front of its room. */
+uint64_t desk_stl(DESK_READS, uint32_t root, uint8_t *file, size_t file_len);
+
 /* A table as its one file, whose bytes are in docs/FILE.md. Bits 0 to 7 the number: 0, 3, or 12 where the room is too short; above
    them how many bytes the file has. It fills the front of its room. */
 uint64_t desk_save(DESK_READS, uint8_t *file, size_t file_len);
@@ -199,14 +221,14 @@ static inline int desk_is_stopped(uint32_t cut_all) {
 static inline enum desk_touched desk_touched_of(uint32_t touch) { return (enum desk_touched)(touch >> 8 & 3); }
 static inline uint32_t desk_corners_tested(uint32_t touch) { return touch >> 16; }
 
-/* Of a list: how many numbers it has. */
+/* Of a list or an area sheet: how many numbers it has. */
 static inline uint32_t desk_size(uint32_t list) { return list >> 8; }
 
 /* Of the question about a primordial facet: the answer. */
 static inline int desk_is_yes(uint32_t facet) { return (int)(facet >> 8 & 1); }
 
-/* Of saving: how many bytes the file has. */
-static inline size_t desk_file_size(uint64_t save) { return (size_t)(save >> 8); }
+/* Of saving and of printing: how many bytes the file has. */
+static inline size_t desk_file_size(uint64_t file) { return (size_t)(file >> 8); }
 
 /* ---- A table as one struct */
 
@@ -299,6 +321,33 @@ static inline uint32_t desk_table_edges_in_order(const struct desk_table *table,
 
 static inline uint32_t desk_table_has_primordial_facet(const struct desk_table *table, uint32_t root) {
     return desk_has_primordial_facet(DESK_LENT(table), root);
+}
+
+/* The area sheet of up to DESK_MOST_PIECES pieces. Start with {0}, or take a count of 0. */
+struct desk_sheet {
+    size_t count;
+    uint16_t pieces[DESK_MOST_PIECES];
+    int64_t areas[DESK_LONGEST_SHEET];
+};
+
+/* Adds a piece to a sheet: 0, or 26 where it is full. A number has 16 bits there, so one that has more becomes 65,535, which is in no table. */
+static inline uint32_t desk_sheet_add(struct desk_sheet *sheet, uint32_t piece) {
+    if (sheet->count >= DESK_MOST_PIECES) return DESK_REFUSED_LIST_LONG;
+    sheet->pieces[sheet->count++] = piece < 0xffff ? (uint16_t)piece : 0xffff;
+    return DESK_DONE;
+}
+
+/* Reads count and pieces, and writes areas: so many as there are pieces, then their count and the sum of sizes. */
+static inline uint32_t desk_table_areas(const struct desk_table *table, struct desk_sheet *sheet) {
+    return desk_areas(DESK_LENT(table), sheet->pieces, sheet->count, sheet->areas, DESK_LONGEST_SHEET);
+}
+
+/* Of a sheet that is done: the sum of the sizes of its areas, twice and in units of 1/1,048,576 as they are. */
+static inline int64_t desk_sum_of_sizes(const struct desk_sheet *sheet) { return sheet->areas[sheet->count + 1]; }
+
+/* DESK_LONGEST_PRINT bytes are enough for every piece. */
+static inline uint64_t desk_table_stl(const struct desk_table *table, uint32_t root, uint8_t *file, size_t file_len) {
+    return desk_stl(DESK_LENT(table), root, file, file_len);
 }
 
 /* DESK_LONGEST_FILE bytes are enough for every table. */

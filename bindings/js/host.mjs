@@ -1,4 +1,4 @@
-// The example session of document 01, from JavaScript: a square of radius 1, cut twice at x = 0; then a list of cuts, a touch, a file.
+// The example session of document 01, from JavaScript: a square of radius 1, cut twice at x = 0; then a list of cuts, a touch, an area sheet, a file.
 
 import { readFileSync } from "node:fs";
 
@@ -33,6 +33,12 @@ console.log(list & 255, ...pieces);
 // where the corners of piece 16 lie to x = 0: 1 is inside or on, and all four were tested
 const touch = desk.desk_touch(...table, 1, 0, 0, 0, 0, 16);
 console.log(touch & 255, touch >> 8 & 3, touch >> 16);
+
+// the areas of the square's halves, each twice and in units of 1/1,048,576; then how many there are, and the sum of their sizes
+const [halves, areas] = [free, free + 8];
+new Uint16Array(desk.memory.buffer, halves, 2).set([16, 17]);
+const sheet = desk.desk_areas(...table, halves, 2n, areas, 4n);
+console.log(sheet & 255, ...[...new BigInt64Array(desk.memory.buffer, areas, sheet >> 8)].map(Number));
 
 const size = desk.desk_save(...table, free, 48266n) >> 8n;
 const file = new Uint8Array(desk.memory.buffer, free, Number(size)).slice(); // to be put aside

@@ -2,6 +2,8 @@
 
 use crate::call::Call;
 use crate::dividers;
+use crate::model::areas::MOST_PIECES;
+use crate::model::questions::is_primordial;
 use crate::model::table::Table;
 use crate::random::Random;
 
@@ -24,7 +26,7 @@ pub fn cube(r: &mut Random) -> Call {
 }
 
 /// One call of each entry point that only reads the table.
-pub fn questions(r: &mut Random, table: Option<&Table>) -> [Call; 9] {
+pub fn questions(r: &mut Random, table: Option<&Table>) -> [Call; 11] {
     [
         Call::IsSound,
         Call::Save,
@@ -35,7 +37,42 @@ pub fn questions(r: &mut Random, table: Option<&Table>) -> [Call; 9] {
         Call::EdgesInOrder { root: root_of_rank(r, table, 2) },
         Call::PrimordialFacet { root: root_of_rank(r, table, table.map_or(1, |t| t.dimension as u16)) },
         touch(r, table),
+        Call::Areas { pieces: pieces(r, table) },
+        Call::Stl { root: printed(r, table) },
     ]
+}
+
+/// Faces, with repeats; none and 16 among them, and more; now and then any other root too.
+fn pieces(r: &mut Random, table: Option<&Table>) -> Vec<u16> {
+    let count = match r.below(16) {
+        0 => 0,
+        1 => MOST_PIECES,
+        2 => r.from_to(MOST_PIECES + 1, MOST_PIECES + 3),
+        _ => r.from_to(1, 4),
+    };
+    let faces = table.map_or(vec![], |table| numbers_of_rank(table, 2));
+    let stray = r.one_in(6);
+    let piece = |r: &mut Random| {
+        if faces.is_empty() || stray && r.one_in(3) {
+            root(r, table).min(0xffff) as u16
+        } else {
+            r.pick(&faces)
+        }
+    };
+    (0..count).map(|_| piece(r)).collect()
+}
+
+/// Mostly of rank 3, and half of these, where there are such, without a primordial facet.
+fn printed(r: &mut Random, table: Option<&Table>) -> u32 {
+    let is_clear = |table: &Table, piece: u16| !table.boundary(piece).iter().any(|&facet| is_primordial(table, facet));
+    let clear = table.map_or(vec![], |table| {
+        numbers_of_rank(table, 3).into_iter().filter(|&piece| is_clear(table, piece)).collect()
+    });
+    if clear.is_empty() || r.one_in(2) {
+        root_of_rank(r, table, 3)
+    } else {
+        r.pick(&clear).into()
+    }
 }
 
 /// Half of the roots are as a cut has them, half of any rank.

@@ -4,9 +4,9 @@
 //!
 //! - a call: the exported name's length (1) and the name; memory; how many arguments (1), and each; reply (8); memory; bytes
 //! - memory: 0 where it is the memory before it, else 1 and four slices, each its length (4) and its entries
-//! - an argument: `n` and a number (4), `f` and a float (8), `w` and words, `b` and bytes, `d` and floats, or `a` and answers
-//! - words, floats, answers: their length (4) and each of them (2, 8, 8)
-//! - bytes: their length (4) and the bytes; those at the end are the room for a list, a file or answers as it was left, or none
+//! - an argument: `n` and a number (4), `f` and a float (8), `w` and words, `b` and bytes, `d` and floats, or `a` and answers or areas
+//! - words, floats, answers, areas: their length (4) and each of them (2, 8, 8, 8)
+//! - bytes: their length (4) and the bytes; those at the end are the room for a list, a file, answers or areas as it was left, or none
 
 use crate::call::{Call, Room};
 use crate::model::floats::Hyperplane;
@@ -105,6 +105,18 @@ impl<W: Write> Calls<W> {
                 self.divider(divider)?;
                 self.number(*root)
             }
+            Call::Areas { pieces } => {
+                self.out.write_all(&[2])?;
+                self.slice(pieces)?;
+                self.out.write_all(b"a")?;
+                self.areas(&room.areas)
+            }
+            Call::Stl { root } => {
+                self.out.write_all(&[2])?;
+                self.number(*root)?;
+                self.out.write_all(b"b")?;
+                self.bytes(&room.file)
+            }
             Call::Save => self.file(&room.file),
             Call::Open { file } => self.file(file),
         }
@@ -150,6 +162,11 @@ impl<W: Write> Calls<W> {
     fn answers(&mut self, answers: &[u64]) -> Result<()> {
         self.out.write_all(&(answers.len() as u32).to_le_bytes())?;
         self.out.write_all(&answers.iter().flat_map(|word| word.to_le_bytes()).collect::<Vec<_>>())
+    }
+
+    fn areas(&mut self, areas: &[i64]) -> Result<()> {
+        self.out.write_all(&(areas.len() as u32).to_le_bytes())?;
+        self.out.write_all(&areas.iter().flat_map(|number| number.to_le_bytes()).collect::<Vec<_>>())
     }
 
     fn floats(&mut self, floats: &[f64]) -> Result<()> {

@@ -1,9 +1,11 @@
 //! One call of one entry point, made by the model and by the engine, with the reply as the engine's one number.
 
+use crate::model::areas::areas;
 use crate::model::cut::{Answer, Kept, Output};
 use crate::model::cut_list::{self, CutList};
 use crate::model::floats::Hyperplane;
 use crate::model::memory::{Lent, Memory};
+use crate::model::print::stl;
 use crate::model::touch::{touch, Touch};
 use crate::model::{cube, cut, files, questions, Refusal};
 use spoonvelvet::raw;
@@ -23,14 +25,17 @@ pub enum Call {
     Open { file: Vec<u8> },
     CutAll { list: CutList },
     Touch { divider: Hyperplane, root: u32 },
+    Areas { pieces: Vec<u16> },
+    Stl { root: u32 },
 }
 
-/// What a call is lent beside the four slices to be filled: room for a list, for a file or for answers, or none.
+/// What a call is lent beside the four slices to be filled: room for a list, for a file, for answers or for areas, or none.
 #[derive(Clone, Debug, Default, PartialEq, Eq)]
 pub struct Room {
     pub list: Vec<u16>,
     pub file: Vec<u8>,
     pub answers: Vec<u64>,
+    pub areas: Vec<i64>,
 }
 
 impl Room {
@@ -38,14 +43,15 @@ impl Room {
     pub fn bytes(&self) -> Vec<u8> {
         let list = self.list.iter().flat_map(|word| word.to_le_bytes());
         let answers = self.answers.iter().flat_map(|word| word.to_le_bytes());
-        list.chain(self.file.iter().copied()).chain(answers).collect()
+        let areas = self.areas.iter().flat_map(|number| number.to_le_bytes());
+        list.chain(self.file.iter().copied()).chain(answers).chain(areas).collect()
     }
 }
 
 impl Call {
     /// The model's reply; the memory and the room are left as the call leaves them.
     pub fn by_model(&self, lent: &mut Lent, room: &mut Room) -> u64 {
-        let Room { list, file: file_room, answers } = room;
+        let Room { list, file: file_room, answers, areas: area_room } = room;
         match self {
             Call::IsSound => done_word(lent.table().map(|_| ())),
             Call::Cube { dimension, radius } => done_word(cube::with_primordial_cube_radius(lent, *dimension, *radius)),
@@ -62,13 +68,15 @@ impl Call {
             Call::Open { file } => done_word(files::open(lent, file)),
             Call::CutAll { list } => cut_list_word(cut_list::cut_all(lent, list, answers.len()), answers),
             Call::Touch { divider, root } => touch_word(touch(lent, *divider, *root)),
+            Call::Areas { pieces } => list_word(areas(lent, pieces, area_room)),
+            Call::Stl { root } => list_word(stl(lent, *root, file_room)),
         }
     }
 
     /// The engine's reply, through the functions that hosts link.
     pub fn by_engine(&self, memory: &mut Memory, room: &mut Room) -> u64 {
         let Memory { counts: c, points: p, planes: h, elements: e } = memory;
-        let Room { list, file: file_room, answers } = room;
+        let Room { list, file: file_room, answers, areas: area_room } = room;
         match self {
             Call::IsSound => raw::is_sound(c, p, h, e).into(),
             Call::Cube { dimension, radius } => raw::cube(c, p, h, e, *dimension, *radius).into(),
@@ -88,6 +96,8 @@ impl Call {
                 raw::cut_all(c, p, h, e, raw::CutList { dividers, kept, roots }, answers).into()
             }
             Call::Touch { divider, root } => raw::touch(c, p, h, e, lent(divider), *root).into(),
+            Call::Areas { pieces } => raw::areas(c, p, h, e, pieces, area_room).into(),
+            Call::Stl { root } => raw::stl(c, p, h, e, *root, file_room),
         }
     }
 
@@ -106,6 +116,8 @@ impl Call {
             Call::Open { .. } => "open",
             Call::CutAll { .. } => "cut_all",
             Call::Touch { .. } => "touch",
+            Call::Areas { .. } => "areas",
+            Call::Stl { .. } => "stl",
         }
     }
 
@@ -122,6 +134,8 @@ impl Call {
         match self {
             Call::Save => Room { file: vec![0; raw::LONGEST_FILE], ..Room::default() },
             Call::CutAll { list } => Room { answers: vec![0; list.roots.len()], ..Room::default() },
+            Call::Areas { .. } => Room { areas: vec![0; raw::LONGEST_SHEET], ..Room::default() },
+            Call::Stl { .. } => Room { file: vec![0; raw::LONGEST_PRINT], ..Room::default() },
             Call::IsSound
             | Call::Cube { .. }
             | Call::Cut { .. }
@@ -137,7 +151,8 @@ impl Call {
         match (word as u8, self) {
             (0, Call::IsSound) => "sound".into(),
             (0, Call::Cube { .. } | Call::Open { .. }) => "done".into(),
-            (0, Call::Save) => "file".into(),
+            (0, Call::Save | Call::Stl { .. }) => "file".into(),
+            (0, Call::Areas { .. }) => "sheet".into(),
             (0, Call::Cut { .. }) => output_outcome(output(word)),
             (0, Call::PrimordialFacet { .. }) => if is_set(word) { "yes" } else { "no" }.into(),
             (0, Call::CutAll { .. }) => if word == 0 { "empty list" } else { "answered" }.into(),

@@ -100,7 +100,7 @@ fn beside(r: &mut Random, earlier: Hyperplane) -> Hyperplane {
 }
 
 /// Along an axis, or with one component so great that the others cannot make it zero.
-fn unit_normal(r: &mut Random, dimension: usize) -> Point {
+pub fn unit_normal(r: &mut Random, dimension: usize) -> Point {
     let mut normal = [0.0; 4];
     if r.one_in(2) {
         normal[r.below(dimension)] = r.pick(&[1.0, -1.0]);

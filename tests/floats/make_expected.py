@@ -77,6 +77,22 @@ def rounded(negative, size):
     return signed(negative, min((e + 1022) * (1 << 52) + steps, INFINITY))
 
 
+def narrowed(x):
+    """The 32 bits of the nearest float of that width, for a pattern that is no NaN's."""
+    sign = (x >> 63) << 31
+    if is_infinite(x):
+        return sign + (0xFF << 23)
+    size = abs(exact(x))
+    if size == 0:
+        return sign
+    e = max(floor_log2(size), -126)
+    spacing = Fraction(2) ** (e - 23)
+    steps, rest = divmod(size, spacing)
+    if 2 * rest > spacing or (2 * rest == spacing and steps % 2 == 1):
+        steps += 1
+    return sign + min((e + 126) * (1 << 23) + steps, 0xFF << 23)
+
+
 def neg(x):
     return NAN if is_nan(x) else x ^ SIGN
 
@@ -262,6 +278,20 @@ NAMED = {
     "BIG": 0x4341C37937E08000,  # 10^16, where floats are 2 apart
     "STEP": 0x7C90000000000000,  # half a step of MAX: the sum overflows
     "MAX": 0x7FEFFFFFFFFFFFFF,  # the largest finite
+    "NARROW_HALF": 0x3690000000000000,  # half of the smallest of 32 bits: a tie, which goes to zero
+    "NARROW_TINY": 0x36A0000000000000,  # the smallest of 32 bits
+    "NARROW_TIE_LOW": 0x36A8000000000000,  # one and a half of it: a tie, which goes to two
+    "NARROW_TIE_EVEN": 0x36B4000000000000,  # two and a half: a tie, which goes to two
+    "NARROW_SUBNORMAL": 0x380FFFFFC0000000,  # the largest subnormal of 32 bits
+    "NARROW_TIE_NORMAL": 0x380FFFFFE0000000,  # halfway to the smallest normal, which is even
+    "NARROW_NORMAL": 0x3810000000000000,  # the smallest normal of 32 bits
+    "NARROW_ONE_TIE": 0x3FF0000010000000,  # 1 + 2^-24: a tie, which goes down to 1
+    "NARROW_ODD_TIE": 0x3FF0000030000000,  # 1 + 3 * 2^-24: a tie, which goes up
+    "NARROW_CARRY": 0x3FFFFFFFF0000000,  # 2 - 2^-24: a tie, whose carry reaches 2
+    "NARROW_FAR_TIE": 0x40EFFFFFF0000000,  # 65,536 - 2^-9: a tie, whose carry reaches 65,536
+    "NARROW_LARGEST": 0x47EFFFFFE0000000,  # the largest of 32 bits
+    "NARROW_OVER": 0x47EFFFFFF0000000,  # halfway past it: an infinity
+    "NARROW_PAST": 0x47F0000000000000,  # 2^128
     "INF": 0x7FF0000000000000,
     "NAN": 0x7FF8000000000000,
 }
@@ -980,6 +1010,87 @@ HALF HALF HALF NEG_HALF
 # ---- the table of the program
 
 # each constant: its name, what it holds, and its cases
+# x, which is no NaN
+NARROWINGS = cases("""
+ZERO
+NEG_ZERO
+TINY
+NEG_TINY
+SUBNORMAL
+NORMAL
+NARROW_HALF_DOWN
+NARROW_HALF
+NARROW_HALF_UP
+NEG_NARROW_HALF
+NARROW_TINY_DOWN
+NARROW_TINY
+NARROW_TINY_UP
+NEG_NARROW_TINY
+NARROW_TIE_LOW_DOWN
+NARROW_TIE_LOW
+NARROW_TIE_LOW_UP
+NEG_NARROW_TIE_LOW
+NARROW_TIE_EVEN_DOWN
+NARROW_TIE_EVEN
+NARROW_TIE_EVEN_UP
+NEG_NARROW_TIE_EVEN
+NARROW_SUBNORMAL_DOWN
+NARROW_SUBNORMAL
+NARROW_SUBNORMAL_UP
+NEG_NARROW_SUBNORMAL
+NARROW_TIE_NORMAL_DOWN
+NARROW_TIE_NORMAL
+NARROW_TIE_NORMAL_UP
+NEG_NARROW_TIE_NORMAL
+NARROW_NORMAL_DOWN
+NARROW_NORMAL
+NARROW_NORMAL_UP
+NEG_NARROW_NORMAL
+NARROW_ONE_TIE_DOWN
+NARROW_ONE_TIE
+NARROW_ONE_TIE_UP
+NEG_NARROW_ONE_TIE
+NARROW_ODD_TIE_DOWN
+NARROW_ODD_TIE
+NARROW_ODD_TIE_UP
+NEG_NARROW_ODD_TIE
+NARROW_CARRY_DOWN
+NARROW_CARRY
+NARROW_CARRY_UP
+NEG_NARROW_CARRY
+NARROW_FAR_TIE_DOWN
+NARROW_FAR_TIE
+NARROW_FAR_TIE_UP
+NEG_NARROW_FAR_TIE
+NARROW_LARGEST_DOWN
+NARROW_LARGEST
+NARROW_LARGEST_UP
+NEG_NARROW_LARGEST
+NARROW_OVER_DOWN
+NARROW_OVER
+NARROW_OVER_UP
+NEG_NARROW_OVER
+NARROW_PAST_DOWN
+NARROW_PAST
+NARROW_PAST_UP
+NEG_NARROW_PAST
+TENTH
+NEG_TENTH
+THIRD
+T
+ONE_DOWN
+ONE
+ONE_UP
+FAR_DOWN
+FAR
+NEG_FAR
+BIG
+MAX
+NEG_MAX
+INF
+NEG_INF
+""")
+
 TABLES = (
     ("ONES", "x.", ONES),
     ("PAIRS", "Two floats.", PAIRS),
@@ -992,6 +1103,7 @@ TABLES = (
     ("VERTEX_SEARCHES", "The dimension and how many vertices; the point to find.", VERTEX_SEARCHES),
     ("PLANES", "The hyperplanes to search: normal and distance.", PLANES),
     ("PLANE_SEARCHES", "The dimension, the first hyperplane, how many, the distance; the normal.", PLANE_SEARCHES),
+    ("NARROWINGS", "x, which is no NaN.", NARROWINGS),
 )
 
 
@@ -1047,6 +1159,11 @@ def shown_number(k):
 def one_line(line):
     (x,) = patterns(line)
     return f"one {side_of(x)} {shown_test(close_call(x))} {distance_kind(x)} {shown_test(same_bits(0, x))}"
+
+
+def narrowing_line(line):
+    (x,) = patterns(line)
+    return f"narrow {narrowed(x):08x}"
 
 
 def pair_line(line):
@@ -1111,6 +1228,7 @@ def expected_output():
         (row_line, PLANES),
         (vertex_line, VERTEX_SEARCHES),
         (hyperplane_line, PLANE_SEARCHES),
+        (narrowing_line, NARROWINGS),
     )
     return "".join(line_of(*case) + "\n" for line_of, rows in parts for case in rows)
 

@@ -1,4 +1,5 @@
-/* What desk.h says of rows, replies, warnings, lists of cuts, touches and refusals, by a table of the engine's. Ends with the line that does not hold. */
+/* What desk.h says of rows, replies, warnings, lists of cuts, touches, area sheets, print files and refusals, by a table of the engine's. Ends
+   with the line that does not hold. */
 #include "desk.h"
 #include <math.h>
 #include <stdio.h>
@@ -227,6 +228,70 @@ static int numbers(void) {
     return 0;
 }
 
+/* A square of radius 1 cut at x = 0: two halves of twice 2 x 1,048,576 units, whose walks turn each its own way. */
+static int areas(void) {
+    struct desk_sheet sheet = {3, {8, 16, 17}, {7}};
+    HOLDS(DESK_LONGEST_SHEET == DESK_MOST_PIECES + 2 && desk_table_cube(&table, 2, 1.0) == DESK_DONE);
+    HOLDS(desk_number_of(at_x(0.0, DESK_KEEP_BOTH, 8)) == DESK_DONE);
+    HOLDS(desk_table_areas(&table, &sheet) == 5 << 8 && desk_size(desk_table_areas(&table, &sheet)) == 5);
+    HOLDS(sheet.areas[0] == 8 << 20 && sheet.areas[1] == -(4 << 20) && sheet.areas[2] == 4 << 20 && sheet.areas[3] == 3);
+    HOLDS(desk_sum_of_sizes(&sheet) == 16 << 20);
+    sheet.count = 0;
+    HOLDS(desk_table_areas(&table, &sheet) == 2 << 8 && sheet.areas[0] == 0 && sheet.areas[1] == 0 && sheet.areas[2] == 4 << 20);
+    HOLDS(desk_areas(DESK_LENT(&table), sheet.pieces, DESK_MOST_PIECES + 1, sheet.areas, 0) == DESK_REFUSED_LIST_LONG);
+    sheet.count = 2;
+    sheet.pieces[1] = 7;
+    HOLDS(desk_table_areas(&table, &sheet) == DESK_REFUSED_RANK);
+    sheet.pieces[0] = 600;
+    HOLDS(desk_table_areas(&table, &sheet) == DESK_REFUSED_NOT_IN_USE);
+    sheet.count = 0;
+    HOLDS(desk_sheet_add(&sheet, 65544) == DESK_DONE && sheet.pieces[0] == 0xffff);
+    for (int i = 1; i < DESK_MOST_PIECES; i++) HOLDS(desk_sheet_add(&sheet, 8) == DESK_DONE);
+    HOLDS(desk_sheet_add(&sheet, 8) == DESK_REFUSED_LIST_LONG && sheet.count == DESK_MOST_PIECES && sheet.pieces[15] == 8);
+    HOLDS(desk_table_areas(&table, &sheet) == DESK_REFUSED_NOT_IN_USE);
+    sheet.pieces[0] = 17;
+    HOLDS(desk_table_areas(&table, &sheet) == 18 << 8 && sheet.areas[16] == 16 && desk_sum_of_sizes(&sheet) == 124 << 20);
+    sheet.count = 2;
+    uint64_t cut = at_x(1.0 / 2048, DESK_KEEP_BOTH, 8);
+    sheet.pieces[0] = 8, sheet.pieces[1] = desk_inside(cut);
+    HOLDS(desk_table_areas(&table, &sheet) == DESK_REFUSED_OFF_GRID && sheet.areas[16] == 16);
+    HOLDS(desk_areas(DESK_LENT(&table), sheet.pieces, 1, sheet.areas, 2) == DESK_REFUSED_ROOM_SHORT);
+    HOLDS(desk_table_cube(&table, 3, 1.0) == DESK_DONE);
+    sheet.count = 0;
+    HOLDS(desk_table_areas(&table, &sheet) == DESK_REFUSED_RANK);
+    return 0;
+}
+
+static float corner_at(size_t triangle, int corner, int axis) {
+    float x;
+    memcpy(&x, file + 84 + 50 * triangle + 12 * (1 + corner) + 4 * axis, 4);
+    return x;
+}
+
+/* A cube of radius 1 carved on every side to radius 1/2: six squares, two triangles each. */
+static int print_files(void) {
+    uint16_t root = 26;
+    HOLDS(DESK_LONGEST_PRINT == 84 + 50 * DESK_BOUNDARY_ROOM * (DESK_BOUNDARY_ROOM - 2) && desk_table_cube(&table, 3, 1.0) == DESK_DONE);
+    HOLDS(desk_table_stl(&table, root, file, DESK_LONGEST_PRINT) == DESK_REFUSED_PRIMORDIAL_FACET);
+    for (int side = 0; side < 6; side++) {
+        struct desk_hyperplane divider = {{0.0, 0.0, 0.0, 0.0}, 0.5};
+        divider.normal[side / 2] = side % 2 ? 1.0 : -1.0;
+        root = desk_inside(desk_table_cut(&table, divider, DESK_KEEP_INSIDE, root));
+    }
+    memset(file, 0xa5, sizeof file);
+    uint64_t print = desk_table_stl(&table, root, file, DESK_LONGEST_PRINT);
+    size_t size = desk_file_size(print);
+    HOLDS(desk_number_of(print) == DESK_DONE && size == 84 + 50 * 12 && file[79] == 0 && file[80] == 12 && file[81] == 0);
+    HOLDS(file[size - 1] == 0 && file[size] == 0xa5);
+    for (size_t i = 0; i < 12 * 9; i++) HOLDS(fabsf(corner_at(i / 9, (int)(i % 9 / 3), (int)(i % 3))) == 0.5f);
+    HOLDS(desk_table_stl(&table, root, file, size) == print && desk_table_stl(&table, root, file, size - 1) == DESK_REFUSED_ROOM_SHORT);
+    HOLDS(desk_table_stl(&table, 25, file, size) == DESK_REFUSED_RANK && desk_table_stl(&table, 600, file, 0) == DESK_REFUSED_NOT_IN_USE);
+    HOLDS(desk_table_cube(&table, 2, 1.0) == DESK_DONE && desk_table_stl(&table, 8, file, size) == DESK_REFUSED_RANK);
+    table.counts[DESK_COUNT_VERTICES] = 3;
+    HOLDS(desk_table_stl(&table, 600, file, size) == DESK_REFUSED_NOT_SOUND);
+    return 0;
+}
+
 /* The file of a square cut in two: a header, 6 vertices, 5 hyperplanes, 6 corners, 9 edges and 3 faces. */
 static int files(void) {
     HOLDS(desk_table_cube(&table, 2, 1.0) == DESK_DONE && desk_number_of(at_x(0.0, DESK_KEEP_BOTH, 8)) == DESK_DONE);
@@ -264,5 +329,5 @@ static int refused_files(void) {
 
 int main(void) {
     return rows() || replies() || warnings() || flush_with_a_warning() || refusals() || numbers() || lists() || stopped_lists() ||
-           refused_lists() || touches() || files() || refused_files();
+           refused_lists() || touches() || areas() || print_files() || files() || refused_files();
 }

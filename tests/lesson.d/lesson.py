@@ -31,6 +31,21 @@ def words_of(cut):
     return show.Hyperplane(cut.normal, cut.distance), *fates, show.ElementId(cut.root)
 
 
+def cube(given):
+    return show.Table.with_primordial_cube_radius(given.dimension, given.radius)
+
+
+def table_after(session):
+    """The table that a session leaves."""
+    table = None
+    for _, given in records(session):
+        if isinstance(given, record.Cube):
+            table = cube(given)
+        else:
+            table.cut(*words_of(given))
+    return table
+
+
 def blocks(*kinds):
     """The blocks of these kinds in their order, each with its kind."""
     return re.findall(rf"^```({'|'.join(kinds)})\n(.*?)^```$", (ROOT / "docs/LESSON.md").read_text(), re.M | re.S)

@@ -3,14 +3,8 @@ which all are made in one call, gives the block `answers` after it, and what it 
 `dragged` gives the block `touches` after it, of the table that the session before it left, and adds nothing to it."""
 import sys
 
-from lesson import blocks, records, show, words_of
+from lesson import blocks, cube, records, show, table_after, words_of
 from spoonvelvet import ListedCut, Stopped
-
-Table = show.Table
-
-
-def cube(given):
-    return Table.with_primordial_cube_radius(given.dimension, given.radius)
 
 
 def shown(answer):
@@ -39,12 +33,7 @@ def listed(text):
 
 def dragged(session, text):
     """Each touch with its answer and how many corners were tested."""
-    table = None
-    for _, given in records(session):
-        if isinstance(given, show.record.Cube):
-            table = cube(given)
-        else:
-            table.cut(*words_of(given))
+    table = table_after(session)
     before, lines = table.copy(), []
     for _, given in records(text.replace("touch", "cut both"), table.dimensions()):
         divider, _, _, root = words_of(given)

@@ -4,7 +4,7 @@ import { readFileSync, readSync } from "node:fs";
 
 const GUARD = 0x5a, STACK_MARK = 0xa5;
 const ENTRY_BYTES = [2, 8, 8, 2];
-const ARGUMENT_BYTES = { w: 2, b: 1, d: 8, a: 8 }; // words, bytes, floats, answers
+const ARGUMENT_BYTES = { w: 2, b: 1, d: 8, a: 8 }; // words, bytes, floats, answers or areas
 
 // standard input, as many bytes at a time as are asked for
 const input = { bytes: Buffer.alloc(1 << 20), start: 0, end: 0 };
@@ -91,7 +91,7 @@ function firstUnlike() {
     let at = 0;
     while (at < end + 16 && held[at] === memory[start + at]) at++;
     const slice = slices.findIndex(slice => at < slice.at + slice.length * (slice.isFloats ? 8 : 2));
-    return `byte ${at} of what was lent, ${["counts", "points", "planes", "elements"][slice] ?? "cuts, roots, list, file or answers"} or its guard`;
+    return `byte ${at} of what was lent, ${["counts", "points", "planes", "elements"][slice] ?? "cuts, roots, pieces, list, file, answers or areas"} or its guard`;
 }
 
 // ---- the calls
@@ -124,4 +124,4 @@ if (isAlike) {
     const stack = start - memory.subarray(0, start).findIndex(mark => mark !== STACK_MARK);
     console.log(`${[...counts].map(([name, count]) => `${count} ${name}`).join(", ")}: alike; ${stack} bytes of stack`);
 }
-process.exit(isAlike && counts.size === 13 ? 0 : 1);
+process.exit(isAlike && counts.size === 15 ? 0 : 1);

@@ -1,10 +1,11 @@
-"""Through the Python module: the marked examples of document 01, warnings, lists of cuts, touches, refusals, the three kinds of numbers,
-rows, files."""
+"""Through the Python module: the marked examples of document 01, warnings, lists of cuts, touches, area sheets, print files, refusals,
+the three kinds of numbers, rows, files."""
 
 import copy
 import doctest
 import itertools
 import math
+import struct
 import sys
 import unittest
 from fractions import Fraction
@@ -12,6 +13,7 @@ from fractions import Fraction
 import spoonvelvet
 from spoonvelvet import (
     REFUSALS,
+    AreaSheet,
     Counts,
     ElementCutOutput,
     ElementId,
@@ -270,6 +272,68 @@ class Touches(Case):
         self.refused(3, t.touch, at_x(math.nan), ElementId(9))
 
 
+class Areas(Case):
+    """Document 02, order 13."""
+
+    def test_a_square_and_its_parts(self):
+        t = square()
+        halves = t.slice(at_x(0.25), SQUARE)
+        self.assertEqual(t.areas([SQUARE, halves.inside, halves.outside]), AreaSheet((8 << 20, -5 << 20, 3 << 20), 16 << 20))
+        self.assertEqual(t.areas([]), AreaSheet((), 0))
+        self.assertEqual(t.areas(iter([SQUARE] * 16)).sum_of_sizes, 64 * AreaSheet.IN_ONE)
+
+    def test_it_is_the_sum_over_the_walk(self):
+        t = Table.with_primordial_cube_radius(2, 65_536.0)
+        pieces = [SQUARE]
+        for normal, distance in (((1, 0), 0.5), ((0, 1), -3 / 1024), ((1, 0), -65_535.75)):
+            answer = t.slice(Hyperplane(normal, distance), pieces[-1])
+            pieces += [piece for piece in (answer.inside, answer.outside) if piece is not None]
+        for piece in pieces:
+            steps = [[[Fraction(x) for x in t.coordinates_of(v)] for v in step] for step in t.edges_in_order(piece)]
+            twice = sum(a[0] * b[1] - b[0] * a[1] for a, b in steps)
+            self.assertEqual(t.areas([piece]).twice_areas, (twice * 1_048_576,))
+
+    def test_refusals(self):
+        t = square()
+        third = t.slice(at_x(1 / 3), SQUARE).inside
+        self.refused(26, t.areas, ids(9) * 17)
+        self.refused(4, t.areas, [third, ElementId(7), ElementId(65_544)])
+        self.refused(6, t.areas, [third, ElementId(7)])
+        self.refused(25, t.areas, [SQUARE, third])
+        self.refused(6, Table.with_primordial_cube_radius(3, 1.0).areas, [])
+
+
+class PrintFiles(Case):
+    """Document 02, order 11."""
+
+    def tetrahedron(self):
+        t = Table.with_primordial_cube_radius(3, 4.0)
+        piece = t.last_element()
+        for signs in ((1, 1, 1), (1, -1, -1), (-1, 1, -1), (-1, -1, 1)):
+            piece = t.carve(Hyperplane([sign / math.sqrt(3) for sign in signs], 1.0), piece).inside
+        return t, piece
+
+    def test_byte_by_byte(self):
+        t, piece = self.tetrahedron()
+        triangles = []
+        for face in t.boundary_of(piece):
+            (first, _), *others, _ = t.edges_in_order(face)
+            triangles += [[first, *edge] for edge in others]
+        wanted = bytes(80) + struct.pack("<I", len(triangles))
+        for corners in triangles:
+            wanted += struct.pack("<12fH", 0, 0, 0, *(x for v in corners for x in t.coordinates_of(v)), 0)
+        self.assertEqual(t.stl(piece), wanted)
+        self.assertEqual(len(wanted), 84 + 4 * 50)
+
+    def test_refusals(self):
+        t, piece = self.tetrahedron()
+        self.refused(4, t.stl, ElementId(65_536 + piece.number))
+        self.refused(6, t.stl, ElementId(25))
+        self.refused(16, t.stl, ElementId(26))
+        self.refused(6, square().stl, SQUARE)
+        self.assertEqual(raw.LONGEST_PRINT, 48_084)
+
+
 class Refusals(Case):
     def test_a_refused_call_leaves_the_table(self):
         t = square()
@@ -346,15 +410,16 @@ class Refusals(Case):
             before = t.copy()
             self.assertFalse(t.is_sound())
             self.refused(3, t.slice, at_x(0.0), SQUARE)
-            for call in (t.subelements_of, t.vertex_set, t.edges_in_order, t.has_primordial_facet):
+            for call in (t.subelements_of, t.vertex_set, t.edges_in_order, t.has_primordial_facet, t.stl):
                 self.refused(3, call, SQUARE)
+            self.refused(3, t.areas, ids(8))
             self.refused(3, t.subelements_with_rank, SQUARE, 1)
             self.refused(3, t.greatest_common_subelements, ids(8))
             self.refused(3, t.save)
             self.assertEqual(t, before)
 
     def test_each_number_has_words(self):
-        self.assertEqual(list(REFUSALS), [*range(1, 14), 26])
+        self.assertEqual(list(REFUSALS), [*range(1, 14), 16, 25, 26])
         self.assertEqual(str(Refused(10)), "refused 10: there is no room for another hyperplane")
         self.assertEqual(copy.copy(Refused(4)).number, 4)
 
@@ -379,8 +444,9 @@ class Numbers(Case):
     def test_another_kind_is_not_taken(self):
         t = square()
         for other in (8, VertexId(1), HyperplaneId(1), None):
-            for call in (t.subelements_of, t.vertex_set, t.edges_in_order, t.has_primordial_facet, t.rank_of, t.boundary_of):
+            for call in (t.subelements_of, t.vertex_set, t.edges_in_order, t.has_primordial_facet, t.stl, t.rank_of, t.boundary_of):
                 self.assertRaises(TypeError, call, other)
+            self.assertRaises(TypeError, t.areas, [other])
             self.assertRaises(TypeError, t.slice, at_x(0.0), other)
             self.assertRaises(TypeError, t.touch, at_x(0.0), other)
             self.assertRaises(TypeError, t.cut_all, [ListedCut.slice(at_x(0.0), other)])

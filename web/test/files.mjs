@@ -6,6 +6,7 @@ import { TABLE_BYTES, Table } from "../table.js";
 import { bytesOf, lineOf, plain, recordsOf } from "../session.js";
 import { REFUSALS } from "../words.js";
 import { partsOf } from "../lesson.js";
+import { checkAreasOf } from "./areas.mjs";
 import { Checks } from "./check.mjs";
 import { checkCalls } from "./close.mjs";
 import { checkColours } from "./colours.mjs";
@@ -86,8 +87,11 @@ await checkCalls(checks);
 await checkSidesOf(checks);
 await checkLists(checks);
 
+// areas and print files
+await checkAreasOf(checks);
+
 // a word for each refusal of document 01, and the colours
-checks.same("refusals", Object.keys(REFUSALS).map(Number), [1, 2, 3, 4, 5, 6, 7, 8, 9, 10, 11, 12, 13, 26]);
+checks.same("refusals", Object.keys(REFUSALS).map(Number), [1, 2, 3, 4, 5, 6, 7, 8, 9, 10, 11, 12, 13, 16, 25, 26]);
 checkColours(checks, "web/colours.css");
 
 process.exit(checks.told("files"));

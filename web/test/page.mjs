@@ -2,6 +2,7 @@
 import { mkdtempSync, rmSync } from "node:fs";
 import { tmpdir } from "node:os";
 import { join } from "node:path";
+import { checkAreas } from "./areas.mjs";
 import { browser, serve } from "./browser.mjs";
 import { checkBroken } from "./broken.mjs";
 import { Checks } from "./check.mjs";
@@ -18,7 +19,7 @@ import { checkCutlist, checkSessions, checkSheet } from "./session.mjs";
 import { checkTouch } from "./touch.mjs";
 
 const PARTS = [checkLesson, checkWords, checkCuts, checkHand, checkDimensions, checkRefusals, checkKeys, checkNames, checkSessions, checkCutlist,
-    checkSheet, checkClose, checkSaving, checkTouch, checkEvery, checkLooks, checkDrag, checkRandom];
+    checkSheet, checkAreas, checkClose, checkSaving, checkTouch, checkEvery, checkLooks, checkDrag, checkRandom];
 
 const [program, ...parts] = process.argv.slice(2);
 const isAsked = part => parts.length === 0 || parts.includes(part.name);

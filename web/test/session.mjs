@@ -71,7 +71,7 @@ export async function checkSheet(checks, hands) {
     const sum = execFileSync("python3", ["-c", "import sys, zlib; print('%08x' % zlib.crc32(sys.stdin.buffer.read()))"], { input: bytes }).toString().trim();
     checks.holds("the digest", (await hands.text(".digest")).startsWith(`2 records, checksum ${sum} `));
     checks.same("no sliver", await hands.count(".sliver"), 0);
-    checks.same("every table is laid out as one", await hands.run("[...document.querySelectorAll('.sheet table')].map(table => getComputedStyle(table).display)"), Array(6).fill("table"));
+    checks.same("every table is laid out as one", await hands.run("[...document.querySelectorAll('.sheet table')].map(table => getComputedStyle(table).display)"), Array(7).fill("table"));
 
     // coordinates to the last bit, every walk closed, counts the engine's
     const third = "0.5773502691896258";

@@ -4,6 +4,7 @@ A Table is the room of one table. A cut does not make pieces: it adds entries to
 its old entry. Element, vertex and hyperplane numbers count three lists, so they are three types. Any number and float may be
 given; a refused call raises Refused and leaves the table as it came. The answer of a cut warns of a plane that passes close by a
 corner. Table.cut_all makes a list of cuts in one call, and Table.touch tells whether a plane touches a piece, without a cut.
+Table.areas gives the areas of flat pieces in exact numbers, and Table.stl a piece of three dimensions as a file for a printer.
 Table.save gives a table as its one file, and Table.open opens it.
 
 >>> from spoonvelvet import ElementId, Hyperplane, Table
@@ -17,6 +18,7 @@ Counts(elements=18, vertices=6, hyperplanes=5)
 from .table import Table
 from .values import (
     REFUSALS,
+    AreaSheet,
     Counts,
     ElementCutOutput,
     ElementId,
@@ -35,6 +37,7 @@ from .values import (
 
 __all__ = [
     "REFUSALS",
+    "AreaSheet",
     "Counts",
     "ElementCutOutput",
     "ElementId",

@@ -4,7 +4,7 @@ The library is libdesk.so in the folder SPOONVELVET_LIB, or else beside this fil
 """
 
 import os
-from ctypes import POINTER, PyDLL, c_double, c_size_t, c_uint8, c_uint16, c_uint32, c_uint64
+from ctypes import POINTER, PyDLL, c_double, c_int64, c_size_t, c_uint8, c_uint16, c_uint32, c_uint64
 from pathlib import Path
 from typing import Any
 
@@ -31,13 +31,23 @@ LONGEST_LIST = ELEMENT_ROOM
 MOST_CUTS = 64
 """A list of cuts has no more of them."""
 
+MOST_PIECES = 16
+"""An area sheet has no more pieces."""
+
+LONGEST_SHEET = MOST_PIECES + 2
+"""And so many numbers, with the count of pieces and the sum of their sizes."""
+
 LONGEST_FILE = 10 + VERTEX_ROOM * (2 + 8 * AXES) + HYPERPLANE_ROOM * (10 + 8 * AXES) + ELEMENT_ROOM * (8 + 2 * BOUNDARY_ROOM)
 """A file has at most a header and so many vertices, hyperplanes and elements as there is room for."""
+
+LONGEST_PRINT = 84 + 50 * BOUNDARY_ROOM * (BOUNDARY_ROOM - 2)
+"""A print file has at most a header, and of each face of a boundary two triangles fewer than a boundary has edges."""
 
 _WORDS = [POINTER(c_uint16), c_size_t]
 _FLOATS = [POINTER(c_double), c_size_t]
 _BYTES = [POINTER(c_uint8), c_size_t]
 _ANSWERS = [POINTER(c_uint64), c_size_t]
+_AREAS = [POINTER(c_int64), c_size_t]
 _TABLE = _WORDS + _FLOATS + _FLOATS + _WORDS
 
 
@@ -72,5 +82,7 @@ vertex_set = _function("desk_vertex_set", c_uint32, c_uint32, *_WORDS)
 greatest_common_subelements = _function("desk_greatest_common_subelements", c_uint32, *_WORDS, *_WORDS)
 edges_in_order = _function("desk_edges_in_order", c_uint32, c_uint32, *_WORDS)
 has_primordial_facet = _function("desk_has_primordial_facet", c_uint32, c_uint32)
+areas = _function("desk_areas", c_uint32, *_WORDS, *_AREAS)
+stl = _function("desk_stl", c_uint64, c_uint32, *_BYTES)
 save = _function("desk_save", c_uint64, *_BYTES)
 open = _function("desk_open", c_uint32, *_BYTES)

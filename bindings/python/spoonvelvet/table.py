@@ -1,11 +1,12 @@
 """The room of one table, the calls that add entries to it, the questions about it, and its rows as they lie there."""
 
 import operator
-from ctypes import c_double, c_uint8, c_uint16, c_uint64
+from ctypes import c_double, c_int64, c_uint8, c_uint16, c_uint64
 from typing import Any, Callable, Iterable, List, Optional, SupportsFloat, SupportsIndex, Tuple, TypeVar, Union
 
 from . import raw
 from .values import (
+    AreaSheet,
     AXES,
     Counts,
     ElementCutOutput,
@@ -284,6 +285,34 @@ class Table:
     def has_primordial_facet(self, root: ElementId) -> bool:
         """Whether an element of full rank has a primordial facet. Refuses with 3, 4 or 6."""
         return bool(_done(raw.has_primordial_facet(*self._lent(), _root(root))))
+
+    def areas(self, pieces: Iterable[ElementId]) -> AreaSheet:
+        """The areas of up to 16 flat pieces, in exact numbers. Refuses with 3; 26, more pieces; 4; 6, a table that has not two dimensions or
+        a piece that has not rank 2; 25, a coordinate that is no multiple of 1/1,024.
+
+        >>> square = Table.with_primordial_cube_radius(2, 1.0)
+        >>> halves = square.slice(Hyperplane((1, 0), 0.5), ElementId(8))
+        >>> sheet = square.areas([halves.inside, halves.outside])
+        >>> [twice / sheet.IN_ONE for twice in sheet.twice_areas], sheet.sum_of_sizes / sheet.IN_ONE
+        ([-3.0, 1.0], 4.0)
+        """
+        numbers = [_root(piece, 16) for piece in pieces]
+        room = (c_int64 * raw.LONGEST_SHEET)()
+        _done(raw.areas(*self._lent(), *_pairs((c_uint16 * len(numbers))(*numbers), room)))
+        return AreaSheet(tuple(room[: len(numbers)]), room[len(numbers) + 1])
+
+    def stl(self, root: ElementId) -> bytes:
+        """A piece of three dimensions as binary STL, for a printer: each face as a fan of triangles from the first corner of its walk, with
+        coordinates narrowed to 32 bits. The winding is the walk's, which need not be outward, and no normal is given, so a reader
+        has to turn the faces. Refuses with 3, 4, 6 or, where the piece still has a facet of the cube, 16.
+
+        >>> cube = Table.with_primordial_cube_radius(3, 1.0)
+        >>> cube.stl(cube.last_element())
+        Traceback (most recent call last):
+        spoonvelvet.values.Refused: refused 16: the piece has a primordial facet
+        """
+        room = (c_uint8 * raw.LONGEST_PRINT)()
+        return bytes(room[: _done(raw.stl(*self._lent(), _root(root), *_pairs(room)))])
 
     # The rows, as they lie in the table
 

@@ -23,13 +23,15 @@ REFUSALS: Mapping[int, str] = {
     11: "a boundary would have more than 32 elements",
     12: "the room for the list or the file is too short",
     13: "the bytes are not laid out as a file",
+    16: "the piece has a primordial facet",
+    25: "a coordinate of a piece is no multiple of 1/1,024",
     26: "the list has more than its limit, or its parts do not belong together",
 }
 """What each refusal says, by its number."""
 
 
 class Refused(Exception):
-    """A call was refused, and left the table as it came. Its number is 1 to 13, or 26, as documents 01 and 02 have them.
+    """A call was refused, and left the table as it came. Its number is 1 to 13, 16, 25 or 26, as documents 01 and 02 have them.
 
     >>> print(Refused(4))
     refused 4: an element number is not in use
@@ -204,6 +206,19 @@ class Touched(NamedTuple):
 
     answer: Touch
     tested: int
+
+
+class AreaSheet(NamedTuple):
+    """The areas of some flat pieces, each twice and in units of 1/1,048,576: so they are whole numbers.
+
+    An area is positive where the walk of its piece turns from axis 0 towards axis 1, else negative; a size has no sign.
+    """
+
+    twice_areas: Tuple[int, ...]
+    sum_of_sizes: int
+
+    IN_ONE = 2 * 1_048_576
+    """A piece of area 1 has so many."""
 
 
 class Counts(NamedTuple):

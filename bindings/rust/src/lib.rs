@@ -4,7 +4,8 @@
 //! plane misses is its old entry. Element, vertex and hyperplane numbers count three lists, so they are three types.
 //! Any number and float may be given; a refused call leaves the table and the list as they came. The answer of a cut warns of a plane
 //! that passes close by a corner ([`CutAnswer`]). [`Table::cut_all`] makes a list of cuts in one call, and [`Table::touch`] tells whether
-//! a plane touches a piece, without a cut. [`Table::save`] gives a table as its one file, and [`Table::open`] opens it.
+//! a plane touches a piece, without a cut. [`Table::areas`] gives the areas of flat pieces in exact numbers, and [`Table::stl`] a piece of
+//! three dimensions as a file for a printer. [`Table::save`] gives a table as its one file, and [`Table::open`] opens it.
 //!
 //! ```
 //! use spoonvelvet::{ElementCutOutput, ElementId, Hyperplane, Refused, Table};
@@ -29,5 +30,5 @@ pub use refused::Refused;
 pub use stopped::Stopped;
 pub use table::Table;
 pub use values::{
-    Counts, CutAnswer, ElementCutOutput, ElementId, Hyperplane, HyperplaneId, ListedCut, PolytopeFate, Slices, Touch, Touched, VertexId,
+    AreaSheet, Counts, CutAnswer, ElementCutOutput, ElementId, Hyperplane, HyperplaneId, ListedCut, PolytopeFate, Slices, Touch, Touched, VertexId,
 };

@@ -1,6 +1,7 @@
 //! The exported functions, one for one, for hosts that lend slices of their own: the four of a table and, for a question, a
-//! list's, or a file's, and for a list of cuts its three and the answers'. Any length, number, float and byte may be given, and a number is as the engine takes it: a dimension,
-//! root, rank or side of 32 bits. The reply is one number: `bindings/c/desk.h` says what its bits are.
+//! list's, or a file's, and for a list of cuts its three and the answers'. Any length, number, float and byte may be given, and a
+//! number is as the engine takes it: a dimension, root, rank or side of 32 bits. The reply is one number: `bindings/c/desk.h` says what
+//! its bits are.
 
 use crate::Hyperplane;
 
@@ -52,9 +53,18 @@ pub const LONGEST_LIST: usize = ELEMENT_ROOM;
 /// A list of cuts has no more of them.
 pub const MOST_CUTS: usize = 64;
 
+/// An area sheet has no more pieces.
+pub const MOST_PIECES: usize = 16;
+
+/// And so many numbers, with the count of pieces and the sum of their sizes.
+pub const LONGEST_SHEET: usize = MOST_PIECES + 2;
+
 /// A file has at most a header and so many vertices, hyperplanes and elements as there is room for.
 pub const LONGEST_FILE: usize =
     10 + VERTEX_ROOM * (2 + 8 * AXES) + HYPERPLANE_ROOM * (10 + 8 * AXES) + ELEMENT_ROOM * (8 + 2 * BOUNDARY_ROOM);
+
+/// A print file has at most a header, and so many triangles, of each face of a boundary two fewer than a boundary has edges.
+pub const LONGEST_PRINT: usize = 84 + 50 * BOUNDARY_ROOM * (BOUNDARY_ROOM - 2);
 
 extern "C" {
     fn desk_is_sound(c: *const u16, cn: usize, p: *const f64, pn: usize, h: *const f64, hn: usize, e: *const u16, en: usize) -> u32;
@@ -68,6 +78,8 @@ extern "C" {
     fn desk_greatest_common_subelements(c: *const u16, cn: usize, p: *const f64, pn: usize, h: *const f64, hn: usize, e: *const u16, en: usize, roots: *const u16, rn: usize, list: *mut u16, n: usize) -> u32;
     fn desk_edges_in_order(c: *const u16, cn: usize, p: *const f64, pn: usize, h: *const f64, hn: usize, e: *const u16, en: usize, root: u32, list: *mut u16, n: usize) -> u32;
     fn desk_has_primordial_facet(c: *const u16, cn: usize, p: *const f64, pn: usize, h: *const f64, hn: usize, e: *const u16, en: usize, root: u32) -> u32;
+    fn desk_areas(c: *const u16, cn: usize, p: *const f64, pn: usize, h: *const f64, hn: usize, e: *const u16, en: usize, pieces: *const u16, pieces_n: usize, areas: *mut i64, n: usize) -> u32;
+    fn desk_stl(c: *const u16, cn: usize, p: *const f64, pn: usize, h: *const f64, hn: usize, e: *const u16, en: usize, root: u32, file: *mut u8, n: usize) -> u64;
     fn desk_save(c: *const u16, cn: usize, p: *const f64, pn: usize, h: *const f64, hn: usize, e: *const u16, en: usize, file: *mut u8, n: usize) -> u64;
     fn desk_open(c: *mut u16, cn: usize, p: *mut f64, pn: usize, h: *mut f64, hn: usize, e: *mut u16, en: usize, file: *const u8, n: usize) -> u32;
 }
@@ -157,6 +169,21 @@ pub fn edges_in_order(c: &[u16], p: &[f64], h: &[f64], e: &[u16], root: u32, lis
 /// Bits 0 to 7 are the reply's number, bit 8 is the answer.
 pub fn has_primordial_facet(c: &[u16], p: &[f64], h: &[f64], e: &[u16], root: u32) -> u32 {
     unsafe { desk_has_primordial_facet(c.as_ptr(), c.len(), p.as_ptr(), p.len(), h.as_ptr(), h.len(), e.as_ptr(), e.len(), root) }
+}
+
+/// The areas of flat pieces, each twice and signed, in units of 1/1,048,576, then their count and the sum of their sizes. Bits 0 to 7 are
+/// the reply's number, above them is how many numbers were written.
+pub fn areas(c: &[u16], p: &[f64], h: &[f64], e: &[u16], pieces: &[u16], areas: &mut [i64]) -> u32 {
+    unsafe {
+        desk_areas(
+            c.as_ptr(), c.len(), p.as_ptr(), p.len(), h.as_ptr(), h.len(), e.as_ptr(), e.len(), pieces.as_ptr(), pieces.len(), areas.as_mut_ptr(), areas.len(),
+        )
+    }
+}
+
+/// The print file of a piece, at the front of the room: bits 0 to 7 are 0, 3, 4, 6, 16 or 12, above them is how many bytes it has.
+pub fn stl(c: &[u16], p: &[f64], h: &[f64], e: &[u16], root: u32, file: &mut [u8]) -> u64 {
+    unsafe { desk_stl(c.as_ptr(), c.len(), p.as_ptr(), p.len(), h.as_ptr(), h.len(), e.as_ptr(), e.len(), root, file.as_mut_ptr(), file.len()) }
 }
 
 /// The table as its one file, at the front of the room: bits 0 to 7 are 0, 3 or 12, above them is how many bytes it has.

@@ -13,7 +13,7 @@
 /// ```
 #[derive(Clone, Copy, PartialEq, Eq, Hash)]
 pub struct Refused(
-    /// The number of the refusal: 1 to 13, or 26.
+    /// The number of the refusal: 1 to 13, 16, 25 or 26.
     pub u8,
 );
 
@@ -47,6 +47,8 @@ refusals! {
     11 BOUNDARY_FULL "a boundary would have more than 32 elements"
     12 ROOM_SHORT "the room for the list or the file is too short"
     13 LAYOUT "the bytes are not laid out as a file"
+    16 PRIMORDIAL_FACET "the piece has a primordial facet"
+    25 OFF_GRID "a coordinate of a piece is no multiple of 1/1,024"
     26 LIST_LONG "the list has more than its limit, or its parts do not belong together"
 }
 

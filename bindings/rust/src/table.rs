@@ -2,8 +2,8 @@
 
 use crate::raw;
 use crate::{
-    Counts, CutAnswer, ElementCutOutput, ElementId, Hyperplane, HyperplaneId, ListedCut, PolytopeFate, Refused, Slices, Stopped, Touch,
-    Touched, VertexId,
+    AreaSheet, Counts, CutAnswer, ElementCutOutput, ElementId, Hyperplane, HyperplaneId, ListedCut, PolytopeFate, Refused, Slices, Stopped,
+    Touch, Touched, VertexId,
 };
 use std::fmt;
 
@@ -255,6 +255,44 @@ impl Table {
     pub fn has_primordial_facet(&self, root: ElementId) -> Result<bool, Refused> {
         let word = raw::has_primordial_facet(&self.counts, &*self.points, &*self.planes, &*self.elements, root.0.into());
         refusal(word).map_or(Ok(word >> 8 & 1 == 1), Err)
+    }
+
+    /// The areas of up to [`raw::MOST_PIECES`] flat pieces, in exact numbers. The table has two dimensions and each piece rank 2, or it is
+    /// refused with 6, and every coordinate is a multiple of 1/1,024, or with 25. More pieces are refused with 26, and 4 is refused too.
+    ///
+    /// ```
+    /// # use spoonvelvet::{AreaSheet, ElementId, Hyperplane, Refused, Table};
+    /// let mut square = Table::with_primordial_cube_radius(2, 1.0)?;
+    /// square.slice(Hyperplane::new(&[1.0, 0.0], 0.5)?, ElementId(8))?;
+    /// let sheet = square.areas(&[16, 17].map(ElementId))?;
+    /// assert_eq!(sheet.twice_areas, [-3 * AreaSheet::IN_ONE, AreaSheet::IN_ONE]);
+    /// assert_eq!(sheet.sum_of_sizes, 4 * AreaSheet::IN_ONE);
+    /// # Ok::<(), Refused>(())
+    /// ```
+    pub fn areas(&self, pieces: &[ElementId]) -> Result<AreaSheet, Refused> {
+        let numbers: Vec<u16> = pieces.iter().map(|e| e.0).collect();
+        let mut room = [0; raw::LONGEST_SHEET];
+        let word = raw::areas(&self.counts, &*self.points, &*self.planes, &*self.elements, &numbers, &mut room);
+        refusal(word).map_or(Ok(()), Err)?;
+        Ok(AreaSheet { twice_areas: room[..pieces.len()].to_vec(), sum_of_sizes: room[pieces.len() + 1] })
+    }
+
+    /// A piece of three dimensions as binary STL, for a printer: each face as a fan of triangles from the first corner of its walk, with
+    /// coordinates narrowed to 32 bits. The winding is the walk's, which need not be outward, and no normal is given, so a reader
+    /// has to turn the faces. Refuses with 4, with 6 what is not of rank 3 in a table of three dimensions, and with 16 a piece
+    /// that still has a facet of the cube.
+    ///
+    /// ```
+    /// # use spoonvelvet::{ElementId, Refused, Table};
+    /// let cube = Table::with_primordial_cube_radius(3, 1.0)?;
+    /// assert_eq!(cube.stl(cube.last_element()), Err(Refused::PRIMORDIAL_FACET));
+    /// # Ok::<(), Refused>(())
+    /// ```
+    pub fn stl(&self, root: ElementId) -> Result<Vec<u8>, Refused> {
+        let mut file = vec![0; raw::LONGEST_PRINT];
+        let word = raw::stl(&self.counts, &*self.points, &*self.planes, &*self.elements, root.0.into(), &mut file);
+        file.truncate((word >> 8) as usize);
+        refusal(word as u32).map_or(Ok(file), Err)
     }
 
     /// No list is longer than the table has elements, so there is always room.

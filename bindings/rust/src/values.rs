@@ -176,6 +176,20 @@ pub struct Touched {
     pub tested: u32,
 }
 
+/// The areas of some flat pieces, each twice and in units of 1/1,048,576: so they are whole numbers.
+#[derive(Clone, Debug, PartialEq, Eq)]
+pub struct AreaSheet {
+    /// Of each piece, in the order in which they were given: positive where its walk turns from axis 0 towards axis 1, else negative.
+    pub twice_areas: Vec<i64>,
+    /// The sum of their sizes, which are the areas without their signs.
+    pub sum_of_sizes: i64,
+}
+
+impl AreaSheet {
+    /// A piece of area 1 has so many.
+    pub const IN_ONE: i64 = 2 * 1_048_576;
+}
+
 /// One number for each of the three lists.
 #[derive(Clone, Copy, Debug, PartialEq, Eq)]
 pub struct Counts {

@@ -1,7 +1,7 @@
 -- A list of cuts: the tests of its slices, the cut at a position, and the list from a position on, which goes on to what the whole list gives.
 use Prim.Native.Nat.{ℕ, suc, _+_, _-_, _*_, _/_, _%_, _≤_, _<_, zero-le}
 use mathlib.Core.Bool.{Bool, true, false, _&&_}
-use mathlib.Core.List.{List, [], _∷_, map}
+use mathlib.Core.List.{List, map}
 use mathlib.Core.Path.{_≡_, refl, sym, ap, subst, _∙_}
 use native.Mathlib.Nat.{le-trans, le-of-eq, le-antisymm, sub-zero, sub-self}
 use native.Mathlib.Numerals.{add-one}
@@ -27,7 +27,7 @@ use Rattle.rules.specs.declared.CutListReply.the-variants.{Refused, Stopped, An
 use Rattle.rules.proofs.CutLists.{listBy, list-by, cut-list-is-cuts}
 use Rattle.rules.proofs.Laws.{and-left, and-right, eq-test, test-eq, not-eq, le-test, test-le, test-above}
 use Rattle.hypermath.specs.Answers.{rowHyperplane}
-use Rattle.cut.specs.Whole.{SoundIndexed, SoundCut}
+use Rattle.cut.specs.Whole.{SoundCut}
 use Rattle.cut.specs.Lists.{cutListOf, RowReady, paramsAt, ListReady, PositionReady, afterMade, CutMade, CutsMade}
 use Rattle.cut.specs.declared.lists.Made.{Made}
 use Rattle.cut.specs.declared.lists.Made.the-variants as made

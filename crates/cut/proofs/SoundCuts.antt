@@ -1,17 +1,16 @@
 -- A cut of a memory that is known to be sound: what was asked of the counts is what is asked of the memory, and what an answer leaves is sound, with its index.
 use Prim.Native.Nat.{ℕ}
-use mathlib.Core.Bool.{Bool, true, false}
+use mathlib.Core.Bool.{false}
 use mathlib.Core.Path.{_≡_, sym, _∙_}
 use mathlib.Core.List.{List}
 use native.Mathlib.Omega.{arith}
 use lib.ListN.{length, getD}
 use lib.Ieee.{Float}
 use Rattle.rules.specs.Limits.{desk}
-use Rattle.rules.specs.Memory.{Memory, soundMemory}
+use Rattle.rules.specs.Memory.{soundMemory}
 use Rattle.rules.specs.Held.{memoryOf}
 use Rattle.rules.specs.Cut.{given}
-use Rattle.rules.specs.Replies.{asReply, cutReply}
-use Rattle.rules.specs.declared.ElementAnswer.{ElementAnswer}
+use Rattle.rules.specs.Replies.{cutReply}
 use Rattle.rules.specs.declared.ElementCutOutput.the-variants.{NonFlush}
 use Rattle.rules.specs.declared.ElementOrNone.the-variants.{None}
 use Rattle.rules.specs.declared.CutParams.{CutParams}

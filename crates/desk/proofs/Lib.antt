@@ -5,3 +5,4 @@ pub mod ListWords
 pub mod RankWords
 pub mod FileWords
 pub mod TouchWords
+pub mod PrintWords

@@ -16,6 +16,7 @@ use Rattle.rules.specs.Walk.{walk, otherEnd, otherEdge, firstEdge, startOf, eac
 use Rattle.rules.specs.Replies.{asked, listed, subElementsReply, withRankReply, vertexSetReply, greatestCommonReply, inNumbers, edgesInOrderReply}
 use Rattle.rules.specs.declared.ListReply.{ListReply}
 use Rattle.rules.specs.declared.ListReply.the-variants.{Refused, Listed}
+use Rattle.rules.proofs.WalkSteps.{walk-short}
 use Rattle.rules.proofs.Counting.{length-up}
 use Rattle.rules.proofs.Good.{sound-good}
 use Rattle.rules.proofs.Growing.{all-get}
@@ -96,18 +97,6 @@ module _ (m : Memory) where
           by true = greatest-fits (rank t e) (e ∷ es) s
           by false = tt
 
-  walk-short : (n : ℕ) (es : List ℕ) (start v e : ℕ) → length (walk n t es start v e) ≤ n
-  unfolding walk
-  walk-short zero es start v e = let z : 0 ≤ 0 = omega arith in z
-  walk-short (suc n) es start v e = go (eqb w start) (walk-short n es start w (otherEdge t w e es))
-    where
-      w : ℕ
-      w = otherEnd t v e
-
-      go : (b : Bool) → length (walk n t es start w (otherEdge t w e es)) ≤ n → suc (length (if b then [] else walk n t es start w (otherEdge t w e es))) ≤ suc n
-      go true h = let z : 1 ≤ suc n = omega arith in z
-      go false h = let z : suc (length (walk n t es start w (otherEdge t w e es))) ≤ suc n = omega (arith, h) in z
-
   pairs-long : (v : ℕ) (ss : List (ℕ × ℕ)) → length (joined (map (λ (p : ℕ × ℕ). p .0 ∷ p .1 ∷ []) (pairs t v ss))) ≡ 2 * length ss
   pairs-long v [] = refl
   pairs-long v (s ∷ ss) = let h = pairs-long (s .1) ss in let z : suc (suc (length (joined (map (λ (p : ℕ × ℕ). p .0 ∷ p .1 ∷ []) (pairs t (s .1) ss))))) ≡ 2 * suc (length ss) = omega (arith, h) in z
@@ -129,7 +118,7 @@ module _ (m : Memory) where
 
       most : soundMemory desk m ≡ true → e < elementCount t → length steps ≤ desk .boundary
       most s u =
-          le-trans (walk-short (length es) es start start (firstEdge t start es))
+          le-trans (walk-short t (length es) es start start (firstEdge t start es))
           (le-test (length es) (desk .boundary) (all-get (λ x. leb (length (boundaryOf x)) (desk .boundary)) (t .elements) e (corner 0) u (sound-good desk t (sound-table desk m s) .boundaryRoom)))
 
       by : (a b : Bool) → length steps ≤ desk .boundary → Short (inNumbers (if a then no-answer 6 else if b then answer (pairs t start steps) else no-answer 7))

@@ -1,73 +1,31 @@
 // Every entry point for hosts: slices as a pointer and a length, and numbers of 32 bits, so that none is cut to another on its way.
+mod words;
+
 use cut::answers::output_word;
 use elements::questions;
 use elements::touch;
-use rules::CutListReply;
 use rules::CutParams;
 use rules::CutReply;
 use rules::ElementId;
 use rules::FacetReply;
 use rules::Hyperplane;
-use rules::ListReply;
-use rules::PolytopeFate;
-use rules::Touch;
-use rules::TouchReply;
 use walk::facet;
-ghost use Prim.Native.Nat.{_≤_};
+use words::fate;
+use words::list_word;
+use words::rank_byte;
+use words::touch_word;
+use words::written_word;
 ghost use mathlib.Core.Path.{_≡_};
 ghost use Rattle.rules.specs.Limits.{desk};
 ghost use Rattle.rules.specs.Held.{memoryOf};
-ghost use Rattle.rules.specs.CutLists.{mostCuts, cutListReply, answersWritten};
+ghost use Rattle.rules.specs.CutLists.{cutListReply};
 ghost use Rattle.rules.specs.Areas.{areasReply};
 ghost use Rattle.rules.specs.Files.{saveReply, openReply};
+ghost use Rattle.rules.specs.Print.{printReply};
 ghost use Rattle.rules.specs.Replies.{isSoundReply, cubeReply, cutBy, cutReply, subElementsReply, withRankReply, vertexSetReply, greatestCommonReply, edgesInOrderReply, primordialFacetReply};
-ghost use Rattle.rules.specs.Touch.{touchValue, touchReply};
-ghost use Rattle.space.specs.Numbers.{NumberBelow};
+ghost use Rattle.rules.specs.Touch.{touchReply};
 ghost use Rattle.cut.specs.Lists.{cutListOf};
-ghost use Rattle.desk.specs.Words.{cutWord, writtenWord, cutListWord, sizeWord, SizeFits, listWord, facetWord, touchWord, CountFits, dividerWith, fateBy, rankByte};
-
-// 0 removes a side, and any other number keeps it.
-fn fate(kept: u32) -> PolytopeFate
-    ensures { λ r. ⌜ r ≡ fateBy kept ⌝ }
-{
-    if kept == 0 {
-        return PolytopeFate::Remove;
-    }
-    PolytopeFate::Keep
-}
-
-// A rank that no byte holds is nobody's, as 255 is.
-fn rank_byte(rank: u32) -> u8
-    ensures { λ r. ⌜ r ≡ rankByte rank ⌝ }
-{
-    if rank > 255 {
-        return 255;
-    }
-    rank as u8
-}
-
-// The reply's number, and how many answers were written above its eight bits.
-fn written_word(r: CutListReply) -> u32
-    requires { ⌜ answersWritten r ≤ mostCuts ⌝ }
-    ensures { λ w. ⌜ w ≡ writtenWord r ⌝ }
-{
-    match r {
-        CutListReply::Refused(no) => no as u32,
-        CutListReply::Stopped { number, position } => number as u32 + position as u32 * 0x100,
-        CutListReply::Answered(n) => n as u32 * 0x100,
-    }
-}
-
-// The reply's number, or the size of the list above its eight bits.
-fn list_word(r: ListReply) -> u32
-    requires { ⌜ SizeFits r ⌝ }
-    ensures { λ w. ⌜ w ≡ sizeWord r ⌝ }
-{
-    match r {
-        ListReply::Refused(no) => no as u32,
-        ListReply::Listed(n) => n as u32 * 0x100,
-    }
-}
+ghost use Rattle.desk.specs.Words.{cutWord, cutListWord, listWord, facetWord, touchWord, dividerWith, fateBy, rankByte};
 
 #[no_mangle]
 pub extern "C" fn desk_is_sound(
@@ -129,30 +87,6 @@ pub extern "C" fn desk_cut(
     match reply {
         CutReply::Refused(no) => no as u64,
         CutReply::Answered { output, warning } => output_word(output, warning),
-    }
-}
-
-fn touch_value(answer: Touch) -> u32
-    ensures { λ r. ⌜ NumberBelow r (touchValue answer) 4 ⌝ }
-{
-    match answer {
-        Touch::AllOn => 0,
-        Touch::InsideOrOn => 1,
-        Touch::OutsideOrOn => 2,
-        Touch::Both => 3,
-    }
-}
-
-fn touch_word(reply: TouchReply) -> u32
-    requires { ⌜ CountFits reply ⌝ }
-    ensures { λ r. ⌜ r ≡ touchWord reply ⌝ }
-{
-    match reply {
-        TouchReply::Refused(no) => no as u32,
-        TouchReply::Touched { answer, tested } => {
-            let value = touch_value(answer);
-            value * 0x100 + tested as u32 * 0x10000
-        }
     }
 }
 
@@ -382,4 +316,27 @@ pub extern "C" fn desk_open(
         openReply desk (now (file .entry)) (memoryOf (now (counts .entry)) (now (points .entry)) (now (planes .entry)) (now (elements .entry))) ⌝ }
 {
     files::open::open(counts, points, planes, elements, file) as u32
+}
+
+// As saving replies.
+#[no_mangle]
+pub extern "C" fn desk_stl(
+    counts: &[u16],
+    points: &[f64],
+    planes: &[f64],
+    elements: &[u16],
+    root: u32,
+    file: &mut [u8],
+) -> u64
+    ensures { λ r. ⌜ (r, now (file .exit)) ≡ listWord (printReply desk (memoryOf (now (counts .entry)) (now (points .entry)) (now (planes .entry)) (now (elements .entry))) root (now (file .entry))) ⌝ }
+{
+    let reply = print::stl(
+        counts,
+        points,
+        planes,
+        elements,
+        ElementId(root as usize),
+        file,
+    );
+    list_word(reply) as u64
 }

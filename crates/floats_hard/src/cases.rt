@@ -27,6 +27,22 @@ fn one(words: &[u64], at: usize)
     print::line_end();
 }
 
+pub fn narrowings(words: &[u64]) {
+    for i in 0..words.len() {
+        narrowing(words, i);
+    }
+}
+
+// A float narrowed to 32 bits; a NaN has none to show.
+fn narrowing(words: &[u64], at: usize)
+    requires { ⌜ at < length (now words) ⌝ }
+{
+    let x = read::float(words, at);
+    print::name(b"narrow");
+    print::narrowed(x);
+    print::line_end();
+}
+
 pub fn pairs(words: &[u64]) {
     for i in 0..words.len() / 2 {
         pair(words, i * 2);

@@ -14,6 +14,7 @@ fn main() {
     cases::normals(&table::NORMALS);
     cases::plane_pairs(&table::PLANE_PAIRS);
     search();
+    cases::narrowings(&table::NARROWINGS);
 }
 
 // The searches, over the rows that they read.

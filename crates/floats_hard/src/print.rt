@@ -2,6 +2,7 @@
 use hypermath::DistanceKind;
 use hypermath::FoundHyperplane;
 use hypermath::FoundVertex;
+use hypermath::narrow::narrowed_bits;
 use rules::Crossing;
 use rules::EdgeTest;
 use rules::Hyperplane;
@@ -26,6 +27,16 @@ pub fn float(x: f64) {
     }
     io::write_all(1, b" ");
     io::print_hex(1, f64::to_bits(x), 16);
+}
+
+// The 8 hexadecimal digits of the nearest float of 32 bits.
+pub fn narrowed(x: f64) {
+    if x != x {
+        io::write_all(1, b" nan");
+        return;
+    }
+    io::write_all(1, b" ");
+    io::print_hex(1, narrowed_bits(x), 8);
 }
 
 pub fn point(p: [f64; 4]) {

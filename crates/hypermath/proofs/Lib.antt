@@ -4,3 +4,4 @@ pub mod Products
 pub mod Filling
 pub mod Crossings
 pub mod Searches
+pub mod Narrowing

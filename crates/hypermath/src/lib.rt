@@ -1,5 +1,6 @@
 // All that the rules do with floats: distances and sides, crossings, matches, and the two searches over the lent rows.
 mod between;
+pub mod narrow;
 pub mod patterns;
 mod sides;
 

@@ -3,3 +3,4 @@ pub mod Fronts
 pub mod Decimals
 pub mod Puts
 pub mod Rests
+pub mod FloatParts

@@ -1,4 +1,5 @@
 // Into lent bytes, one after another: bytes as they are, numbers with the lowest byte first, floats by their bits.
+use hypermath::narrow::narrowed_bits;
 ghost use Prim.Native.Nat.{_+_, _*_, _-_, _≤_};
 ghost use mathlib.Core.Bool.{not, true, false};
 ghost use mathlib.Core.Path.{_≡_};
@@ -6,6 +7,7 @@ ghost use lib.ListN.{length, take, drop};
 ghost use lib.Ieee.{isNan};
 ghost use Rattle.rules.specs.Lists.{all};
 ghost use Rattle.rules.specs.Bytes.{bytesOf, numberBytes, floatByte8, floatBytes};
+ghost use Rattle.rules.specs.Print.{narrowedBytes, cornerBytes};
 ghost use Rattle.lent_bytes.specs.Lent.{Put, Part};
 
 pub fn word(bytes: &[u8], room: &mut [u8], at: usize) -> usize
@@ -63,6 +65,29 @@ pub fn floats(list: &[f64], from: usize, to: usize, room: &mut [u8], at: usize) 
     let mut end = at;
     for i in from..to {
         end = float(list[i], room, end);
+    }
+    end
+}
+
+// The same in 4 bytes, narrowed to the nearest float of 32 bits.
+pub fn narrowed(x: f64, room: &mut [u8], at: usize) -> usize
+    requires { ⌜ isNan x ≡ false ⌝ }
+    requires { ⌜ at + 4 ≤ length (now room) ⌝ }
+    ensures { λ r. ⌜ Put (now (room .entry)) at (narrowedBytes x) r (now (room .exit)) ⌝ }
+{
+    number(4, narrowed_bits(x), room, at)
+}
+
+// The coordinates of a point, from one index up to another.
+pub fn corner(list: &[f64], from: usize, to: usize, room: &mut [u8], at: usize) -> usize
+    requires { ⌜ Part (now list) from to ⌝ }
+    requires { ⌜ all (λ x. not (isNan x)) (drop from (take to (now list))) ≡ true ⌝ }
+    requires { ⌜ at + (to - from) * 4 ≤ length (now room) ⌝ }
+    ensures { λ r. ⌜ Put (now (room .entry)) at (cornerBytes (drop from (take to (now (list .entry))))) r (now (room .exit)) ⌝ }
+{
+    let mut end = at;
+    for i in from..to {
+        end = narrowed(list[i], room, end);
     }
     end
 }

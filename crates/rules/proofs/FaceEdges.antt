@@ -279,10 +279,10 @@ module _ (L : Limits) (t : Table) (s : sound L t ≡ true) where
     face : Bounded t f 2 (boundary t f)
     face = subst (λ (n : ℕ). Bounded t f n (boundary t f)) r (bounds f u (subst (λ (n : ℕ). 0 < n) (sym r) (zero-lt-suc 1)))
 
-    edge-used : (e : ℕ) → member e (boundary t f) ≡ true → e < elementCount t
+    pub edge-used : (e : ℕ) → member e (boundary t f) ≡ true → e < elementCount t
     edge-used e m = le-trans (le-test (suc e) f (of-all (λ x. ltb x f) (boundary t f) e (face .under) m)) (le-of-lt u)
 
-    edge-rank : (e : ℕ) → member e (boundary t f) ≡ true → rank t e ≡ 1
+    pub edge-rank : (e : ℕ) → member e (boundary t f) ≡ true → rank t e ≡ 1
     edge-rank e m = suc-inj (eq-test (suc (rank t e)) 2 (of-all (λ x. eqb (suc (rank t x)) 2) (boundary t f) e (face .ranks) m))
 
     pub linked : Linked t (boundary t f)

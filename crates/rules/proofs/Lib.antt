@@ -1,3 +1,4 @@
+pub mod WalkSteps
 pub mod Answers
 pub mod Apart
 pub mod AreaReplies
@@ -25,6 +26,7 @@ pub mod CutLists
 pub mod Each
 pub mod Extends
 pub mod FaceEdges
+pub mod Fans
 pub mod Fewer
 pub mod FileRecords
 pub mod FileReplies
@@ -41,6 +43,7 @@ pub mod OldRows
 pub mod OneCall
 pub mod OneCorner
 pub mod OneFile
+pub mod Printed
 pub mod Promises
 pub mod Ranked
 pub mod Reach

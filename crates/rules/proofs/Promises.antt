@@ -32,6 +32,7 @@ use Rattle.rules.proofs.Laws.{le-test, none-some}
 use Rattle.rules.proofs.Missed.{sideBy, givenBack, missed-cut}
 use Rattle.rules.proofs.OldRows.{old-entries-stay}
 use Rattle.rules.proofs.OneCall.{sound-table, passed, divider-sound, names-in-use}
+use Rattle.rules.proofs.Printed.{print-is-sized, faces-are-fanned}
 use Rattle.rules.proofs.Reach.{is-below}
 use Rattle.rules.proofs.Common.{sub-elements-are-least, vertex-set-is-the-union, common-are-greatest}
 use Rattle.rules.proofs.Refusals.{refused-cut-leaves, refused-cube-leaves, refused-list-leaves, list-fills-front, cut-numbers, cube-numbers, list-numbers, facet-numbers, sound-numbers}
@@ -157,6 +158,8 @@ module _ (L : Limits) (R : Readable L) (H : HasCubes L) (F : Fileable L) where
     refused-areas-leave = refused-areas-leave L;
     areas-fill-front = areas-fill-front L;
     areas-fit = areas-fit L;
+    print-is-sized = print-is-sized L F;
+    faces-are-fanned = faces-are-fanned L;
   }
 
 -- ---- the two rooms

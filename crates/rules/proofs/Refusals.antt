@@ -10,8 +10,8 @@ use lib.Ieee.{Float}
 use lib.ListN.{length, drop}
 use lib.Seq.{length-front, length-take-le, drop-append-seam}
 use Rattle.rules.specs.Limits.{Limits}
-use Rattle.rules.specs.Lists.{member, if_then_else_, all}
-use Rattle.rules.specs.Table.{elementCount, Table, rank}
+use Rattle.rules.specs.Lists.{member, if_then_else_, all, any}
+use Rattle.rules.specs.Table.{elementCount, Table, isPrimordial, element, rank, boundary}
 use Rattle.rules.specs.Sound.{sound}
 use Rattle.rules.specs.Memory.{Memory, soundMemory, decode, encode, rightSize}
 use Rattle.rules.specs.Cube.{cube, radiusFits}
@@ -19,8 +19,9 @@ use Rattle.rules.specs.Cut.{cut, refused, Outcome, done}
 use Rattle.rules.specs.Questions.{Asked, no-answer, answer, subElements, withRank, vertexSet, greatestCommon, edgesInOrder, primordialFacet}
 use Rattle.rules.specs.Replies.{cutReply, dividerFits, paramsOf, cutNumber, cubeReply, listed, listNumber, listSize, asked, inNumbers, facetAnswer, isSoundReply}
 use Rattle.rules.specs.Replies.{subElementsReply, withRankReply, vertexSetReply, greatestCommonReply, edgesInOrderReply, primordialFacetReply}
+use Rattle.rules.specs.Print.{unlessFacet, printFile, printed, printReply}
 use Rattle.rules.specs.Files.{fileOf, saveReply}
-use Rattle.rules.specs.Calls.{ListQuestion, subElementsOf, subElementsWithRank, vertexSetOf, greatestCommonOf, edgesInOrderOf, fileOfTable, listReply, listRefusals}
+use Rattle.rules.specs.Calls.{ListQuestion, subElementsOf, subElementsWithRank, vertexSetOf, greatestCommonOf, edgesInOrderOf, fileOfTable, printFileOf, listReply, listRefusals}
 use Rattle.rules.specs.Calls.{Filled, CutNumbered, ListNumbered, FacetNumbered}
 use Rattle.rules.specs.Promises.{RefusedCutLeaves, RefusedCubeLeaves, RefusedListLeaves, ListFillsFront, CutNumbers, CubeNumbers, ListNumbers, FacetNumbers, SoundNumbers}
 use Rattle.rules.specs.declared.CutReply.{CutReply}
@@ -182,15 +183,17 @@ list-answer L (vertexSetOf e) m = asked L m (e ∷ []) (answer (vertexSet (decod
 list-answer L (greatestCommonOf es) m = asked L m es (greatestCommon (decode L m) es)
 list-answer L (edgesInOrderOf e) m = asked L m (e ∷ []) (inNumbers (edgesInOrder (decode L m) e))
 list-answer L fileOfTable m = asked L m [] (answer (fileOf (decode L m)))
+list-answer L (printFileOf e) m = asked L m (e ∷ []) (printed (decode L m) e)
 
 list-by : (L : Limits) (q : ListQuestion) (m : Memory) (room : List ℕ) → listReply L q m room ≡ listed (list-answer L q m) room
-unfolding list-answer subElementsReply withRankReply vertexSetReply greatestCommonReply edgesInOrderReply saveReply
+unfolding list-answer subElementsReply withRankReply vertexSetReply greatestCommonReply edgesInOrderReply saveReply printReply
 list-by L (subElementsOf e) m room = refl
 list-by L (subElementsWithRank k e) m room = refl
 list-by L (vertexSetOf e) m room = refl
 list-by L (greatestCommonOf es) m room = refl
 list-by L (edgesInOrderOf e) m room = refl
 list-by L fileOfTable m room = refl
+list-by L (printFileOf e) m room = refl
 
 pub refused-list-leaves : (L : Limits) → RefusedListLeaves L
 refused-list-leaves L q m room k =
@@ -240,6 +243,17 @@ edges-in L t f s u = go (eqb (rank t f) 2) refl
     go true q = let w = face-is-walked L t s f u (eq-test (rank t f) 2 q) in subst (λ (a : Asked (List (ℕ × ℕ))). RefusedIn (3 ∷ 4 ∷ 6 ∷ 12 ∷ []) (inNumbers a)) (sym (w .1)) tt
     go false q = subst (λ (a : Asked (List (ℕ × ℕ))). RefusedIn (3 ∷ 4 ∷ 6 ∷ 12 ∷ []) (inNumbers a)) (sym (six t f q)) refl
 
+printed-in : (t : Table) (e : ℕ) → RefusedIn (3 ∷ 4 ∷ 6 ∷ 16 ∷ 12 ∷ []) (printed t e)
+unfolding printed primordialFacet
+printed-in t e =
+    either (RefusedIn (3 ∷ 4 ∷ 6 ∷ 16 ∷ 12 ∷ [])) (eqb (t .dimension) 3) _ _
+    (either (λ (a : Asked Bool). RefusedIn (3 ∷ 4 ∷ 6 ∷ 16 ∷ 12 ∷ []) (unlessFacet a (printFile t e))) (eqb (rank t e) (t .dimension)) _ _
+    (go (any (λ b. isPrimordial (element t b)) (boundary t e))) refl) refl
+  where
+    go : (b : Bool) → RefusedIn (3 ∷ 4 ∷ 6 ∷ 16 ∷ 12 ∷ []) (unlessFacet (answer b) (printFile t e))
+    go true = refl
+    go false = tt
+
 list-in : (L : Limits) (q : ListQuestion) (m : Memory) → RefusedIn (listRefusals q) (list-answer L q m)
 unfolding list-answer
 list-in L (subElementsOf e) m = asked-in L m (e ∷ []) _ (answer (subElements (decode L m) e)) refl refl tt
@@ -250,6 +264,7 @@ list-in L (edgesInOrderOf e) m =
     asked-of L m (e ∷ []) _ (inNumbers (edgesInOrder (decode L m) e)) refl refl
     (λ s u. edges-in L (decode L m) e (sound-table L m s) (le-test (suc e) (elementCount (decode L m)) (and-left (ltb e (elementCount (decode L m))) true u)))
 list-in L fileOfTable m = either (RefusedIn (3 ∷ 12 ∷ [])) (not (soundMemory L m)) (no-answer 3) (answer (fileOf (decode L m))) refl tt
+list-in L (printFileOf e) m = asked-in L m (e ∷ []) _ (printed (decode L m) e) refl refl (printed-in (decode L m) e)
 
 -- a room too short is 12
 last-in : (q : ListQuestion) → member 12 (listRefusals q) ≡ true
@@ -259,6 +274,7 @@ last-in (vertexSetOf e) = refl
 last-in (greatestCommonOf es) = refl
 last-in (edgesInOrderOf e) = refl
 last-in fileOfTable = refl
+last-in (printFileOf e) = refl
 
 no-zero : (q : ListQuestion) → member 0 (listRefusals q) ≡ false
 no-zero (subElementsOf e) = refl
@@ -267,6 +283,7 @@ no-zero (vertexSetOf e) = refl
 no-zero (greatestCommonOf es) = refl
 no-zero (edgesInOrderOf e) = refl
 no-zero fileOfTable = refl
+no-zero (printFileOf e) = refl
 
 pub listed-in : {A : Type 0} (ns : List ℕ) (a : Asked (List A)) (room : List A) → RefusedIn ns a → member 12 ns ≡ true → member 0 ns ≡ false → ListNumbered ns (listed a room .0)
 listed-in ns (no-answer n) room h t z = refused-in n h

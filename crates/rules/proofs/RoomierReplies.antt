@@ -21,8 +21,9 @@ use Rattle.rules.specs.Questions.{Asked, no-answer, answer, subElements,
 use Rattle.rules.specs.Replies.{cutNumber, isSoundReply, cubeReply, dividerFits, distanceFits, dividerOf, isKept, paramsOf, asReply, cutReply, asked, listed, inNumbers, facetAnswer}
 use Rattle.rules.specs.Replies.{subElementsReply, withRankReply, vertexSetReply, greatestCommonReply, edgesInOrderReply, primordialFacetReply}
 use Rattle.rules.specs.Touch.{touch, touchReply}
+use Rattle.rules.specs.Print.{printed, printReply}
 use Rattle.rules.specs.Files.{fileOf, saveReply, openReply}
-use Rattle.rules.specs.Calls.{ListQuestion, subElementsOf, subElementsWithRank, vertexSetOf, greatestCommonOf, edgesInOrderOf, fileOfTable, listReply}
+use Rattle.rules.specs.Calls.{ListQuestion, subElementsOf, subElementsWithRank, vertexSetOf, greatestCommonOf, edgesInOrderOf, fileOfTable, printFileOf, listReply}
 use Rattle.rules.specs.CutLists.{mostCuts, CutList, listFits, ListedCut, dividerAt, cutAt, cutsOf, goingOn, cutsFrom, cutListReply, cutListNumber}
 use Rattle.rules.specs.Areas.{pieceOnGrid, areasReply}
 use Rattle.rules.specs.Rooms.{TablesAlike, RepliesAlike, RoomierAlike, moved, widened, widenedParams, widenedCut, SameCuts}
@@ -296,13 +297,14 @@ module _ (L M : Limits) (O : Roomier L M) (R : Readable L) (H : HasCubes L) (W :
         by b t = if not b then no-answer 3 else if not (all (λ e. ltb e (elementCount t)) es) then no-answer 4 else f t
 
     list-there : (q : ListQuestion) (room : List ℕ) → listReply M q (moved L M m) room ≡ listReply L q m room
-    unfolding subElementsReply withRankReply vertexSetReply greatestCommonReply edgesInOrderReply saveReply
+    unfolding subElementsReply withRankReply vertexSetReply greatestCommonReply edgesInOrderReply saveReply printReply
     list-there (subElementsOf e) room = ap (λ (a : Asked (List ℕ)). listed a room) (asked-there (e ∷ []) (λ t. answer (subElements t e)))
     list-there (subElementsWithRank k e) room = ap (λ (a : Asked (List ℕ)). listed a room) (asked-there (e ∷ []) (λ t. answer (withRank t k e)))
     list-there (vertexSetOf e) room = ap (λ (a : Asked (List ℕ)). listed a room) (asked-there (e ∷ []) (λ t. answer (vertexSet t e)))
     list-there (greatestCommonOf es) room = ap (λ (a : Asked (List ℕ)). listed a room) (asked-there es (λ t. greatestCommon t es))
     list-there (edgesInOrderOf e) room = ap (λ (a : Asked (List ℕ)). listed a room) (asked-there (e ∷ []) (λ t. inNumbers (edgesInOrder t e)))
     list-there fileOfTable room = ap (λ (a : Asked (List ℕ)). listed a room) (asked-there [] (λ t. answer (fileOf t)))
+    list-there (printFileOf e) room = ap (λ (a : Asked (List ℕ)). listed a room) (asked-there (e ∷ []) (λ t. printed t e))
 
     facet-there : (e : ℕ) → primordialFacetReply M (moved L M m) e ≡ primordialFacetReply L m e
     unfolding primordialFacetReply

@@ -12,6 +12,7 @@ use Rattle.rules.specs.Table.{ElementNumber}
 use Rattle.rules.specs.Memory.{Memory}
 use Rattle.rules.specs.Replies.{cutNumber, cutValues, cutWarning, listNumber, listSize, facetNumber, facetValue, cubeReply, asReply, cutReply}
 use Rattle.rules.specs.Replies.{subElementsReply, withRankReply, vertexSetReply, greatestCommonReply, edgesInOrderReply}
+use Rattle.rules.specs.Print.{printReply}
 use Rattle.rules.specs.Files.{saveReply, openReply}
 use Rattle.rules.specs.declared.CutParams.{CutParams}
 use Rattle.rules.specs.declared.ElementAnswer.{ElementAnswer}
@@ -51,7 +52,7 @@ abbrev pub TableStays : Limits → List Call → Memory → Type 0
 TableStays L [] m = Unit {0}
 TableStays L (c ∷ cs) m = LeavesTable L c m × TableStays L cs (after L c m)
 
--- ---- the questions that give a list; saving gives the bytes of the table's file
+-- ---- the questions that give a list; saving gives the bytes of the table's file, and printing those of a piece's
 
 pub data ListQuestion : Type 0 where
   subElementsOf : ElementNumber → ListQuestion
@@ -60,6 +61,7 @@ pub data ListQuestion : Type 0 where
   greatestCommonOf : List ElementNumber → ListQuestion
   edgesInOrderOf : ElementNumber → ListQuestion
   fileOfTable : ListQuestion
+  printFileOf : ElementNumber → ListQuestion
 
 abbrev pub listReply : Limits → ListQuestion → Memory → List ℕ → ListReply × List ℕ
 listReply L (subElementsOf e) m room = subElementsReply L m e room
@@ -68,6 +70,7 @@ listReply L (vertexSetOf e) m room = vertexSetReply L m e room
 listReply L (greatestCommonOf es) m room = greatestCommonReply L m es room
 listReply L (edgesInOrderOf e) m room = edgesInOrderReply L m e room
 listReply L fileOfTable m room = saveReply L m room
+listReply L (printFileOf e) m room = printReply L m e room
 
 -- their refusals
 abbrev pub listRefusals : ListQuestion → List ℕ
@@ -77,6 +80,7 @@ listRefusals (vertexSetOf e) = 3 ∷ 4 ∷ 12 ∷ []
 listRefusals (greatestCommonOf es) = 3 ∷ 4 ∷ 6 ∷ 12 ∷ []
 listRefusals (edgesInOrderOf e) = 3 ∷ 4 ∷ 6 ∷ 12 ∷ []
 listRefusals fileOfTable = 3 ∷ 12 ∷ []
+listRefusals (printFileOf e) = 3 ∷ 4 ∷ 6 ∷ 16 ∷ 12 ∷ []
 
 -- ---- what a reply says
 

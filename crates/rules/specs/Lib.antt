@@ -14,6 +14,7 @@ pub mod Questions
 pub mod Rings
 pub mod Replies
 pub mod Touch
+pub mod Print
 pub mod Files
 pub mod Saving
 pub mod Session

@@ -19,6 +19,7 @@ use Rattle.rules.specs.Asking.{border, SubElementsAreReached, SubElement
 use Rattle.rules.specs.Rings.{RuleIsOneRing, FaceIsOneRing, FaceIsWalked}
 use Rattle.rules.specs.Replies.{cutNumber, cutValues, cutWarning, listNumber, listSize, isSoundReply, cubeReply, dividerFits, dividerOf, cutBy, cutReply, primordialFacetReply}
 use Rattle.rules.specs.Touch.{someCloseCall, TouchNumbers, TouchInfinite, TouchIsRead, TouchIsCounted, AllOnIsFlush, OneSideIsMissed, OneSideAddsNoVertex, BothCutsAnEdge}
+use Rattle.rules.specs.Print.{PrintIsSized, FacesAreFanned}
 use Rattle.rules.specs.Files.{openReply}
 use Rattle.rules.specs.Saving.{RefusedOpenLeaves, OpenNumbers, OpenIsSound, SavedOpens, OpenedSaves, OneFile, OpensRoomier, LayoutAlone}
 use Rattle.rules.specs.Calls.{Call, cutting, asking, cubing, opening, after, afterCalls, TableStays, ListQuestion, listReply, listRefusals, Gives, CutNumbered, ListNumbered, FacetNumbered, Filled}
@@ -312,3 +313,5 @@ pub record Promises (L : Limits) : Type 0 where
   pub refused-areas-leave : RefusedAreasLeave L
   pub areas-fill-front : AreasFillFront L
   pub areas-fit : AreasFit L
+  pub print-is-sized : PrintIsSized L
+  pub faces-are-fanned : FacesAreFanned L

@@ -6,5 +6,4 @@ pub mod Pairs
 pub mod Faces
 pub mod Starts
 pub mod Walking
-pub mod Whole
 pub mod Orders

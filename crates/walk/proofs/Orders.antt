@@ -19,6 +19,7 @@ use Rattle.rules.specs.Questions.{Asked, no-answer, answer, pairs, edgesInOrder
 use Rattle.rules.specs.Replies.{listed, inNumbers, edgesInOrderReply}
 use Rattle.rules.specs.declared.ListReply.{ListReply}
 use Rattle.rules.specs.declared.ListReply.the-variants.{Refused, Listed}
+use Rattle.rules.proofs.WalkSteps.{rising, all-steps}
 use Rattle.rules.proofs.FaceEdges.{start-first, takes-all}
 use Rattle.rules.proofs.Good.{Good, sound-good}
 use Rattle.rules.proofs.Laws.{if-true, if-false, test-eq, not-eq, test-le, test-above}
@@ -33,7 +34,6 @@ use Rattle.walk.proofs.Boundaries.{row-size, bounds, boundary-fits, bou
 use Rattle.walk.proofs.Faces.{CornerAt, Met, EdgeAt, edges-at, none-met}
 use Rattle.walk.proofs.Starts.{start-corner, start-is}
 use Rattle.walk.proofs.Walking.{first-is, first-met, walk-is}
-use Rattle.walk.proofs.Whole.{rising, all-steps}
 
 -- ---- 12, or the list written
 
@@ -128,7 +128,7 @@ module _ {cs : List ℕ} {ps hs : List Float} {es : List ℕ} {t : Table} (H : H
   around-is : around t (boundary t f) ≡ walk (length (boundary t f)) t (boundary t f) begin begin first
   around-is =
       ap (λ (x : ℕ). walk (length (boundary t f)) t (boundary t f) x x (firstEdge t x (boundary t f))) lowest-is
-      ∙ ap (walk (length (boundary t f)) t (boundary t f) begin begin) (first-is t es (boundary t f) edges none (H .fits .elementRoom) (rising t s f u q) begin)
+      ∙ ap (walk (length (boundary t f)) t (boundary t f) begin begin) (first-is t es (boundary t f) edges none (H .fits .elementRoom) (rising desk t s f u q) begin)
 
   -- never 6, for it is a face, and never 7, for the walk takes every edge
   pub order-is : inNumbers (edgesInOrder t f) ≡ answer (wordsInOrder es (rowBoundary es f))
@@ -137,8 +137,8 @@ module _ {cs : List ℕ} {ps hs : List Float} {es : List ℕ} {t : Table} (H : H
       ap inNumbers (if-false (not (eqb (rank t f) 2)) (no-answer 6) _ (ap not (test-eq (rank t f) 2 q)) ∙ if-true _ _ (no-answer 7) (takes-all desk t s f u q))
       ∙ ap₂ (λ (v : ℕ) (ss : List (ℕ × ℕ)). inNumbers (answer (pairs t v ss))) lowest-is around-is
       ∙ ap answer (walk-is t es (boundary t f) edges none (length (boundary t f)) begin begin first
-      (first-met t es (boundary t f) edges none (H .fits .elementRoom) (rising t s f u q) begin) start-at
-      (subst (λ (ss : List (ℕ × ℕ)). length (boundary t f) ≤ length (taken ss)) around-is (all-steps t s f u q)))
+      (first-met t es (boundary t f) edges none (H .fits .elementRoom) (rising desk t s f u q) begin) start-at
+      (subst (λ (ss : List (ℕ × ℕ)). length (boundary t f) ≤ length (taken ss)) around-is (all-steps desk t s f u q)))
       ∙ ap (λ (l : List ℕ). answer (wordsInOrder es l)) (sym same)
 
 -- ---- what was asked, and then the walk

@@ -13,6 +13,7 @@ use Rattle.rules.specs.Table.{Table, elementCount, boundary}
 use Rattle.rules.specs.Held.{AllOf}
 use Rattle.rules.specs.Walk.{edgesAt, otherEnd, otherEdge, walk, firstEdge}
 use Rattle.rules.specs.Questions.{pairs}
+use Rattle.rules.proofs.WalkSteps.{none-again}
 use Rattle.rules.proofs.Laws.{if-true, if-false, either, and-left, and-right, le-test, not-eq, eqb-self}
 use Rattle.rules.proofs.VertexSet.{keep-rises}
 use Rattle.rules.proofs.WalkRound.{taken}
@@ -35,15 +36,6 @@ keep-both p q (x ∷ xs) = go (p x) (q x) refl ∙ ap (λ (r : List ℕ). if p x
     go false true e = if-false (p x) (x ∷ keep p (keep q xs)) (keep p (keep q xs)) e
     go true false e = refl
     go false false e = refl
-
--- what is above y is not y
-pub none-again : (y : ℕ) (zs : List ℕ) → all (ltb y) zs ≡ true → keep (λ x. not (eqb x y)) zs ≡ zs
-none-again y [] h = refl
-none-again y (z ∷ zs) h =
-    let l = le-test (suc y) z (and-left (ltb y z) (all (ltb y) zs) h) in
-    let d = not-eq z y (λ e. let b : ⊥ = omega (arith, e, l) in b) in
-    if-true (not (eqb z y)) (z ∷ keep (λ x. not (eqb x y)) zs) (keep (λ x. not (eqb x y)) zs) (ap not d)
-    ∙ ap (λ (r : List ℕ). z ∷ r) (none-again y zs (and-right (ltb y z) (all (ltb y) zs) h))
 
 -- in a rising list the second is the first that is not the first
 second-is : (ys : List ℕ) → rises ys ≡ true → getD ys 1 0 ≡ getD (keep (λ x. not (eqb x (getD ys 0 0))) ys) 0 0

@@ -157,7 +157,7 @@ pub fn walk_face(elements: &[u16], f: ElementId, list: &mut [u16])
 }
 
 // 12, and only then is the list written.
-fn face_in_order(elements: &[u16], f: ElementId, list: &mut [u16]) -> ListReply
+pub fn face_in_order(elements: &[u16], f: ElementId, list: &mut [u16]) -> ListReply
     requires { ⌜ FaceFits (now elements) (f .0) ⌝ }
     ensures { λ r. ⌜ (r, now (list .exit)) ≡ listed (answer (wordsInOrder (now (elements .entry)) (rowBoundary (now (elements .entry)) (f .0)))) (now (list .entry)) ⌝ }
 {

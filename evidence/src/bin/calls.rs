@@ -1,6 +1,6 @@
 //! `calls N SEED [--bytes]`: N calls of every entry point, on random, damaged and strange memory, by the engine and by the model.
-//! The reply and every word of the memory and of the room for a list, a file or answers afterwards are compared; the first difference is
-//! shown. With --bytes each call is written to standard output with what the engine made of it, for another engine; words go to
+//! The reply and every word of the memory and of the room for a list, a file, answers or areas afterwards are compared; the first
+//! difference is shown. With --bytes each call is written to standard output with what the engine made of it, for another engine; words go to
 //! the other.
 
 use evidence::arguments;
@@ -21,7 +21,7 @@ use std::io::{self, BufWriter, Stdout};
 use std::process::ExitCode;
 
 /// Each outcome that documents 01 and 02 name for an entry point, which a run has to meet.
-const OUTCOMES: [(&str, &[&str]); 13] = [
+const OUTCOMES: [(&str, &[&str]); 15] = [
     ("is_sound", &["sound", "refused 3"]),
     ("with_primordial_cube_radius", &["done", "refused 1", "refused 2", "refused 3"]),
     (
@@ -72,6 +72,8 @@ const OUTCOMES: [(&str, &[&str]); 13] = [
         ],
     ),
     ("touch", &["all on", "inside or on", "outside or on", "both", "refused 3", "refused 4", "refused 5"]),
+    ("areas", &["sheet", "refused 3", "refused 4", "refused 6", "refused 12", "refused 25", "refused 26"]),
+    ("stl", &["file", "refused 3", "refused 4", "refused 6", "refused 12", "refused 16"]),
 ];
 
 /// What a cut that is taken gives.
@@ -215,13 +217,16 @@ fn room(r: &mut Random, call: &Call, lent: &mut Lent) -> Room {
     let mut room = call.longest();
     let word = call.by_model(lent, &mut room);
     let size = if word as u8 == 0 { (word >> 8) as usize } else { r.below(8) };
-    let longest = room.list.len().max(room.file.len());
+    let longest = room.list.len().max(room.file.len()).max(room.areas.len());
     let length = r.pick(&[0, size / 2, size.saturating_sub(1), size, size, size, size + 1, size + 9, longest]);
     if !room.list.is_empty() {
         room.list = (0..length).map(|_| r.word() as u16).collect();
     }
     if !room.file.is_empty() {
         room.file = (0..length).map(|_| r.word() as u8).collect();
+    }
+    if !room.areas.is_empty() {
+        room.areas = (0..length).map(|_| r.word() as i64).collect();
     }
     room
 }

@@ -40,8 +40,7 @@ pub fn edges_in_order(lent: &Lent, root: u32, room: &mut [u16]) -> Result<Size, 
     if table.rank(root) != 2 {
         return Err(6);
     }
-    let edges = table.ends(table.boundary(root)).into_iter().map(|ends| ends.map(|end| vertex_of(table, end)));
-    fill(room, &walk(edges.collect())?)
+    fill(room, &walk(edges_of(table, root))?)
 }
 
 pub fn has_primordial_facet(lent: &Lent, root: u32) -> Result<bool, Refusal> {
@@ -53,12 +52,12 @@ pub fn has_primordial_facet(lent: &Lent, root: u32) -> Result<bool, Refusal> {
 }
 
 /// Refusals 3 and 4.
-fn table_with(lent: &Lent, root: u32) -> Result<(&Table, u16), Refusal> {
+pub fn table_with(lent: &Lent, root: u32) -> Result<(&Table, u16), Refusal> {
     let table = lent.table()?;
     Ok((table, table.in_use(root).ok_or(4)?))
 }
 
-fn fill(room: &mut [u16], list: &[u16]) -> Result<Size, Refusal> {
+pub fn fill<T: Copy>(room: &mut [T], list: &[T]) -> Result<Size, Refusal> {
     room.get_mut(..list.len()).ok_or(12)?.copy_from_slice(list);
     Ok(list.len())
 }
@@ -91,6 +90,17 @@ fn common_to_all(table: &Table, roots: &[u16]) -> Vec<u16> {
     sets[0].iter().copied().filter(|e| sets.iter().all(|set| set.binary_search(e).is_ok())).collect()
 }
 
+/// Of a face: each edge by the vertices that are its ends.
+fn edges_of(table: &Table, face: u16) -> Vec<[u16; 2]> {
+    table.ends(table.boundary(face)).into_iter().map(|ends| ends.map(|end| vertex_of(table, end))).collect()
+}
+
+/// The corners of a face of a sound table, each once, in the order of its walk.
+pub fn corners_in_order(table: &Table, face: u16) -> Vec<u16> {
+    let numbers = walk(edges_of(table, face)).expect("a face of a sound table is one ring");
+    numbers.into_iter().step_by(2).collect()
+}
+
 fn vertex_of(table: &Table, end: u16) -> u16 {
     table.vertex_number(end).expect("an edge ends in vertices")
 }
@@ -118,7 +128,7 @@ fn edge_to_the_lowest_neighbour(edges: &[[u16; 2]], at: u16) -> Option<usize> {
     places.min_by_key(|&place| other_end(edges[place], at))
 }
 
-fn is_primordial(table: &Table, number: u16) -> bool {
+pub fn is_primordial(table: &Table, number: u16) -> bool {
     match table.element(number) {
         Some(Element::Polytope(p)) => p.primordial,
         _ => false,

@@ -1,49 +1,23 @@
 -- The invariant: the floats that are left, put behind those that stand there, make all of them, and none of them is a NaN.
-use Prim.Native.Nat.{ℕ, suc, _+_, _-_, _≤_, _<_}
-use mathlib.Core.Bool.{Bool, true, false, not}
-use mathlib.Core.List.{List, _∷_}
-use mathlib.Core.Path.{_≡_, refl, sym, ap, _∙_}
+use Prim.Native.Nat.{ℕ, _-_}
+use mathlib.Core.Path.{_≡_, refl, _∙_}
 use native.Mathlib.Omega.{arith}
-use lib.ListN.{length, getD, take, drop}
-use lib.Seq.{slice-cons}
-use lib.Ieee.{Float, nan, binary64, toBits, isNan}
+use lib.ListN.{length}
+use lib.Ieee.{Float, nan, binary64, toBits}
 use borrow.Author.Needs.{needs}
-use Rattle.rules.specs.Lists.{all}
-use Rattle.rules.specs.Bytes.{floatByte8, floatBytes}
-use Rattle.rules.proofs.Laws.{not-true, and-left, and-right}
+use Rattle.rules.specs.Bytes.{floatByte8}
 use Rattle.rules.proofs.ByteLaws.{bytes-long}
+use Rattle.lent_bytes.proofs.FloatParts.{first-is, others-are, SoFar}
 use Rattle.lent_bytes.proofs.Puts.{put-length}
-use Rattle.lent_bytes.proofs.Rests.{Rest, all-left, part-long, next-fits, next-entry, no-entry}
+use Rattle.lent_bytes.proofs.Rests.{all-left, part-long, next-fits, next-entry, no-entry}
 use Rattle.lent_bytes.proofs.write.floats.Statement.{statement}
 use Rattle.lent_bytes.proofs.write.floats.Tie as tie
-
-abbrev isNumber : Float → Bool
-isNumber x = not (isNan x)
 
 abbrev eight-long : (x : Float) → length (floatByte8 x) ≡ 8
 eight-long x = bytes-long 8 (toBits binary64 x)
 
--- the first of those that are left, and the others
-module _ (list : List Float) (i to : ℕ) (h : i < to) (k : to ≤ length list) (n : all isNumber (drop i (take to list)) ≡ true) where
-  parted : all isNumber (getD list i nan ∷ drop (suc i) (take to list)) ≡ true
-  parted = sym (ap (all isNumber) (slice-cons i to list nan h k)) ∙ n
-
-  first-is : isNan (getD list i nan) ≡ false
-  first-is = not-true (isNan (getD list i nan)) (and-left (isNumber (getD list i nan)) (all isNumber (drop (suc i) (take to list))) parted)
-
-  others-are : all isNumber (drop (i + 1) (take to list)) ≡ true
-  others-are =
-      ap (λ (j : ℕ). all isNumber (drop j (take to list))) (let q : i + 1 ≡ suc i = omega arith in q)
-      ∙ and-right (isNumber (getD list i nan)) (all isNumber (drop (suc i) (take to list))) parted
-
-record SoFar (list : List Float) (from to : ℕ) (before : List ℕ) (at : ℕ) (room : List ℕ) (end i : ℕ) : Type 0 where
-  pub within : i ≤ to
-  pub numbers : all isNumber (drop i (take to list)) ≡ true
-  pub long : length room ≡ length before
-  pub rest : Rest before at (floatBytes (drop from (take to list))) room end (floatBytes (drop i (take to list)))
-
 abbrev Inv-loop : tie.InvT-loop
-Inv-loop list from to room₀ at end₀ i₀ room end i = SoFar list from to room₀ at room end i
+Inv-loop list from to room₀ at end₀ i₀ room end i = SoFar floatByte8 list from to room₀ at room end i
 
 abbrev μ-loop : tie.MeasureT-loop
 μ-loop list from to room₀ at end₀ i₀ room end i = to - i

@@ -1,0 +1,5 @@
+pub mod Fanning
+pub mod Facing
+pub mod Solids
+pub mod Printing
+pub mod Tests
