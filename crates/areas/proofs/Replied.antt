@@ -2,10 +2,9 @@
 use Prim.Native.Nat.{ℕ, zero, suc, _+_, _*_, _≤_, _<_}
 use mathlib.Core.Bool.{Bool, true, false, not, _&&_}
 use mathlib.Core.List.{List, [], _∷_, _++_, map}
-use mathlib.Core.Path.{_≡_, refl, sym, ap, ap₂, _∙_, subst}
+use mathlib.Core.Path.{_≡_, refl, sym, ap, _∙_}
 use native.Mathlib.Nat.{le-trans, le-of-eq, le-of-suc-le-suc, not-suc-le-zero, zero-add}
-use native.Mathlib.Omega.{arith}
-use lib.Dec.{ltb, leb, eqb}
+use lib.Dec.{ltb, eqb}
 use lib.IntN.{ℤ}
 use lib.ListN.{length, getD, drop, length-append, length-map}
 use lib.Ieee.{Float}
@@ -18,11 +17,11 @@ use Rattle.rules.specs.Memory.{soundMemory}
 use Rattle.rules.specs.Held.{Holds, memoryOf}
 use Rattle.rules.specs.Questions.{Asked, no-answer, answer}
 use Rattle.rules.specs.Replies.{listed}
-use Rattle.rules.specs.Areas.{mostPieces, pieceOnGrid, sheet, areaSheet, areasReply}
+use Rattle.rules.specs.Areas.{mostPieces, pieceOnGrid, sheet, areasReply}
 use Rattle.rules.specs.declared.ListReply.{ListReply}
 use Rattle.rules.specs.declared.ListReply.the-variants.{Refused, Listed}
 use Rattle.rules.proofs.AreaReplies.{sheetBy, few, used, flat, sheet-by}
-use Rattle.rules.proofs.Laws.{and-left, and-right, if-true, if-false, le-test, test-le, test-above, test-eq, not-eq}
+use Rattle.rules.proofs.Laws.{and-left, and-right, le-test, test-le, test-above, test-eq, not-eq}
 use Rattle.space.proofs.Room.{rank-word}
 use Rattle.space.proofs.Slices.{slices}
 use Rattle.space.proofs.Lent.{memory-sound-table}

@@ -1,24 +1,24 @@
 -- The reply, test by test: what the question after a primordial facet tells, and then the dimension.
-use Prim.Native.Nat.{ℕ, _*_, _<_, _≤_}
-use mathlib.Core.Path.{_≡_, refl, sym, ap, _∙_, subst}
-use mathlib.Core.Bool.{Bool, true, false, not, _&&_, false≢true}
+use Prim.Native.Nat.{ℕ, _*_, _<_}
+use mathlib.Core.Path.{_≡_, refl, sym, ap, _∙_}
+use mathlib.Core.Bool.{Bool, true, false, not, _&&_}
 use mathlib.Core.Option.{Option, none, some}
-use mathlib.Core.List.{List, [], _∷_}
+use mathlib.Core.List.{List}
 use native.Mathlib.Nat.{le-trans, le-of-eq}
 use native.Mathlib.Omega.{arith}
 use lib.Dec.{ltb, eqb}
 use lib.ListN.{length, getD, take, drop}
 use lib.Ieee.{Float}
 use Rattle.rules.specs.Limits.{desk}
-use Rattle.rules.specs.Lists.{if_then_else_, all, any}
+use Rattle.rules.specs.Lists.{if_then_else_, any}
 use Rattle.rules.specs.Table.{Table, isPrimordial, element, rank, boundary, elementCount}
 use Rattle.rules.specs.Memory.{Memory, decode, soundMemory}
-use Rattle.rules.specs.Questions.{Asked, no-answer, answer, primordialFacet}
+use Rattle.rules.specs.Questions.{no-answer, answer, primordialFacet}
 use Rattle.rules.specs.Replies.{facetNumber, facetValue, asked, listed, facetAnswer, primordialFacetReply}
 use Rattle.rules.specs.Held.{memoryOf}
 use Rattle.rules.specs.Print.{vertexAt, printFile, unlessFacet, printed, printReply}
 use Rattle.rules.specs.declared.ListReply.{ListReply}
-use Rattle.rules.specs.declared.ListReply.the-variants.{Refused, Listed}
+use Rattle.rules.specs.declared.ListReply.the-variants.{Refused}
 use Rattle.rules.specs.declared.FacetReply.{FacetReply}
 use Rattle.rules.specs.declared.FacetReply.the-variants.{Refused as FacetRefused, Has}
 use Rattle.rules.proofs.Laws.{le-test, eq-test, test-eq, not-eq, none-some}
