@@ -9,40 +9,28 @@ use Rattle.hypermath.proofs.Narrowing.{size-tiny, size-large, size-smal
 use borrow.Author.Needs.{needs}
 use Rattle.hypermath.proofs.narrow.narrowed_size.Statement.{statement}
 use Rattle.hypermath.proofs.narrow.narrowed_size.Tie as tie
-use Rattle.hypermath.proofs.narrow.narrowed_size.Reads as reads
-use Rattle.hypermath.proofs.narrow.narrowed_size.Lts as lts
-use Rattle.hypermath.proofs.narrow.rounded.Reads as rounded-reads
-use Rattle.hypermath.proofs.narrow.unit_of.Reads as unit-of-reads
 
--- src/narrow.rt:58:9
 returns : tie.Need-returns
 returns c = let a = c .before .args in record { is = sym (size-tiny (a .field) (a .digits) (omega arith)); below = omega arith }
 
--- src/narrow.rt:61:16
 mul-result : tie.Need-mul-result
 mul-result c = search needs
 
--- src/narrow.rt:61:9
 returns-2 : tie.Need-returns-2
 returns-2 c = let a = c .before .before .args in record { is = sym (size-large (a .field) (a .digits) (omega arith) (omega arith)); below = omega arith }
 
--- src/narrow.rt:64:24
 add-rounded : tie.Need-add-rounded
 add-rounded c = search needs
 
--- src/narrow.rt:64:50
 sub-unit-of : tie.Need-sub-unit-of
 sub-unit-of c = search needs
 
--- src/narrow.rt:64:42
 unit-of-requires : tie.Need-unit-of-requires
 unit-of-requires c κs = search needs
 
--- src/narrow.rt:64:9
 rounded-requires : tie.Need-rounded-requires
 rounded-requires c κs = (omega arith, let p = pow-pos (926 - c .before .before .before .before .args .field) in omega (arith, p, c .unit-of .ensures))
 
--- src/narrow.rt:64:9
 returns-3 : tie.Need-returns-3
 returns-3 c =
     let a = c .before .before .before .before .before .args in
@@ -51,27 +39,21 @@ returns-3 c =
       below = omega (arith, c .rounded .ensures .below);
     }
 
--- src/narrow.rt:66:5
 mul-result-2 : tie.Need-mul-result-2
 mul-result-2 c = search needs
 
--- src/narrow.rt:66:48
 add-rounded-2 : tie.Need-add-rounded-2
 add-rounded-2 c = search needs
 
--- src/narrow.rt:66:66
 unit-of-requires-2 : tie.Need-unit-of-requires-2
 unit-of-requires-2 c κs = search needs
 
--- src/narrow.rt:66:40
 rounded-requires-2 : tie.Need-rounded-requires-2
 rounded-requires-2 c κs = (omega arith, let p = pow-pos 29 in omega (arith, p, c .unit-of2 .ensures))
 
--- src/narrow.rt:66:5
 add-result : tie.Need-add-result
 add-result c = search needs
 
--- src/narrow.rt:53:1
 returns-4 : tie.Need-returns-4
 returns-4 c =
     let a = c .before .before .before .before .before .args in

@@ -7,38 +7,28 @@ use Rattle.hypermath.proofs.Narrowing.{rounded-down, rounded-up, rounde
 use borrow.Author.Needs.{needs}
 use Rattle.hypermath.proofs.narrow.rounded.Statement.{statement}
 use Rattle.hypermath.proofs.narrow.rounded.Tie as tie
-use Rattle.hypermath.proofs.narrow.rounded.Reads as reads
-use Rattle.hypermath.proofs.narrow.rounded.Lts as lts
 
--- src/narrow.rt:41:16
 div-down : tie.Need-div-down
 div-down c = search needs
 
--- src/narrow.rt:42:17
 rem-twice : tie.Need-rem-twice
 rem-twice c = search needs
 
--- src/narrow.rt:42:17
 mul-twice : tie.Need-mul-twice
 mul-twice c = let h = mod-le (c .args .q) (c .args .unit) in search needs
 
--- src/narrow.rt:44:9
 returns : tie.Need-returns
 returns c = rounded-down (c .before .args .q) (c .before .args .unit) (c .before .pre .0) (omega arith)
 
--- src/narrow.rt:47:16
 add-result : tie.Need-add-result
 add-result c = let h = div-le-self (c .before .before .args .q) (c .before .before .args .unit) in search needs
 
--- src/narrow.rt:47:9
 returns-2 : tie.Need-returns-2
 returns-2 c = rounded-up (c .before .before .args .q) (c .before .before .args .unit) (c .before .before .pre .0) (omega arith)
 
--- src/narrow.rt:49:5
 add-result-2 : tie.Need-add-result-2
 add-result-2 c = let h = div-le-self (c .before .before .args .q) (c .before .before .args .unit) in search needs
 
--- src/narrow.rt:36:1
 returns-3 : tie.Need-returns-3
 returns-3 c = rounded-even (c .before .before .args .q) (c .before .before .args .unit) (c .before .before .pre .0) (omega arith)
 

@@ -6,17 +6,13 @@ use mathlib.Core.Path.{_≡_}
 use borrow.Author.Needs.{needs}
 use Rattle.hypermath.proofs.narrow.unit_of.Statement.{statement}
 use Rattle.hypermath.proofs.narrow.unit_of.Tie as tie
-use Rattle.hypermath.proofs.narrow.unit_of.Reads as reads
-use Rattle.hypermath.proofs.narrow.unit_of.Lts as lts
 
--- src/narrow.rt:32:5
 shifted : (b : ℕ) → b < 64 → 1 * 2 ^ b % 18446744073709551616 ≡ 2 ^ b
 shifted b h = rw one-mul (mod-eq-of-lt (pow-lt {i = b} {j = 64} h))
 
 shl-result : tie.Need-shl-result
 shl-result c = search needs
 
--- src/narrow.rt:28:1
 returns : tie.Need-returns
 returns c = shifted (c .args .dropped) (c .pre)
 
