@@ -9,7 +9,7 @@ use lib.ListN.{getD}
 use borrow.Author.Tests.{lt-ltb, le-ltb}
 use Rattle.rules.proofs.Laws.{test-eq, not-eq}
 use Rattle.space.specs.Numbers.{NumberBelow}
-use Rattle.space.specs.Closed.{PathReady, PathsJoined, farEnd, inside, joinCode, joinWords, pathCode, pathWords}
+use Rattle.space.specs.Closed.{PathReady, PathsJoined, farEnd, inside, joinCode, joinWords, pathCode}
 
 -- ---- the other end of a path
 

@@ -1,5 +1,4 @@
 -- As `far_end`, with the stamp 1.
-use native.Mathlib.Omega.{arith}
 use Rattle.space.specs.Closed.{PathReady}
 use Rattle.space.proofs.Across.{far-own, far-other}
 use borrow.Author.Needs.{needs}
