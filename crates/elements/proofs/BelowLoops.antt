@@ -1,5 +1,5 @@
 -- The pass: what is marked is reached from the root, and from each element that it has gone by, the boundary is marked; so at the end the marks are what is reached.
-use Prim.Native.Nat.{ℕ, zero, suc, _+_, _*_, _-_, _<_, _≤_}
+use Prim.Native.Nat.{ℕ, suc, _+_, _*_, _-_, _<_, _≤_}
 use mathlib.Core.Bool.{Bool, true, false, _||_, false≢true}
 use mathlib.Core.List.{List, [], _∷_, map}
 use mathlib.Core.Path.{_≡_, refl, sym, ap, ap₂, subst, _∙_}
@@ -23,7 +23,7 @@ use Rattle.rules.proofs.Reach.{some-at, is-below}
 use Rattle.space.proofs.Room.{elements-size, sizeOf, listOf, rank-word, size-word, list-word}
 use Rattle.elements.specs.Marks.{isMarked, marking, markingAll, NoneMarked, DownTo, markedNumbers}
 use Rattle.elements.specs.Below.{Lent, Used, boundaryWord, boundaryNumbers, BoundaryReady, PassedFrom, Onward, Below}
-use Rattle.elements.proofs.MarkLaws.{marking-long, marked-one, marking-all-long, marked-all}
+use Rattle.elements.proofs.MarkLaws.{marking-long, marking-all-long, marked-all, marked-alone}
 use Rattle.elements.proofs.MemberLaws.{members-are}
 
 -- ---- the boundary's numbers, one after another
@@ -84,6 +84,9 @@ module _ (es : List ℕ) (t : Table) (lent : Lent es t) (e : ℕ) (u : e < eleme
       go (corner v) q = not-suc-le-zero (subst (λ (z : Element). n < length (boundaryOf z)) q l)
       go (polytope r b h m) q = above-zero desk t e r b h m (sound-good desk t (lent .sound)) u q k
 
+  pub border-ranked : (n : ℕ) → n < length (boundary t e) → 0 < rank t e
+  border-ranked n l = pos-of-ne-zero (λ k. no-border n k l)
+
   pub polytope-ranked : (getD es (e * 36) 0 ≡ 0 → ⊥) → 0 < rank t e
   polytope-ranked z = pos-of-ne-zero (λ q. z (lent-rank ∙ q))
 
@@ -130,9 +133,12 @@ module _ (es : List ℕ) (t : Table) (lent : Lent es t) (e : ℕ) (u : e < eleme
     pub border-earlier : (n : ℕ) → n < length (boundary t e) → border t e n < e
     border-earlier = bordered .earlier
 
+    pub border-lower : (n : ℕ) → n < length (boundary t e) → suc (rank t (border t e n)) ≡ rank t e
+    border-lower = bordered .ranks
+
 -- ---- what is reached
 
-further : {t : Table} {r e : ℕ} → Reaches t r e → (n : ℕ) → n < length (boundary t e) → Reaches t r (border t e n)
+pub further : {t : Table} {r e : ℕ} → Reaches t r e → (n : ℕ) → n < length (boundary t e) → Reaches t r (border t e n)
 further (itself e) n l = lower e n _ l (itself _)
 further (lower r k e l h) n j = lower r k _ l (further h n j)
 
@@ -211,17 +217,17 @@ pub going-start : (es : List ℕ) (root : ℕ) (none ws : List ℕ) → length n
 going-start es root none ws l none′ r q = subst (λ (k : ℕ). Going es k (root + 1) ws) (let z : root ≡ root + 1 - 1 = omega arith in z) record {
   of = λ t lent u. record {
     long = ap length q ∙ marking-long none root ∙ l;
-    top = told root ∙ or-left (eqb root root) (isMarked none root) (eqb-self root);
+    top = told root ∙ eqb-self root;
     reached = λ x h. subst (Reaches t root) (sym (only x h)) (itself root);
     closed = λ x n k h j. let e = only x h in absurd (omega (arith, k, e));
   };
 }
   where
-    told : (x : ℕ) → isMarked ws x ≡ (eqb x root || isMarked none x)
-    told x = ap (λ (v : List ℕ). isMarked v x) q ∙ marked-one none root x l r
+    told : (x : ℕ) → isMarked ws x ≡ eqb x root
+    told x = marked-alone none ws root x l none′ r q
 
     only : (x : ℕ) → isMarked ws x ≡ true → x ≡ root
-    only x h = or-case (eqb x root) (isMarked none x) (sym (told x) ∙ h) (x ≡ root) (eq-test x root) (λ k. absurd (false≢true (sym (none′ .of x) ∙ k)))
+    only x h = eq-test x root (sym (told x) ∙ h)
 
 -- down to e: between nothing is marked, and e is gone by
 pub going-next : (es : List ℕ) (root y e : ℕ) (ws ws′ : List ℕ) → 0 < y → y ≤ root + 1 → DownTo ws (y - 1) e → Onward es e ws ws′ → Going es root y ws → Going es root e ws′
@@ -254,15 +260,15 @@ used-below es root e l w = record { table = w .table; lent = w .lent; used = let
 
 -- ---- the marks are the sub-elements
 
-reached-earlier : (es : List ℕ) (t : Table) → Lent es t → {e x : ℕ} → Reaches t e x → e < elementCount t → x ≤ e
+pub reached-earlier : (es : List ℕ) (t : Table) → Lent es t → {e x : ℕ} → Reaches t e x → e < elementCount t → x ≤ e
 reached-earlier es t lent (itself e) u = le-refl e
 reached-earlier es t lent (lower e n x l h) u =
-    let b = border-earlier es t lent e u (pos-of-ne-zero (λ k. no-border es t lent e u n k l)) n l in
+    let b = border-earlier es t lent e u (border-ranked es t lent e u n l) n l in
     let r = reached-earlier es t lent h (omega (arith, b, u)) in
     omega (arith, b, r)
 
 -- nothing past the root lies below it, and nothing that is not in use
-pub none-above : (es : List ℕ) (t : Table) (root x : ℕ) → Lent es t → root < elementCount t → root < x → isBelow t root x ≡ false
+none-above : (es : List ℕ) (t : Table) (root x : ℕ) → Lent es t → root < elementCount t → root < x → isBelow t root x ≡ false
 none-above es t root x lent u h = refute (isBelow t root x) (λ k. let r = reached-earlier es t lent (is-below desk t (lent .sound) root x u .0 k) u in omega (arith, r, h))
 
 pub none-below : (es : List ℕ) (t : Table) (root x : ℕ) → Lent es t → root < elementCount t → elementCount t ≤ x → isBelow t root x ≡ false

@@ -1,8 +1,10 @@
 pub mod MarkLaws
 pub mod MemberLaws
+pub mod WordLoops
 pub mod ListLoops
 pub mod BelowLoops
 pub mod RankLoops
+pub mod LevelLoops
 pub mod CommonLoops
 pub mod VertexLoops
 pub mod QuestionReplies

@@ -1,69 +1,43 @@
 -- The room behind what is listed takes what is left to list: after each step the whole list is still what is to come.
 use Prim.Native.Nat.{ℕ, suc, _+_, _*_, _-_, _/_, _^_, _<_, _≤_}
 use mathlib.Core.List.{List, [], _∷_, _++_}
-use mathlib.Core.Path.{_≡_, refl, sym, ap, ap₂, subst, _∙_}
-use native.Mathlib.Nat.{div-div-eq-div-mul, div-lt-iff-lt-mul, pos-of-ne-zero}
+use mathlib.Core.Path.{_≡_, refl, sym, ap, ap₂, _∙_}
 use native.Mathlib.Numerals.{add-one}
 use native.Mathlib.Omega.{arith}
 use lib.Count.{trailingZeros}
 use lib.Dec.{leb}
 use lib.ListN.{length, getD, set, drop, length-set, length-append}
-use lib.Pow.{pow-pos, pow-add}
 use lib.Seq.{sets, sets-eq, length-sets}
 use Rattle.rules.specs.Questions.{answer}
 use Rattle.rules.specs.Replies.{listed}
 use Rattle.rules.specs.declared.ListReply.the-variants.{Refused, Listed}
 use Rattle.rules.proofs.Laws.{if-true, if-false, test-le, test-above}
 use Rattle.elements.specs.Marks.{bitsFrom, wordsFrom, markedNumbers, CountOf, WordListed}
-use Rattle.elements.proofs.MemberLaws.{bits-none, first-bit, first-place}
+use Rattle.elements.proofs.WordLoops.{Leaving, numbersLeft, leaving-start, all-left, none-left, next-left, leaving-next, next-word, no-words}
 
 -- ---- one word
 
 -- left holds the digits from x on, and they go to the places from at on
 pub record Listing (l₀ : List ℕ) (from word base : ℕ) (l : List ℕ) (at x left : ℕ) : Type 0 where
   pub long : length l ≡ length l₀
-  pub low : base ≤ x
-  pub span : x ≤ base + 64
-  pub fits : left < 2 ^ (base + 64 - x)
-  pub size : at + length (bitsFrom (base + 64 - x) left x) ≡ from + length (bitsFrom 64 word base)
-  pub list : sets l at (bitsFrom (base + 64 - x) left x) ≡ sets l₀ from (bitsFrom 64 word base)
+  pub leaving : Leaving base x left
+  pub size : at + length (numbersLeft base x left) ≡ from + length (bitsFrom 64 word base)
+  pub list : sets l at (numbersLeft base x left) ≡ sets l₀ from (bitsFrom 64 word base)
 
 pub listing-start : (l : List ℕ) (from word base : ℕ) → word < 2 ^ 64 → Listing l from word base l from base word
 listing-start l from word base h =
-    let e : 64 ≡ base + 64 - base = omega arith in record {
-      long = refl;
-      low = omega arith;
-      span = omega arith;
-      fits = subst (λ (k : ℕ). word < 2 ^ k) e h;
-      size = ap (λ (k : ℕ). from + length (bitsFrom k word base)) (sym e);
-      list = ap (λ (k : ℕ). sets l from (bitsFrom k word base)) (sym e);
-    }
+    let e = sym (all-left base word) in
+    record { long = refl; leaving = leaving-start base word h; size = ap (λ (xs : List ℕ). from + length xs) e; list = ap (sets l from) e }
 
 module _ (l₀ : List ℕ) (from word base : ℕ) (l : List ℕ) (at x left : ℕ) (i : Listing l₀ from word base l at x left) where
   pub listing-end : left ≡ 0 → WordListed l₀ from word base at l
   listing-end e =
-      let none : bitsFrom (base + 64 - x) left x ≡ [] = ap (λ (w : ℕ). bitsFrom (base + 64 - x) w x) e ∙ bits-none (base + 64 - x) x in
+      let none = none-left base x left e in
       record { next = let s = i .size in let n = ap length none in omega (arith, s, n); written = sym (ap (sets l at) none) ∙ i .list }
 
   module _ (z : ℕ) (q : z ≡ trailingZeros 64 left) (n : left ≡ 0 → ⊥) where
-    abbrev width : ℕ
-    width = base + 64 - x
-
-    some : 0 < left
-    some = pos-of-ne-zero n
-
-    placed : (z ≡ trailingZeros width left) × (trailingZeros width left < width)
-    placed = let s = i .low in let f = first-place width 64 left (i .fits) some (omega (arith, s)) in (q ∙ f .0, f .1)
-
-    pub zeros-inside : x + z < base + 64
-    zeros-inside = let e = placed .0 in let f = placed .1 in let s = i .span in omega (arith, e, f, s)
-
-    split : bitsFrom width left x ≡ (x + z) ∷ bitsFrom (base + 64 - (x + z + 1)) (left / 2 ^ z / 2 ^ 1) (x + z + 1)
-    split =
-        first-bit width left x (i .fits) some
-        ∙ ap (λ (y : ℕ). (x + y) ∷ bitsFrom (width - (y + 1)) (left / 2 ^ (y + 1)) (x + y + 1)) (sym (placed .0))
-        ∙ ap₂ (λ (k w : ℕ). (x + z) ∷ bitsFrom k w (x + z + 1)) (let e : width - (z + 1) ≡ base + 64 - (x + z + 1) = omega arith in e)
-        (ap (λ (m : ℕ). left / m) (pow-add 2 z 1) ∙ sym (div-div-eq-div-mul left (2 ^ z) (2 ^ 1)))
+    split : numbersLeft base x left ≡ (x + z) ∷ numbersLeft base (x + z + 1) (left / 2 ^ z / 2 ^ 1)
+    split = next-left base x left (i .leaving) z q n
 
     pub listing-room : from + length (bitsFrom 64 word base) ≤ length l₀ → at < length l
     listing-room r =
@@ -75,30 +49,12 @@ module _ (l₀ : List ℕ) (from word base : ℕ) (l : List ℕ) (at x left : �
     pub listing-next : Listing l₀ from word base (set l at (x + z)) (at + 1) (x + z + 1) (left / 2 ^ z / 2 ^ 1)
     listing-next = record {
       long = length-set l at (x + z) ∙ i .long;
-      low = let b = i .low in omega (arith, b);
-      span = let h = zeros-inside in omega (arith, h);
-      fits = small;
+      leaving = leaving-next base x left (i .leaving) z q n;
       size = let e = i .size in let s = ap length split in omega (arith, e, s);
-      list = ap (λ (k : ℕ). sets (set l at (x + z)) k (bitsFrom (base + 64 - (x + z + 1)) (left / 2 ^ z / 2 ^ 1) (x + z + 1))) (add-one at) ∙ sym (ap (sets l at) split) ∙ i .list;
+      list = ap (λ (k : ℕ). sets (set l at (x + z)) k (numbersLeft base (x + z + 1) (left / 2 ^ z / 2 ^ 1))) (add-one at) ∙ sym (ap (sets l at) split) ∙ i .list;
     }
-      where
-        small : left / 2 ^ z / 2 ^ 1 < 2 ^ (base + 64 - (x + z + 1))
-        small =
-            let h = zeros-inside in
-            let e : width ≡ base + 64 - (x + z + 1) + (z + 1) = omega (arith, h) in
-            subst (λ (v : ℕ). v < 2 ^ (base + 64 - (x + z + 1))) (ap (λ (m : ℕ). left / m) (pow-add 2 z 1) ∙ sym (div-div-eq-div-mul left (2 ^ z) (2 ^ 1)))
-            (div-lt-iff-lt-mul {k = 2 ^ (z + 1)} {x = left} {y = 2 ^ (base + 64 - (x + z + 1))} (pow-pos (z + 1)) .1
-            (subst (λ (v : ℕ). left < v) (ap (λ (k : ℕ). 2 ^ k) e ∙ pow-add 2 (base + 64 - (x + z + 1)) (z + 1)) (i .fits)))
 
 -- ---- all words
-
-words-on : (n j : ℕ) (ws : List ℕ) → wordsFrom (suc n) j ws ≡ bitsFrom 64 (getD ws j 0) (j * 64) ++ wordsFrom n (j + 1) ws
-unfolding wordsFrom
-words-on n j ws = refl
-
-words-end : (j : ℕ) (ws : List ℕ) → wordsFrom 0 j ws ≡ []
-unfolding wordsFrom
-words-end j ws = refl
 
 sets-append : (xs ys l : List ℕ) (at : ℕ) → sets l at (xs ++ ys) ≡ sets (sets l at xs) (at + length xs) ys
 sets-append [] ys l at = ap (λ (k : ℕ). sets l k ys) (let q : at ≡ at + 0 = omega arith in q)
@@ -116,9 +72,7 @@ filling-start ws l = record { long = refl; size = omega arith; list = refl }
 
 module _ (ws l₀ l : List ℕ) (at w : ℕ) (f : Filling ws l₀ l at w) where
   pub filling-end : w ≡ 8 → l ≡ sets l₀ 0 (markedNumbers ws)
-  filling-end e =
-      let none : wordsFrom (8 - w) w ws ≡ [] = ap (λ (n : ℕ). wordsFrom n w ws) (let q : 8 - w ≡ 0 = omega (arith, e) in q) ∙ words-end w ws in
-      sym (ap (sets l at) none) ∙ f .list
+  filling-end e = sym (ap (sets l at) (no-words ws w e)) ∙ f .list
 
   module _ (less : w < 8) where
     word : List ℕ
@@ -126,7 +80,7 @@ module _ (ws l₀ l : List ℕ) (at w : ℕ) (f : Filling ws l₀ l at w) where
 
     word-split : wordsFrom (8 - w) w ws ≡ word ++ wordsFrom (8 - (w + 1)) (w + 1) ws
     unfolding word
-    word-split = ap (λ (n : ℕ). wordsFrom n w ws) (let q : 8 - w ≡ suc (8 - (w + 1)) = omega (arith, less) in q) ∙ words-on (8 - (w + 1)) w ws
+    word-split = next-word ws w less
 
     lengths : at + length word + length (wordsFrom (8 - (w + 1)) (w + 1) ws) ≡ length (markedNumbers ws)
     lengths = let e = ap length word-split in let s = length-append word (wordsFrom (8 - (w + 1)) (w + 1) ws) in let z = f .size in omega (arith, e, s, z)
@@ -161,21 +115,19 @@ counting-start ws = record { size = omega arith; most = omega arith }
 pub counting-next : (ws : List ℕ) (n w c : ℕ) → w < 8 → CountOf (getD ws w 0) c → Counting ws n w → Counting ws (n + c) (w + 1)
 counting-next ws n w c less h k = record {
   size =
-      let s = ap (λ (j : ℕ). length (wordsFrom j w ws)) (let q : 8 - w ≡ suc (8 - (w + 1)) = omega (arith, less) in q) in
-      let t = ap length (words-on (8 - (w + 1)) w ws) in
+      let t = ap length (next-word ws w less) in
       let u = length-append (bitsFrom 64 (getD ws w 0) (w * 64)) (wordsFrom (8 - (w + 1)) (w + 1) ws) in
       let v = h .of (w * 64) in
       let z = k .size in
-      omega (arith, s, t, u, v, z);
+      omega (arith, t, u, v, z);
   most = let z = k .most in let m = h .most in omega (arith, z, m);
 }
 
 pub counting-end : (ws : List ℕ) (n w : ℕ) → w ≡ 8 → Counting ws n w → n ≡ length (markedNumbers ws)
 counting-end ws n w e k =
     let z = k .size in
-    let s = ap (λ (j : ℕ). length (wordsFrom j w ws)) (let q : 8 - w ≡ 0 = omega (arith, e) in q) in
-    let t = ap length (words-end w ws) in
-    omega (arith, z, s, t)
+    let t = ap length (no-words ws w e) in
+    omega (arith, z, t)
 
 -- ---- the reply
 

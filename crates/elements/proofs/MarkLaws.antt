@@ -13,7 +13,7 @@ use lib.ListN.{length, getD, length-set, replicate, List·getD-eq-default}
 use lib.Pow.{pow-pos, pow-mono, pow-lt, pow-add, shr-shr, shl-shr, field, mod-mod-pow}
 use lib.Seq.{getD-set-same, getD-set-other}
 use Rattle.rules.specs.Lists.{all, member}
-use Rattle.rules.proofs.Laws.{eq-test, unlike-eq, and-left, and-right, le-test}
+use Rattle.rules.proofs.Laws.{eq-test, unlike-eq, and-left, and-right, or-none, le-test}
 use Rattle.elements.specs.Marks.{bit, isMarked, marking, markingAll, NoneMarked, DownTo}
 
 -- ---- a digit
@@ -95,7 +95,7 @@ unfolding markingAll
 marking-all-long ws [] = refl
 marking-all-long ws (x ∷ xs) = marking-all-long (marking ws x) xs ∙ marking-long ws x
 
-or-turn : (a b c : Bool) → (a || (b || c)) ≡ ((b || a) || c)
+pub or-turn : (a b c : Bool) → (a || (b || c)) ≡ ((b || a) || c)
 or-turn true true c = refl
 or-turn true false c = refl
 or-turn false true c = refl
@@ -125,6 +125,10 @@ word-zero ws x e = ap (λ (w : ℕ). eqb (bit w (x % 64)) 1) e ∙ ap (λ (d : �
 
 pub none-marked : (n : ℕ) → NoneMarked (replicate n 0)
 none-marked n = record { of = λ x. word-zero (replicate n 0) x (zeros-at n (x / 64)) }
+
+-- one number alone
+pub marked-alone : (none ws : List ℕ) (i x : ℕ) → length none ≡ 8 → NoneMarked none → i < 512 → ws ≡ marking none i → isMarked ws x ≡ eqb x i
+marked-alone none ws i x l n h q = ap (λ (v : List ℕ). isMarked v x) q ∙ marked-one none i x l h ∙ ap (λ (b : Bool). eqb x i || b) (n .of x) ∙ or-none (eqb x i)
 
 -- past the room nothing is marked
 pub marked-high : (ws : List ℕ) (x : ℕ) → length ws ≡ 8 → 512 ≤ x → isMarked ws x ≡ false

@@ -10,7 +10,8 @@ use native.Mathlib.Omega.{arith}
 use lib.Count.{ones, ones-step, trailingZeros, under}
 use lib.Dec.{eqb, ltb}
 use lib.ListN.{length, getD}
-use Rattle.rules.specs.Lists.{if_then_else_, all, keep, upFrom, upTo}
+use Rattle.rules.specs.Lists.{if_then_else_, all, keep, member, upFrom, upTo}
+use Rattle.rules.proofs.Common.{member-kept}
 use Rattle.rules.proofs.Growing.{keep-append}
 use Rattle.rules.proofs.Laws.{le-test, not-le}
 use Rattle.rules.proofs.VertexSet.{keep-all, up-under}
@@ -18,7 +19,7 @@ use Rattle.elements.specs.Marks.{bit, isMarked, put, bitsFrom, wordsFrom
 
 -- ---- what is kept of numbers that rise
 
-pub keep-same : (p q : ℕ → Bool) → ((x : ℕ) → p x ≡ q x) → (xs : List ℕ) → keep p xs ≡ keep q xs
+keep-same : (p q : ℕ → Bool) → ((x : ℕ) → p x ≡ q x) → (xs : List ℕ) → keep p xs ≡ keep q xs
 keep-same p q h [] = refl
 keep-same p q h (x ∷ xs) = ap₂ (λ (b : Bool) (ys : List ℕ). if b then x ∷ ys else ys) (h x) (keep-same p q h xs)
 
@@ -79,23 +80,40 @@ marked-at ws j b h =
     let m : x % 64 ≡ b = omega (arith, e, l, h) in
     ap₂ (λ (i c : ℕ). eqb (bit (getD ws i 0) c) 1) d m
 
-words-keep : (ws : List ℕ) (q : ℕ) → 64 ≡ q → (n j : ℕ) → wordsFrom n j ws ≡ keep (isMarked ws) (upFrom (j * q) (n * q))
-unfolding wordsFrom
-words-keep ws q e zero j = ap (λ (m : ℕ). keep (isMarked ws) (upFrom (j * q) m)) (let z : 0 ≡ 0 * q = omega arith in z)
-words-keep ws q e (suc n) j =
-    ap₂ (λ (a b : List ℕ). a ++ b) (ap (λ (m : ℕ). bitsFrom m (getD ws j 0) (j * m)) e ∙ bits-keep (isMarked ws) q (getD ws j 0) (j * q) at)
-    (words-keep ws q e n (j + 1) ∙ ap (λ (m : ℕ). keep (isMarked ws) (upFrom m (n * q))) (next j))
-    ∙ sym (keep-append (isMarked ws) (upFrom (j * q) q) (upFrom (j * q + q) (n * q)))
-    ∙ ap (keep (isMarked ws)) (sym (up-split (j * q) q (n * q)) ∙ ap (upFrom (j * q)) (more n))
+word-keep : (ws : List ℕ) (q : ℕ) → 64 ≡ q → (j : ℕ) → bitsFrom 64 (getD ws j 0) (j * 64) ≡ keep (isMarked ws) (upFrom (j * q) q)
+word-keep ws q e j = ap (λ (m : ℕ). bitsFrom m (getD ws j 0) (j * m)) e ∙ bits-keep (isMarked ws) q (getD ws j 0) (j * q) at
   where
     at : (b : ℕ) → b < q → isMarked ws (j * q + b) ≡ eqb (bit (getD ws j 0) b) 1
     at b l = ap (λ (m : ℕ). isMarked ws (j * m + b)) (sym e) ∙ marked-at ws j b (omega (arith, l, e))
 
+words-keep : (ws : List ℕ) (q : ℕ) → 64 ≡ q → (n j : ℕ) → wordsFrom n j ws ≡ keep (isMarked ws) (upFrom (j * q) (n * q))
+unfolding wordsFrom
+words-keep ws q e zero j = ap (λ (m : ℕ). keep (isMarked ws) (upFrom (j * q) m)) (let z : 0 ≡ 0 * q = omega arith in z)
+words-keep ws q e (suc n) j =
+    ap₂ (λ (a b : List ℕ). a ++ b) (word-keep ws q e j) (words-keep ws q e n (j + 1) ∙ ap (λ (m : ℕ). keep (isMarked ws) (upFrom m (n * q))) (next j))
+    ∙ sym (keep-append (isMarked ws) (upFrom (j * q) q) (upFrom (j * q + q) (n * q)))
+    ∙ ap (keep (isMarked ws)) (sym (up-split (j * q) q (n * q)) ∙ ap (upFrom (j * q)) (more n))
+  where
     next : (i : ℕ) → (i + 1) * q ≡ i * q + q
     next i = add-mul i 1 q ∙ ap (λ (m : ℕ). i * q + m) (one-mul q)
 
     more : (i : ℕ) → q + i * q ≡ suc i * q
     more i = let s = suc-mul i q in omega (arith, s)
+
+-- the numbers of a word, and of all words, are marked
+module _ (ws : List ℕ) (x : ℕ) where
+  pub word-marked : (j : ℕ) → member x (bitsFrom 64 (getD ws j 0) (j * 64)) ≡ true → isMarked ws x ≡ true
+  word-marked j h = go 64 refl
+    where
+      go : (q : ℕ) → 64 ≡ q → isMarked ws x ≡ true
+      go q e = member-kept (isMarked ws) (upFrom (j * q) q) x (sym (ap (member x) (word-keep ws q e j)) ∙ h) .1
+
+  pub members-marked : member x (markedNumbers ws) ≡ true → isMarked ws x ≡ true
+  unfolding markedNumbers
+  members-marked h = go 64 refl
+    where
+      go : (q : ℕ) → 64 ≡ q → isMarked ws x ≡ true
+      go q e = member-kept (isMarked ws) (upFrom (0 * q) (8 * q)) x (sym (ap (member x) (words-keep ws q e 8 0)) ∙ h) .1
 
 words-are : (ws : List ℕ) (q n : ℕ) (p : ℕ → Bool) → 64 ≡ q → n ≤ 8 * q → ((x : ℕ) → isMarked ws x ≡ p x) → ((x : ℕ) → n ≤ x → p x ≡ false) → wordsFrom 8 0 ws ≡ keep p (upTo n)
 words-are ws q n p e l same high =

@@ -1,4 +1,4 @@
--- Marks by rank, downwards from one marked element to the next; those that are left have no mark yet. What is marked is in use, so its row is an element's.
+-- Marks by rank, downwards from one marked element to the next; those that are left have no mark yet. The numbers of a level are the sub-elements of its rank.
 use Prim.Native.Nat.{ℕ, _+_, _*_, _-_, _<_, _≤_}
 use mathlib.Core.Bool.{Bool, true, false, _&&_, _||_}
 use mathlib.Core.List.{List, [], _∷_, map}
@@ -12,14 +12,15 @@ use Rattle.rules.specs.Table.{Table, Element, corner, polytope, element, elemen
 use Rattle.rules.specs.Held.{elementsOf}
 use Rattle.rules.specs.Questions.{isBelow, subElements, withRank, vertexSet}
 use Rattle.rules.proofs.Good.{above-zero, sound-good}
-use Rattle.rules.proofs.Laws.{eqb-self, eq-test, test-eq, unlike-eq, not-eq, and-left, and-right, and-when, le-test, not-le}
+use Rattle.rules.proofs.Laws.{eqb-self, eq-test, test-eq, unlike-eq, not-eq, and-left, and-right, le-test, not-le}
 use Rattle.space.proofs.Room.{listOf, list-word}
 use Rattle.elements.specs.Marks.{isMarked, marking, markedNumbers, NoneMarked, DownTo}
-use Rattle.elements.specs.Below.{Lent, Below}
+use Rattle.elements.specs.Below.{Lent}
 use Rattle.elements.specs.Ranks.{isOfRank, oneMore, OfRank, vertexWord}
+use Rattle.elements.specs.Levels.{Level}
 use Rattle.elements.proofs.MarkLaws.{marking-long, marked-one, marked-high}
 use Rattle.elements.proofs.MemberLaws.{members-are, true-below}
-use Rattle.elements.proofs.BelowLoops.{lent-rank, none-below}
+use Rattle.elements.proofs.BelowLoops.{none-below}
 
 -- ---- one element more
 
@@ -112,7 +113,7 @@ module _ (es ws : List ℕ) (rank : ℕ) (out : List ℕ) (y : ℕ) (r : Ranking
 
 -- ---- sub-elements of a rank
 
-pub keep-keep : (p q : ℕ → Bool) (xs : List ℕ) → keep (λ x. p x && q x) xs ≡ keep q (keep p xs)
+keep-keep : (p q : ℕ → Bool) (xs : List ℕ) → keep (λ x. p x && q x) xs ≡ keep q (keep p xs)
 keep-keep p q [] = refl
 keep-keep p q (x ∷ xs) = go (p x) (keep-keep p q xs)
   where
@@ -122,7 +123,7 @@ keep-keep p q (x ∷ xs) = go (p x) (keep-keep p q xs)
     go false e = e
 
 -- what is alike wherever p holds makes the same of what is kept
-pub map-kept : {A : Type 0} (p : ℕ → Bool) (f g : ℕ → A) → ((x : ℕ) → p x ≡ true → f x ≡ g x) → (xs : List ℕ) → map f (keep p xs) ≡ map g (keep p xs)
+map-kept : {A : Type 0} (p : ℕ → Bool) (f g : ℕ → A) → ((x : ℕ) → p x ≡ true → f x ≡ g x) → (xs : List ℕ) → map f (keep p xs) ≡ map g (keep p xs)
 map-kept p f g h [] = refl
 map-kept {A} p f g h (x ∷ xs) = both (p x) refl (map-kept p f g h xs)
   where
@@ -140,43 +141,42 @@ vertex-named es t lent x v z = ap (λ (l : List ℕ). getD l (x * 36 + (4 + 0)) 
         ∙ ap (λ (y : Element). getD (listOf y) 0 0) q
     go (polytope p c h m) q = absurd (above-zero desk t x p c h m (sound-good desk t (lent .sound)) v q z)
 
-module _ (es : List ℕ) (t : Table) (lent : Lent es t) (root : ℕ) (u : root < elementCount t) (ws : List ℕ) (b : Below es root ws) where
-  pub below-used : (x : ℕ) → isBelow t root x ≡ true → x < elementCount t
-  below-used = true-below (isBelow t root) (elementCount t) (λ x h. none-below es t root x lent u h)
+below-used : (es : List ℕ) (t : Table) → Lent es t → (root : ℕ) → root < elementCount t → (x : ℕ) → isBelow t root x ≡ true → x < elementCount t
+below-used es t lent root u = true-below (isBelow t root) (elementCount t) (λ x h. none-below es t root x lent u h)
 
-  -- the marks and the words of the rows are the table's
-  pub ranked-is : (k x : ℕ) → isOfRank es ws k x ≡ (isBelow t root x && eqb (rank t x) k)
-  ranked-is k x =
-      ap (λ (c : Bool). c && eqb (getD es (x * 36) 0) k) (b .of t lent u x)
-      ∙ and-when (isBelow t root x) (eqb (getD es (x * 36) 0) k) (eqb (rank t x) k) (λ h. ap (λ (n : ℕ). eqb n k) (lent-rank es t lent x (below-used x h)))
-
-module _ (es : List ℕ) (t : Table) (lent : Lent es t) (root : ℕ) (u : root < elementCount t) (ws : List ℕ) (b : Below es root ws) (k : ℕ) (out : List ℕ) (r : OfRank es ws k out) where
+module _ (es : List ℕ) (t : Table) (lent : Lent es t) (root : ℕ) (u : root < elementCount t) (k : ℕ) where
   abbrev wanted : ℕ → Bool
   wanted x = isBelow t root x && eqb (rank t x) k
 
-  ranked-kept : markedNumbers out ≡ keep wanted (upTo (elementCount t))
-  ranked-kept =
-      members-are out (elementCount t) wanted (lent .fits .elementRoom)
-      (λ x. r .of x ∙ ranked-is es t lent root u ws b k x)
-      (λ x h. ap (λ (c : Bool). c && eqb (rank t x) k) (none-below es t root x lent u h))
+  pub wanted-used : (x : ℕ) → wanted x ≡ true → x < elementCount t
+  wanted-used x h = below-used es t lent root u x (and-left (isBelow t root x) (eqb (rank t x) k) h)
 
-  kept-ranked : keep wanted (upTo (elementCount t)) ≡ withRank t k root
-  unfolding withRank subElements
-  kept-ranked = keep-keep (isBelow t root) (λ x. eqb (rank t x) k) (upTo (elementCount t))
+  pub wanted-rank : (x : ℕ) → wanted x ≡ true → rank t x ≡ k
+  wanted-rank x h = eq-test (rank t x) k (and-right (isBelow t root x) (eqb (rank t x) k) h)
 
-  pub with-rank-marked : markedNumbers out ≡ withRank t k root
-  with-rank-marked = ranked-kept ∙ kept-ranked
+  module _ (out : List ℕ) (v : Level es root k out) where
+    pub ranked-kept : markedNumbers out ≡ keep wanted (upTo (elementCount t))
+    ranked-kept =
+        members-are out (elementCount t) wanted (lent .fits .elementRoom)
+        (v .of t lent u)
+        (λ x h. ap (λ (c : Bool). c && eqb (rank t x) k) (none-below es t root x lent u h))
 
-  -- ---- vertices
+    kept-ranked : keep wanted (upTo (elementCount t)) ≡ withRank t k root
+    unfolding withRank subElements
+    kept-ranked = keep-keep (isBelow t root) (λ x. eqb (rank t x) k) (upTo (elementCount t))
 
-  named : k ≡ 0 → (x : ℕ) → wanted x ≡ true → vertexWord es x ≡ vertexOf (element t x)
-  named z x h =
-      vertex-named es t lent x (below-used es t lent root u ws b x (and-left (isBelow t root x) (eqb (rank t x) k) h))
-      (eq-test (rank t x) k (and-right (isBelow t root x) (eqb (rank t x) k) h) ∙ z)
+    pub with-rank-marked : markedNumbers out ≡ withRank t k root
+    with-rank-marked = ranked-kept ∙ kept-ranked
 
-  pub vertices-named : k ≡ 0 → map (vertexWord es) (markedNumbers out) ≡ vertexSet t root
-  unfolding vertexSet
-  vertices-named z =
-      ap (map (vertexWord es)) ranked-kept
-      ∙ map-kept wanted (vertexWord es) (λ x. vertexOf (element t x)) (named z) (upTo (elementCount t))
-      ∙ ap (map (λ x. vertexOf (element t x))) (kept-ranked ∙ ap (λ (j : ℕ). withRank t j root) z)
+    -- what two functions make of them, where both make the same of what has the rank
+    pub map-ranked : {A : Type 0} (f g : ℕ → A) → ((x : ℕ) → x < elementCount t → rank t x ≡ k → f x ≡ g x) → map f (markedNumbers out) ≡ map g (withRank t k root)
+    map-ranked f g h =
+        ap (map f) ranked-kept
+        ∙ map-kept wanted f g (λ x w. h x (wanted-used x w) (wanted-rank x w)) (upTo (elementCount t))
+        ∙ ap (map g) kept-ranked
+
+-- ---- vertices
+
+pub vertices-named : (es : List ℕ) (t : Table) → Lent es t → (root : ℕ) → root < elementCount t → (out : List ℕ) → Level es root 0 out → map (vertexWord es) (markedNumbers out) ≡ vertexSet t root
+unfolding vertexSet
+vertices-named es t lent root u out v = map-ranked es t lent root u 0 out v (vertexWord es) (λ x. vertexOf (element t x)) (vertex-named es t lent)

@@ -1,33 +1,32 @@
 -- What is left of the corners makes of what was tested so far what all of them make of nothing; and that is what the rules read from the sides of the vertex set.
-use Prim.Native.Nat.{ℕ, zero, suc, _+_, _*_, _-_, _<_, _≤_}
+use Prim.Native.Nat.{ℕ, suc, _+_, _*_, _-_, _/_, _^_, _<_, _≤_}
 use mathlib.Core.Bool.{Bool, true, false, _&&_, _||_, true≢false}
-use mathlib.Core.List.{List, [], _∷_, map}
-use mathlib.Core.Path.{_≡_, refl, sym, ap, ap₂, subst, _∙_}
+use mathlib.Core.List.{List, [], _∷_, _++_, map}
+use mathlib.Core.Path.{_≡_, refl, sym, ap, subst, _∙_}
 use native.Mathlib.Nat.{le-trans, add-zero}
-use native.Mathlib.Numerals.{add-one}
 use native.Mathlib.Omega.{arith}
+use lib.Count.{trailingZeros}
 use lib.Dec.{eqb, lit≤}
 use lib.ListN.{length, getD, take}
 use lib.Ieee.{Float, nan}
 use Rattle.rules.specs.Limits.{desk}
-use Rattle.rules.specs.Lists.{if_then_else_, any, keep, upFrom, upTo, pad}
+use Rattle.rules.specs.Lists.{if_then_else_, any, member, pad}
 use Rattle.rules.specs.Floats.{plusZero, signedDistance, sideOf}
-use Rattle.rules.specs.Table.{Table, Element, corner, polytope, Plane, element, elementCount, rank, vertexOf}
+use Rattle.rules.specs.Table.{Table, Element, corner, polytope, element, elementCount, rank, vertexOf}
 use Rattle.rules.specs.Sound.{sound, soundPoint}
 use Rattle.rules.specs.Held.{Holds, pointsOf}
-use Rattle.rules.specs.Questions.{isBelow, subElements, withRank, vertexSet}
+use Rattle.rules.specs.Questions.{withRank, vertexSet}
 use Rattle.rules.specs.Replies.{dividerOf}
 use Rattle.rules.specs.Touch.{vertexSide, cornerSides, isInside, isOutside, touchBy, touchOf, testedFrom, touched}
 use Rattle.rules.specs.declared.Hyperplane.{Hyperplane}
 use Rattle.rules.specs.declared.Side.{Side}
 use Rattle.rules.specs.declared.Side.the-variants.{Inside, On, Outside}
-use Rattle.rules.specs.declared.Touch.{Touch}
 use Rattle.rules.specs.declared.TouchReply.{TouchReply}
 use Rattle.rules.specs.declared.TouchReply.the-variants.{Touched}
 use Rattle.rules.proofs.Corners.{corner-named}
 use Rattle.rules.proofs.Good.{Good, sound-good, above-zero}
-use Rattle.rules.proofs.Growing.{all-get}
-use Rattle.rules.proofs.Laws.{and-left, and-right, eq-test, test-eq, not-eq, le-test}
+use Rattle.rules.proofs.Growing.{all-get, map-append}
+use Rattle.rules.proofs.Laws.{or-left, or-right, eqb-self, le-test}
 use Rattle.rules.proofs.RoundTrip.{point-back, point-long}
 use Rattle.space.specs.Shared.{storedPoint}
 use Rattle.space.proofs.Room.{point-word-or}
@@ -35,34 +34,15 @@ use Rattle.space.proofs.RowAdds.{readable-desk}
 use Rattle.space.proofs.VertexMemo.{four-is, dimension-is}
 use Rattle.space.proofs.Slices.{slices}
 use Rattle.soundness.proofs.ReadBack.{map-map}
-use Rattle.elements.specs.Marks.{isMarked}
-use Rattle.elements.specs.Below.{Lent, Below}
-use Rattle.elements.specs.Ranks.{isOfRank, vertexWord}
-use Rattle.elements.specs.Touches.{cornerSide, nothingTested, withSide, testedTo, testedAt, sidesFrom, CornersReady, TouchReady, FiniteTouched}
+use Rattle.elements.specs.Marks.{bitsFrom, wordsFrom, markedNumbers}
+use Rattle.elements.specs.Below.{Lent}
+use Rattle.elements.specs.Ranks.{vertexWord}
+use Rattle.elements.specs.Levels.{Level}
+use Rattle.elements.specs.Touches.{cornerSide, CornerReady, nothingTested, withSide, testedTo, WordTestable, WordTested, CornersReady, TouchReady, FiniteTouched}
 use Rattle.elements.specs.declared.touch.Tested.{Tested}
-use Rattle.elements.proofs.MemberLaws.{members-are, keep-same}
-use Rattle.elements.proofs.BelowLoops.{none-above, sub-elements-marked}
-use Rattle.elements.proofs.RankLoops.{keep-keep, map-kept, vertex-named, below-used, ranked-is}
-
--- ---- one element more
-
-pub is-corner : (es ws : List ℕ) (x : ℕ) → isMarked ws x ≡ true → getD es (x * 36) 0 ≡ 0 → isOfRank es ws 0 x ≡ true
-is-corner es ws x m n = ap₂ (λ (a b : Bool). a && b) m (test-eq (getD es (x * 36) 0) 0 n)
-
-module _ (d : ℕ) (h : Hyperplane) (ps : List Float) (es ws : List ℕ) (x : ℕ) (s : Tested) where
-  at-by : (b : Bool) → isOfRank es ws 0 x ≡ b → (if b then withSide s (cornerSide d h ps es x) else s) ≡ testedAt d h ps es ws x s
-  unfolding testedAt
-  at-by b q i = if sym q i then withSide s (cornerSide d h ps es x) else s
-
-  pub passed-over : isMarked ws x ≡ false → s ≡ testedAt d h ps es ws x s
-  passed-over m = at-by false (ap (λ (b : Bool). b && eqb (getD es (x * 36) 0) 0) m)
-
-  module _ (m : isMarked ws x ≡ true) where
-    pub no-corner : (getD es (x * 36) 0 ≡ 0 → ⊥) → s ≡ testedAt d h ps es ws x s
-    no-corner n = at-by false (ap₂ (λ (a b : Bool). a && b) m (not-eq (getD es (x * 36) 0) 0 n))
-
-    pub corner-tested : getD es (x * 36) 0 ≡ 0 → (side : Side) (r : Tested) → side ≡ cornerSide d h ps es x → r ≡ withSide s side → r ≡ testedAt d h ps es ws x s
-    corner-tested n side r q e = e ∙ ap (withSide s) q ∙ at-by true (is-corner es ws x m n)
+use Rattle.elements.proofs.MemberLaws.{word-marked}
+use Rattle.elements.proofs.WordLoops.{Leaving, numbersLeft, leaving-start, all-left, none-left, next-inside, next-left, leaving-next, words-whole, next-word, no-words}
+use Rattle.elements.proofs.RankLoops.{vertex-named, wanted-used, wanted-rank, map-ranked}
 
 -- ---- in rising order, until both have been met
 
@@ -80,60 +60,121 @@ one-more s Inside = refl
 one-more s On = refl
 one-more s Outside = refl
 
-module _ (d : ℕ) (h : Hyperplane) (ps : List Float) (es ws : List ℕ) where
-  abbrev sides : ℕ → ℕ → List Side
-  sides x m = sidesFrom d h ps es ws x m
+tested-append : (s : Tested) (xs ys : List Side) → testedTo s (xs ++ ys) ≡ testedTo (testedTo s xs) ys
+unfolding testedTo
+tested-append s [] ys = refl
+tested-append s (x ∷ xs) ys = go (s .inside && s .outside) refl (tested-append (withSide s x) xs ys)
+  where
+    go : (b : Bool) → (s .inside && s .outside) ≡ b → testedTo (withSide s x) (xs ++ ys) ≡ testedTo (testedTo (withSide s x) xs) ys
+        → (if b then s else testedTo (withSide s x) (xs ++ ys)) ≡ testedTo (if b then s else testedTo (withSide s x) xs) ys
+    go true q later = stays s ys q
+    go false q later = later
 
-  -- the elements from x on are left
-  pub record Testing (n : ℕ) (s : Tested) (x : ℕ) : Type 0 where
-    pub low : x ≤ n
+tested-none : (s : Tested) → testedTo s [] ≡ s
+unfolding testedTo
+tested-none s = refl
+
+module _ (d : ℕ) (h : Hyperplane) (ps : List Float) (es : List ℕ) where
+  abbrev sides : List ℕ → List Side
+  sides xs = map (cornerSide d h ps es) xs
+
+  -- ---- those of a word
+
+  -- the numbers that are left of it are to come
+  pub record Testing (word base : ℕ) (s₀ s : Tested) (x left : ℕ) : Type 0 where
+    pub ready : WordTestable ps es word base s₀
+    pub leaving : Leaving base x left
+    pub vertex : (y : ℕ) → member y (numbersLeft base x left) ≡ true → vertexWord es y < 256
     pub few : s .corners ≤ x
-    pub same : testedTo nothingTested (sides 0 n) ≡ testedTo s (sides x (n - x))
+    pub same : testedTo s₀ (sides (bitsFrom 64 word base)) ≡ testedTo s (sides (numbersLeft base x left))
 
-  pub testing-start : (n : ℕ) → Testing n nothingTested 0
-  testing-start n = record { low = omega arith; few = omega arith; same = ap (λ (m : ℕ). testedTo nothingTested (sides 0 m)) (let z : n ≡ n - 0 = omega arith in z) }
-
-  abbrev next : ℕ → List Side → Bool → List Side
-  next x rest b = if b then cornerSide d h ps es x ∷ rest else rest
-
-  side-on : (x m : ℕ) → sides x (suc m) ≡ next x (sides (x + 1) m) (isOfRank es ws 0 x)
-  unfolding sidesFrom
-  side-on x m =
-      go (isOfRank es ws 0 x) ∙ ap (λ (k : ℕ). next x (map (cornerSide d h ps es) (keep (isOfRank es ws 0) (upFrom k m))) (isOfRank es ws 0 x)) (sym (add-one x))
-    where
-      go : (b : Bool) → map (cornerSide d h ps es) (if b then x ∷ keep (isOfRank es ws 0) (upFrom (suc x) m) else keep (isOfRank es ws 0) (upFrom (suc x) m))
-          ≡ next x (map (cornerSide d h ps es) (keep (isOfRank es ws 0) (upFrom (suc x) m))) b
-      go true = refl
-      go false = refl
-
-  module _ (n : ℕ) (s : Tested) (x : ℕ) (T : Testing n s x) where
-    pub testing-stops : (s .inside && s .outside) ≡ true → s ≡ testedTo nothingTested (sides 0 n)
-    testing-stops q = stays s (sides x (n - x)) q ∙ sym (T .same)
-
-    pub testing-ends : n ≤ x → s ≡ testedTo nothingTested (sides 0 n)
-    unfolding testedTo sidesFrom
-    testing-ends q = sym (T .same ∙ ap (λ (m : ℕ). testedTo s (sides x m)) (let z : n - x ≡ 0 = omega (arith, q) in z))
-
-    module _ (l : x < n) (q : (s .inside && s .outside) ≡ false) (r : Tested) (e : r ≡ testedAt d h ps es ws x s) where
-      step : (rest : List Side) (b : Bool) → testedTo s (next x rest b) ≡ testedTo (if b then withSide s (cornerSide d h ps es x) else s) rest
-      step rest true = goes-on s (cornerSide d h ps es x) rest q
-      step rest false = refl
-
-      more : (b : Bool) → (if b then withSide s (cornerSide d h ps es x) else s) .corners ≤ x + 1
-      more true = let k = one-more s (cornerSide d h ps es x) in let f = T .few in omega (arith, k, f)
-      more false = let f = T .few in omega (arith, f)
-
-      pub testing-next : Testing n r (x + 1)
-      unfolding testedAt
-      testing-next = record {
-        low = omega (arith, l);
-        few = subst (λ (y : Tested). y .corners ≤ x + 1) (sym e) (more (isOfRank es ws 0 x));
-        same =
-            T .same ∙ ap (λ (m : ℕ). testedTo s (sides x m)) (let z : n - x ≡ suc (n - (x + 1)) = omega (arith, l) in z)
-            ∙ ap (testedTo s) (side-on x (n - (x + 1)))
-            ∙ step (sides (x + 1) (n - (x + 1))) (isOfRank es ws 0 x)
-            ∙ ap (λ (y : Tested). testedTo y (sides (x + 1) (n - (x + 1)))) (sym e);
+  pub testing-start : (word base : ℕ) (s : Tested) → word < 2 ^ 64 → WordTestable ps es word base s → Testing word base s s base word
+  testing-start word base s l r =
+      let e = all-left base word in
+      record {
+        ready = r;
+        leaving = leaving-start base word l;
+        vertex = λ y m. r .vertex y (ap (member y) e ∙ m);
+        few = r .few;
+        same = ap (λ (xs : List ℕ). testedTo s (sides xs)) e;
       }
+
+  module _ (word base : ℕ) (s₀ s : Tested) (x left : ℕ) (T : Testing word base s₀ s x left) where
+    told-few : s .corners ≤ base + 64
+    told-few = let f = T .few in let l = T .leaving .span in omega (arith, f, l)
+
+    pub testing-stops : (s .inside && s .outside) ≡ true → WordTested d h ps es word base s₀ s
+    testing-stops q = record { same = stays s (sides (numbersLeft base x left)) q ∙ sym (T .same); few = told-few }
+
+    pub testing-ends : left ≡ 0 → WordTested d h ps es word base s₀ s
+    testing-ends e = record { same = sym (T .same ∙ ap (λ (xs : List ℕ). testedTo s (sides xs)) (none-left base x left e) ∙ tested-none s); few = told-few }
+
+    module _ (z : ℕ) (q : z ≡ trailingZeros 64 left) (n : left ≡ 0 → ⊥) where
+      abbrev rest : List ℕ
+      rest = numbersLeft base (x + z + 1) (left / 2 ^ z / 2 ^ 1)
+
+      split : numbersLeft base x left ≡ (x + z) ∷ rest
+      split = next-left base x left (T .leaving) z q n
+
+      pub testing-corner : CornerReady ps es (x + z)
+      testing-corner = record {
+        points = T .ready .points;
+        elements = T .ready .elements;
+        inRoom = let l = next-inside base x left (T .leaving) z q n in let b = T .ready .low in omega (arith, l, b);
+        vertex = T .vertex (x + z) (ap (member (x + z)) split ∙ or-left (eqb (x + z) (x + z)) (member (x + z) rest) (eqb-self (x + z)));
+      }
+
+      pub testing-next : (s .inside && s .outside) ≡ false → (side : Side) (r : Tested) → side ≡ cornerSide d h ps es (x + z) → r ≡ withSide s side
+          → Testing word base s₀ r (x + z + 1) (left / 2 ^ z / 2 ^ 1)
+      testing-next b side r k e = record {
+        ready = T .ready;
+        leaving = leaving-next base x left (T .leaving) z q n;
+        vertex = λ y m. T .vertex y (ap (member y) split ∙ or-right (eqb y (x + z)) (member y rest) m);
+        few = let c = ap (λ (y : Tested). y .corners) e ∙ one-more s side in let f = T .few in omega (arith, c, f);
+        same =
+            T .same ∙ ap (λ (xs : List ℕ). testedTo s (sides xs)) split
+            ∙ goes-on s (cornerSide d h ps es (x + z)) (sides rest) b
+            ∙ ap (λ (y : Tested). testedTo y (sides rest)) (sym (e ∙ ap (withSide s) k));
+      }
+
+  -- ---- those of a set
+
+  -- the words from w on are left
+  pub record AllTesting (ws : List ℕ) (s : Tested) (w : ℕ) : Type 0 where
+    pub few : s .corners ≤ w * 64
+    pub same : testedTo nothingTested (sides (markedNumbers ws)) ≡ testedTo s (sides (wordsFrom (8 - w) w ws))
+
+  pub all-start : (ws : List ℕ) → AllTesting ws nothingTested 0
+  all-start ws = record { few = omega arith; same = ap (λ (xs : List ℕ). testedTo nothingTested (sides xs)) (words-whole ws) }
+
+  module _ (ws : List ℕ) (s : Tested) (w : ℕ) (T : AllTesting ws s w) where
+    pub all-ends : w ≡ 8 → s ≡ testedTo nothingTested (sides (markedNumbers ws))
+    all-ends e = sym (T .same ∙ ap (λ (xs : List ℕ). testedTo s (sides xs)) (no-words ws w e) ∙ tested-none s)
+
+    pub word-testable : w < 8 → CornersReady ps es ws → WordTestable ps es (getD ws w 0) (w * 64) s
+    word-testable l r = record {
+      points = r .points;
+      elements = r .elements;
+      low = omega (arith, l);
+      vertex = λ x m. r .vertex x (word-marked ws x w m);
+      few = T .few;
+    }
+
+    pub all-next : (r : Tested) → w < 8 → WordTested d h ps es (getD ws w 0) (w * 64) s r → AllTesting ws r (w + 1)
+    all-next r l W = record {
+      few = let f = W .few in omega (arith, f);
+      same =
+          T .same ∙ ap (λ (xs : List ℕ). testedTo s (sides xs)) (next-word ws w l)
+          ∙ ap (testedTo s) (map-append (cornerSide d h ps es) word rest)
+          ∙ tested-append s (sides word) (sides rest)
+          ∙ ap (λ (y : Tested). testedTo y (sides rest)) (sym (W .same));
+    }
+      where
+        word : List ℕ
+        word = bitsFrom 64 (getD ws w 0) (w * 64)
+
+        rest : List ℕ
+        rest = wordsFrom (8 - (w + 1)) (w + 1) ws
 
 -- ---- what that tells
 
@@ -179,7 +220,7 @@ sides-told : (ss : List Side) → answerOf (testedTo nothingTested ss) ≡ touch
 unfolding touchOf
 sides-told ss = all-told ss false false 0 refl ∙ ap (Touched (touchBy (any isInside ss) (any isOutside ss))) (let z : 0 + testedFrom false false ss ≡ testedFrom false false ss = omega arith in z)
 
--- ---- the marks of what lies below a root of a sound table
+-- ---- the corners of a root of a sound table
 
 module _ {cs : List ℕ} {ps hs : List Float} {es : List ℕ} {t : Table} (H : Holds desk cs ps hs es t) (s : sound desk t ≡ true) where
   pub lent : Lent es t
@@ -226,49 +267,28 @@ module _ {cs : List ℕ} {ps hs : List Float} {es : List ℕ} {t : Table} (H : H
         (λ i. sideOf (signedDistance (take (e i) (h .normal)) (h .distance) (take (e i) (storedPoint ps (vertex-named es t lent x u z i)))))
         ∙ ap (λ (p : List Float). sideOf (signedDistance (take (t .dimension) (h .normal)) (h .distance) p)) (point-is (vertexOf (element t x)) named)
 
-  module _ (root : ℕ) (u : root < elementCount t) (ws : List ℕ) (b : Below es root ws) where
-    abbrev wanted : ℕ → Bool
-    wanted x = isBelow t root x && eqb (rank t x) 0
-
-    wanted-used : (x : ℕ) → wanted x ≡ true → x < elementCount t
-    wanted-used x h = below-used es t lent root u ws b x (and-left (isBelow t root x) (eqb (rank t x) 0) h)
-
-    wanted-zero : (x : ℕ) → wanted x ≡ true → rank t x ≡ 0
-    wanted-zero x h = eq-test (rank t x) 0 (and-right (isBelow t root x) (eqb (rank t x) 0) h)
-
-    pub corners-ready : CornersReady ps es ws root
+  module _ (root : ℕ) (u : root < elementCount t) (ws : List ℕ) (v : Level es root 0 ws) where
+    pub corners-ready : CornersReady ps es ws
     corners-ready = record {
       points = slices H .points;
       elements = slices H .elements;
-      inRoom = le-trans u (H .fits .elementRoom);
-      vertex = λ x h. (let w = sym (ranked-is es t lent root u ws b 0 x) ∙ h in vertex-low x (wanted-used x w) (wanted-zero x w));
+      vertex = λ x m. (let w = sym (v .of t lent u x) ∙ m in vertex-low x (wanted-used es t lent root u 0 x w) (wanted-rank es t lent root u 0 x w));
     }
 
-    kept : keep wanted (upTo (root + 1)) ≡ withRank t 0 root
-    unfolding withRank
-    kept =
-        keep-keep (isBelow t root) (λ x. eqb (rank t x) 0) (upTo (root + 1))
-        ∙ ap (keep (λ x. eqb (rank t x) 0))
-        (sym (members-are ws (root + 1) (isBelow t root) (let l = H .fits .elementRoom in omega (arith, l, u)) (b .of t lent u) (λ x l. none-above es t root x lent u (omega (arith, l))))
-        ∙ sub-elements-marked es t root ws lent u b)
-
-    pub sides-are : (d : ℕ) (h : Hyperplane) → d ≡ t .dimension → sidesFrom d h ps es ws 0 (root + 1) ≡ cornerSides (dividerOf (t .dimension) h) t root
-    unfolding sidesFrom cornerSides vertexSet
+    pub sides-are : (d : ℕ) (h : Hyperplane) → d ≡ t .dimension → map (cornerSide d h ps es) (markedNumbers ws) ≡ cornerSides (dividerOf (t .dimension) h) t root
+    unfolding cornerSides vertexSet
     sides-are d h e =
-        ap (map (cornerSide d h ps es)) (keep-same (isOfRank es ws 0) wanted (ranked-is es t lent root u ws b 0) (upTo (root + 1)))
-        ∙ map-kept wanted (cornerSide d h ps es) (λ x. vertexSide (dividerOf (t .dimension) h) t (vertexOf (element t x)))
-        (λ x w. side-is x (wanted-used x w) (wanted-zero x w) d h e) (upTo (root + 1))
-        ∙ ap (map (λ x. vertexSide (dividerOf (t .dimension) h) t (vertexOf (element t x)))) kept
+        map-ranked es t lent root u 0 ws v (cornerSide d h ps es) (λ x. vertexSide (dividerOf (t .dimension) h) t (vertexOf (element t x))) (λ x k z. side-is x k z d h e)
         ∙ sym (map-map (vertexSide (dividerOf (t .dimension) h) t) (λ x. vertexOf (element t x)) (withRank t 0 root))
 
 -- ---- the contract of a finite touch
 
-pub ready-corners : {cs : List ℕ} {ps : List Float} {es : List ℕ} {root : ℕ} {ws : List ℕ} → TouchReady cs ps es root → Below es root ws → CornersReady ps es ws root
-ready-corners {root = root} {ws} R b = corners-ready (R .holds) (R .sound) root (R .used) ws b
+pub ready-corners : {cs : List ℕ} {ps : List Float} {es : List ℕ} {root : ℕ} {ws : List ℕ} → TouchReady cs ps es root → Level es root 0 ws → CornersReady ps es ws
+ready-corners {root = root} {ws} R v = corners-ready (R .holds) (R .sound) root (R .used) ws v
 
 pub finite-touched : {cs : List ℕ} {ps : List Float} {es : List ℕ} {h : Hyperplane} {root : ℕ} (ws : List ℕ) (d : ℕ) (s : Tested) {r : TouchReply}
-    → Below es root ws → d ≡ getD cs 0 0 → s ≡ testedTo nothingTested (sidesFrom d h ps es ws 0 (root + 1)) → r ≡ answerOf s → FiniteTouched cs ps es h root r
-finite-touched {h = h} {root} ws d s b e q a = record {
-  of = λ hs t H k u. a ∙ ap answerOf (q ∙ ap (testedTo nothingTested) (sides-are H k root u ws b d h (dimension-is d e H)))
+    → Level es root 0 ws → d ≡ getD cs 0 0 → s ≡ testedTo nothingTested (map (cornerSide d h ps es) (markedNumbers ws)) → r ≡ answerOf s → FiniteTouched cs ps es h root r
+finite-touched {h = h} {root} ws d s v e q a = record {
+  of = λ hs t H k u. a ∙ ap answerOf (q ∙ ap (testedTo nothingTested) (sides-are H k root u ws v d h (dimension-is d e H)))
       ∙ sides-told (cornerSides (dividerOf (t .dimension) h) t root);
 }

@@ -2,4 +2,5 @@
 pub mod Marks
 pub mod Below
 pub mod Ranks
+pub mod Levels
 pub mod Touches

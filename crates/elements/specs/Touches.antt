@@ -1,12 +1,12 @@
--- How the corners of an element are tested against a plane, in rising order, by the marks of what lies below it. Definitions only.
+-- How the corners of an element are tested against a plane, in rising order, by their marks. Definitions only.
 use Prim.Native.Nat.{ℕ, _+_, _<_, _≤_}
-use mathlib.Core.Bool.{Bool, true, false, _&&_}
+use mathlib.Core.Bool.{true, false, _&&_}
 use mathlib.Core.Path.{_≡_}
 use mathlib.Core.List.{List, [], _∷_, map}
 use lib.ListN.{length}
 use lib.Ieee.{Float}
 use Rattle.rules.specs.Limits.{desk}
-use Rattle.rules.specs.Lists.{if_then_else_, keep, upFrom}
+use Rattle.rules.specs.Lists.{if_then_else_, member}
 use Rattle.rules.specs.Floats.{sideOf}
 use Rattle.rules.specs.Table.{Table, elementCount}
 use Rattle.rules.specs.Sound.{sound}
@@ -19,8 +19,8 @@ use Rattle.rules.specs.declared.Side.the-variants.{Inside, On, Outside}
 use Rattle.rules.specs.declared.TouchReply.{TouchReply}
 use Rattle.hypermath.specs.Answers.{distanceTo}
 use Rattle.space.specs.Shared.{storedPoint}
-use Rattle.elements.specs.Marks.{isMarked}
-use Rattle.elements.specs.Ranks.{isOfRank, vertexWord}
+use Rattle.elements.specs.Marks.{isMarked, bitsFrom}
+use Rattle.elements.specs.Ranks.{vertexWord}
 use Rattle.elements.specs.declared.touch.Tested.{Tested}
 
 -- ---- one corner
@@ -53,28 +53,24 @@ testedTo s (x ∷ xs) = if s .inside && s .outside then s else testedTo (withSid
 
 -- ---- the corners of a set of marks
 
--- element x more, where it is one
-unfoldable pub testedAt : ℕ → Hyperplane → List Float → List ℕ → List ℕ → ℕ → Tested → Tested
-testedAt d h ps es ws x s = if isOfRank es ws 0 x then withSide s (cornerSide d h ps es x) else s
-
--- the sides of those among m elements from x on
-unfoldable pub sidesFrom : ℕ → Hyperplane → List Float → List ℕ → List ℕ → ℕ → ℕ → List Side
-sidesFrom d h ps es ws x m = map (cornerSide d h ps es) (keep (isOfRank es ws 0) (upFrom x m))
-
--- each up to the root has its point
-pub record CornersReady (ps : List Float) (es ws : List ℕ) (root : ℕ) : Type 0 where
+-- each number of a word names a point, and no more were tested than numbers before them
+pub record WordTestable (ps : List Float) (es : List ℕ) (word base : ℕ) (s : Tested) : Type 0 where
   pub points : length ps ≡ 1024
   pub elements : length es ≡ 18432
-  pub inRoom : root < 512
-  pub vertex : (x : ℕ) → isOfRank es ws 0 x ≡ true → vertexWord es x < 256
+  pub low : base ≤ 448
+  pub vertex : (x : ℕ) → member x (bitsFrom 64 word base) ≡ true → vertexWord es x < 256
+  pub few : s .corners ≤ base
 
--- the same of one element; as many as were tested are in the room
-pub record MarkedReady (ps : List Float) (es ws : List ℕ) (x : ℕ) (s : Tested) : Type 0 where
+-- they are tested after those before them
+pub record WordTested (d : ℕ) (h : Hyperplane) (ps : List Float) (es : List ℕ) (word base : ℕ) (s r : Tested) : Type 0 where
+  pub same : r ≡ testedTo s (map (cornerSide d h ps es) (bitsFrom 64 word base))
+  pub few : r .corners ≤ base + 64
+
+-- each number of a set names a point
+pub record CornersReady (ps : List Float) (es ws : List ℕ) : Type 0 where
   pub points : length ps ≡ 1024
   pub elements : length es ≡ 18432
-  pub inRoom : x < 512
-  pub vertex : isOfRank es ws 0 x ≡ true → vertexWord es x < 256
-  pub few : s .corners < 512
+  pub vertex : (x : ℕ) → isMarked ws x ≡ true → vertexWord es x < 256
 
 -- ---- the root of a sound table
 

@@ -12,7 +12,7 @@ ghost use mathlib.Core.Path.{_≡_};
 ghost use Rattle.elements.specs.Marks.{markingAll};
 ghost use Rattle.elements.specs.Below.{boundaryNumbers, BoundaryReady, Used, Onward, Below};
 
-fn mark_boundary(elements: &[u16], e: ElementId, words: &mut [u64; 8])
+pub fn mark_boundary(elements: &[u16], e: ElementId, words: &mut [u64; 8])
     requires { ⌜ BoundaryReady (now elements) (e .0) ⌝ }
     ensures { λ _. ⌜ now (words .exit) ≡ markingAll (now (words .entry)) (boundaryNumbers (now (elements .entry)) (e .0)) ⌝ }
 {

@@ -6,9 +6,9 @@ ghost use lib.Seq.{sets};
 ghost use Rattle.elements.specs.Marks.{isMarked, marking, markedNumbers, CountOf, NoneMarked, Both, DownTo, ZerosBelow, ZerosAbove, WordFits, WordListed};
 
 // How many words a set has, and how many marks a word.
-const WORDS: usize = 8;
+pub const WORDS: usize = 8;
 
-const BITS: usize = 64;
+pub const BITS: usize = 64;
 
 // A set of numbers below 512.
 pub struct Marks {
@@ -59,7 +59,7 @@ fn ones_of(x: u64) -> usize
     u64::count_ones(x) as usize
 }
 
-fn zeros_below(x: u64) -> usize
+pub fn zeros_below(x: u64) -> usize
     ensures { λ r. ⌜ ZerosBelow x r ⌝ }
 {
     u64::trailing_zeros(x) as usize

@@ -2,10 +2,10 @@
 use crate::below::below;
 use crate::common::all_of_rank;
 use crate::common::common;
+use crate::levels::level;
 use crate::listing::list_marks;
 use crate::listing::list_vertices;
 use crate::ranks::greatest;
-use crate::ranks::with_rank;
 use rules::ElementId;
 use rules::ListReply;
 use soundness::asked::root_refusal;
@@ -52,8 +52,7 @@ pub fn subelements_with_rank(
     if no != 0 {
         return ListReply::Refused(no);
     }
-    let s = below(elements, root);
-    let some = with_rank(elements, s, rank as usize);
+    let some = level(elements, root, rank as usize);
     list_marks(some, list)
 }
 
@@ -72,8 +71,7 @@ pub fn vertex_set(
     if no != 0 {
         return ListReply::Refused(no);
     }
-    let s = below(elements, root);
-    let corners = with_rank(elements, s, 0);
+    let corners = level(elements, root, 0);
     list_vertices(elements, corners, list)
 }
 

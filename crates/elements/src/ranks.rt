@@ -26,7 +26,7 @@ fn add_ranked(elements: &[u16], set: &[u64; 8], rank: usize, e: ElementId, out: 
     mark(out, e.0);
 }
 
-pub fn with_rank(elements: &[u16], s: Marks, rank: usize) -> Marks
+fn with_rank(elements: &[u16], s: Marks, rank: usize) -> Marks
     requires { ⌜ length (now elements) ≡ 18432 ⌝ }
     ensures { λ r. ⌜ OfRank (now (elements .entry)) (s .words) rank (r .words) ⌝ }
 {

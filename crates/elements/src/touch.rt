@@ -1,6 +1,8 @@
 // Document 02, order 6: where the corners of an element lie to a plane, without a cut.
-use crate::below::below;
-use crate::marks::marked;
+use crate::levels::level;
+use crate::marks::BITS;
+use crate::marks::WORDS;
+use crate::marks::zeros_below;
 use hypermath::side_of;
 use hypermath::signed_distance;
 use rules::ElementId;
@@ -14,15 +16,16 @@ use soundness::asked::divider_asked;
 use space::chains::INDEX;
 use space::memo::read_point;
 use space::rows::boundary_at;
-use space::rows::rank_of;
 use space::words::wide;
 ghost use Prim.Native.Nat.{_+_, _<_};
 ghost use mathlib.Core.Bool.{_&&_};
+ghost use mathlib.Core.List.{map};
 ghost use mathlib.Core.Path.{_≡_};
 ghost use Rattle.rules.specs.Limits.{desk};
 ghost use Rattle.rules.specs.Held.{memoryOf};
 ghost use Rattle.rules.specs.Touch.{touchBy, touchReply};
-ghost use Rattle.elements.specs.Touches.{cornerSide, withSide, testedAt, testedTo, nothingTested, sidesFrom, CornerReady, MarkedReady, CornersReady, TouchReady, FiniteTouched};
+ghost use Rattle.elements.specs.Marks.{markedNumbers};
+ghost use Rattle.elements.specs.Touches.{cornerSide, withSide, testedTo, nothingTested, CornerReady, WordTestable, WordTested, CornersReady, TouchReady, FiniteTouched};
 
 // What the corners tested so far have told, and how many they are.
 pub struct Tested {
@@ -77,52 +80,53 @@ fn with_side(s: Tested, side: Side) -> Tested
     }
 }
 
-// An element more, which counts where it is a corner of the set.
-fn test_marked(
+// The corners of a word, in rising order, up to and with the first at which both an inside and an outside corner have been met.
+fn test_word(
     points: &[f64],
     elements: &[u16],
-    words: &[u64; 8],
-    e: ElementId,
+    word: u64,
+    base: usize,
     d: usize,
     h: Hyperplane,
-    s: Tested,
+    from: Tested,
 ) -> Tested
-    requires { ⌜ MarkedReady (now points) (now elements) (now words) (e .0) s ⌝ }
-    ensures { λ r. ⌜ r ≡ testedAt d h (now (points .entry)) (now (elements .entry)) (now (words .entry)) (e .0) s ⌝ }
+    requires { ⌜ WordTestable (now points) (now elements) word base from ⌝ }
+    ensures { λ r. ⌜ WordTested d h (now (points .entry)) (now (elements .entry)) word base from r ⌝ }
 {
-    if !marked(words, e.0) {
-        return s;
+    let mut s = from;
+    let mut left = word;
+    let mut x = base;
+    while left != 0 {
+        if both_met(s) {
+            return s;
+        }
+        let z = zeros_below(left);
+        let side = corner_side(points, elements, ElementId(x + z), d, h);
+        s = with_side(s, side);
+        left = (left >> z) >> 1;
+        x = x + z + 1;
     }
-    if rank_of(elements, e) != 0 {
-        return s;
-    }
-    let side = corner_side(points, elements, e, d, h);
-    with_side(s, side)
+    s
 }
 
-// In rising order, up to and with the first at which both an inside and an outside corner have been met.
+// Those of all words.
 fn test_corners(
     points: &[f64],
     elements: &[u16],
     words: &[u64; 8],
-    root: ElementId,
     d: usize,
     h: Hyperplane,
 ) -> Tested
-    requires { ⌜ CornersReady (now points) (now elements) (now words) (root .0) ⌝ }
-    ensures { λ r. ⌜ r ≡ testedTo nothingTested (sidesFrom d h (now (points .entry)) (now (elements .entry)) (now (words .entry)) 0 (root .0 + 1)) ⌝ }
+    requires { ⌜ CornersReady (now points) (now elements) (now words) ⌝ }
+    ensures { λ r. ⌜ r ≡ testedTo nothingTested (map (cornerSide d h (now (points .entry)) (now (elements .entry))) (markedNumbers (now (words .entry)))) ⌝ }
 {
     let mut s = Tested {
         inside: false,
         outside: false,
         corners: 0,
     };
-    let n = root.0 + 1;
-    for x in 0..n {
-        if both_met(s) {
-            return s;
-        }
-        s = test_marked(points, elements, words, ElementId(x), d, h, s);
+    for w in 0..WORDS {
+        s = test_word(points, elements, words[w], w * BITS, d, h, s);
     }
     s
 }
@@ -147,7 +151,7 @@ fn told(s: Tested) -> TouchReply
     TouchReply::Touched { answer, tested }
 }
 
-// The corners of the root, by the marks of all that lies below it.
+// The corners of the root, by their marks.
 fn touch_finite(
     counts: &[u16],
     points: &[f64],
@@ -158,10 +162,10 @@ fn touch_finite(
     requires { ⌜ TouchReady (now counts) (now points) (now elements) (root .0) ⌝ }
     ensures { λ r. ⌜ FiniteTouched (now (counts .entry)) (now (points .entry)) (now (elements .entry)) h (root .0) r ⌝ }
 {
-    let s = below(elements, root);
+    let s = level(elements, root, 0);
     let words = s.words;
     let d = wide(counts[0]);
-    let tested = test_corners(points, elements, &words, root, d, h);
+    let tested = test_corners(points, elements, &words, d, h);
     told(tested)
 }
 

@@ -2,7 +2,8 @@
 use Prim.Native.Nat.{ℕ, _+_, _-_, _<_}
 use mathlib.Core.List.{List}
 use Rattle.elements.specs.Marks.{WordFits}
-use Rattle.elements.proofs.ListLoops.{Listing, listing-start, listing-room, listing-next, listing-end, zeros-inside}
+use Rattle.elements.proofs.WordLoops.{next-inside}
+use Rattle.elements.proofs.ListLoops.{Listing, listing-start, listing-room, listing-next, listing-end}
 use borrow.Author.Needs.{needs}
 use Rattle.elements.proofs.marks.list_word.Statement.{statement}
 use Rattle.elements.proofs.marks.list_word.Tie as tie
@@ -26,7 +27,7 @@ start c = c .before .before
 
 -- the next mark is within the word
 inside : (c : tie.After-zeros-below Inv-loop μ-loop) → turn c .loop .x + c .zeros-below .result < start (turn c) .args .base + 64
-inside c = zeros-inside _ _ _ _ _ _ _ _ (turn c .loop .inv .listing) _ (c .zeros-below .ensures .zeros) (c .before .loop-test .taken)
+inside c = next-inside _ _ _ (turn c .loop .inv .listing .leaving) _ (c .zeros-below .ensures .zeros) (c .before .loop-test .taken)
 
 loop-holds : tie.Need-loop-holds Inv-loop μ-loop
 loop-holds c = record { fits = c .before .pre; listing = listing-start _ _ _ _ (c .before .fits .word .fits) }
@@ -63,7 +64,7 @@ add-at c =
 shr-left : tie.Need-shr-left Inv-loop μ-loop
 shr-left c =
     let h = inside c in
-    let l = turn c .loop .inv .listing .low in
+    let l = turn c .loop .inv .listing .leaving .low in
     search (needs, h, l)
 
 add-x : tie.Need-add-x Inv-loop μ-loop

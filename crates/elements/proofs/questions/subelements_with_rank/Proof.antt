@@ -1,6 +1,5 @@
 -- The refusals in their order; then the numbers of the marks are the sub-elements of the rank.
 use Rattle.elements.specs.Marks.{markedNumbers}
-use Rattle.elements.proofs.BelowLoops.{lent-long}
 use Rattle.elements.proofs.RankLoops.{with-rank-marked}
 use Rattle.elements.proofs.QuestionReplies.{with-rank, root-refused, root-used, root-answered}
 use borrow.Author.Needs.{needs}
@@ -11,7 +10,7 @@ use Rattle.elements.proofs.questions.subelements_with_rank.Tie as tie
 abbrev start : tie.After-slice-known → tie.Start
 start c = c .before .before .before .before .before
 
-abbrev ranked : tie.After-list-marks → tie.After-with-rank
+abbrev ranked : tie.After-list-marks → tie.After-level
 ranked c = c .before .before
 
 root-refusal-requires : tie.Need-root-refusal-requires
@@ -22,11 +21,8 @@ returns c =
     let r = c .before in
     root-refused _ _ _ _ _ _ (r .root-refusal .ensures) (with-rank (start (r .before) .args .rank)) _ (c .if1 .taken)
 
-below-requires : tie.Need-below-requires
-below-requires c κs = root-used _ _ _ _ _ _ (c .before .root-refusal .ensures) (c .if1 .left)
-
-with-rank-requires : tie.Need-with-rank-requires
-with-rank-requires c κs = lent-long _ _ (root-used _ _ _ _ _ _ (c .before .before .root-refusal .ensures) (c .before .if1 .left) .lent)
+level-requires : tie.Need-level-requires
+level-requires c κs = root-used _ _ _ _ _ _ (c .before .root-refusal .ensures) (c .if1 .left)
 
 list-marks-requires : tie.Need-list-marks-requires
 list-marks-requires c κs = search needs
@@ -38,11 +34,10 @@ returns-2 : tie.Need-returns-2
 returns-2 c =
     let l = c .before .before in
     let k = ranked l in
-    let s = k .before in
-    let on = s .before in
+    let on = k .before in
     let r = on .before in
-    root-answered _ _ _ _ _ _ (r .root-refusal .ensures) (on .if1 .left) (with-rank (start (r .before) .args .rank)) _ (markedNumbers (k .with-rank .result .words)) _ (l .list-marks .ensures)
-    (λ t l u. with-rank-marked _ t l _ u _ (s .below .ensures) _ _ (k .with-rank .ensures))
+    root-answered _ _ _ _ _ _ (r .root-refusal .ensures) (on .if1 .left) (with-rank (start (r .before) .args .rank)) _ (markedNumbers (k .level .result .words)) _ (l .list-marks .ensures)
+    (λ t l u. with-rank-marked _ t l _ u _ _ (k .level .ensures))
 
 pub subelements-with-rank-spec : {M : Type 1} → statement M
 subelements-with-rank-spec =
@@ -50,8 +45,7 @@ subelements-with-rank-spec =
     (tie.spec
     root-refusal-requires
     returns
-    below-requires
-    with-rank-requires
+    level-requires
     list-marks-requires
     same-length
     returns-2)

@@ -1,6 +1,5 @@
 -- The refusals in their order; then what the vertex elements name is the vertex set.
 use mathlib.Core.List.{map}
-use mathlib.Core.Path.{refl}
 use Rattle.elements.specs.Marks.{markedNumbers}
 use Rattle.elements.specs.Ranks.{vertexWord}
 use Rattle.elements.proofs.BelowLoops.{lent-long}
@@ -14,7 +13,7 @@ use Rattle.elements.proofs.questions.vertex_set.Tie as tie
 abbrev start : tie.After-slice-known → tie.Start
 start c = c .before .before .before .before .before
 
-abbrev ranked : tie.After-list-vertices → tie.After-with-rank
+abbrev ranked : tie.After-list-vertices → tie.After-level
 ranked c = c .before .before
 
 root-refusal-requires : tie.Need-root-refusal-requires
@@ -23,15 +22,12 @@ root-refusal-requires c κs = search needs
 returns : tie.Need-returns
 returns c = root-refused _ _ _ _ _ _ (c .before .root-refusal .ensures) vertices _ (c .if1 .taken)
 
-below-requires : tie.Need-below-requires
-below-requires c κs = root-used _ _ _ _ _ _ (c .before .root-refusal .ensures) (c .if1 .left)
-
-with-rank-requires : tie.Need-with-rank-requires
-with-rank-requires c κs = lent-long _ _ (root-used _ _ _ _ _ _ (c .before .before .root-refusal .ensures) (c .before .if1 .left) .lent)
+level-requires : tie.Need-level-requires
+level-requires c κs = root-used _ _ _ _ _ _ (c .before .root-refusal .ensures) (c .if1 .left)
 
 list-vertices-requires : tie.Need-list-vertices-requires
 list-vertices-requires c κs =
-    let on = c .before .before .before in
+    let on = c .before .before in
     lent-long _ _ (root-used _ _ _ _ _ _ (on .before .root-refusal .ensures) (on .if1 .left) .lent)
 
 same-length : tie.Need-same-length
@@ -41,12 +37,11 @@ returns-2 : tie.Need-returns-2
 returns-2 c =
     let l = c .before .before in
     let k = ranked l in
-    let s = k .before in
-    let on = s .before in
+    let on = k .before in
     let r = on .before in
-    let names = map (vertexWord (start (r .before) .args .elements .now)) (markedNumbers (k .with-rank .result .words)) in
+    let names = map (vertexWord (start (r .before) .args .elements .now)) (markedNumbers (k .level .result .words)) in
     root-answered _ _ _ _ _ _ (r .root-refusal .ensures) (on .if1 .left) vertices _ names _ (l .list-vertices .ensures)
-    (λ t l u. vertices-named _ t l _ u _ (s .below .ensures) _ _ (k .with-rank .ensures) refl)
+    (λ t l u. vertices-named _ t l _ u _ (k .level .ensures))
 
 pub vertex-set-spec : {M : Type 1} → statement M
 vertex-set-spec =
@@ -54,8 +49,7 @@ vertex-set-spec =
     (tie.spec
     root-refusal-requires
     returns
-    below-requires
-    with-rank-requires
+    level-requires
     list-vertices-requires
     same-length
     returns-2)
