@@ -25,7 +25,7 @@ ghost use Rattle.rules.specs.Print.{printReply};
 ghost use Rattle.rules.specs.Replies.{isSoundReply, cubeReply, cutBy, cutReply, subElementsReply, withRankReply, vertexSetReply, greatestCommonReply, edgesInOrderReply, primordialFacetReply};
 ghost use Rattle.rules.specs.Touch.{touchReply};
 ghost use Rattle.cut.specs.Lists.{cutListOf};
-ghost use Rattle.desk.specs.Words.{cutWord, cutListWord, listWord, facetWord, touchWord, dividerWith, fateBy, rankByte};
+ghost use Rattle.desk.specs.Words.{cutWord, cutListWord, listWord, facetWord, touchWord, dividerWith, fateBy};
 
 #[no_mangle]
 pub extern "C" fn desk_is_sound(
