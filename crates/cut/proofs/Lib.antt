@@ -2,6 +2,7 @@ pub mod Words
 pub mod StaysKnown
 pub mod Rounds
 pub mod Higher
+pub mod Counts
 pub mod WholeCuts
 pub mod Replies
 pub mod SoundCuts

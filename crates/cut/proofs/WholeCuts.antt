@@ -179,6 +179,15 @@ module _ (p : CutParams) {cs : List ℕ} {ps hs : List Float} {es : List ℕ} {r
               go t F (stopped j u m d z H) = let e : _≡_ {A = ℕ} 0 1 = cc in absurd (omega arith)
               go t F (went a u m d n H) = held.went a u (steps F ∙ m) (λ l. public.Answered ((told ∙ H .output) l) ((warned ∙ n) l)) (H .holds)
 
+-- ---- the counts, lent in an array of their own
+
+pub counts-lent : {cs cs₁ us : List ℕ} {hs hs₁ : List Float} {h : Hyperplane} {x : PlacedHyperplane} → us ≡ cs₁ → HyperplaneAdded cs hs h x cs₁ hs₁ → HyperplaneAdded cs hs h x us hs₁
+counts-lent {cs} {hs = hs} {hs₁} {h} {x} e = subst (λ (l : List ℕ). HyperplaneAdded cs hs h x l hs₁) (sym e)
+
+pub counts-back : {cs cs′ us : List ℕ} {ps hs ps′ hs′ : List Float} {es es′ ix′ : List ℕ} {p : CutParams} {root : ℕ} {r : CutReply}
+    → cs′ ≡ us → CutTried cs ps hs es p root r us ps′ hs′ es′ ix′ → CutTried cs ps hs es p root r cs′ ps′ hs′ es′ ix′
+counts-back {cs} {ps = ps} {hs} {ps′} {hs′} {es} {es′} {ix′} {p} {root} {r} e = subst (λ (l : List ℕ). CutTried cs ps hs es p root r l ps′ hs′ es′ ix′) (sym e)
+
 -- ---- the memory given back
 
 -- what restoring asks

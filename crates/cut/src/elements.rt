@@ -7,16 +7,18 @@ use crate::ranks::answer_low;
 use gathered::sets::ROOM;
 use rules::Cutter;
 use rules::ElementId;
+use space::chains::INDEX;
 use space::rows;
+use space::words::COUNTS;
 use space::words::SET;
 use space::words::wide;
 ghost use Rattle.cut.specs.Rounds.{AskReady, RoundReady, ElementAsked, BoundaryCut};
 
 pub fn cut_element(
-    counts: &mut [u16],
+    counts: &mut [u16; COUNTS],
     points: &mut [f64],
     elements: &mut [u16],
-    index: &mut [u16],
+    index: &mut [u16; INDEX],
     known: &mut [u16; KNOWN],
     room: &mut [[u16; SET]; ROOM],
     e: ElementId,
@@ -42,10 +44,10 @@ pub fn cut_element(
 
 // In rising number; a refusal ends the round. What is answered stays known, so nothing is held from one to the next.
 fn cut_boundary(
-    counts: &mut [u16],
+    counts: &mut [u16; COUNTS],
     points: &mut [f64],
     elements: &mut [u16],
-    index: &mut [u16],
+    index: &mut [u16; INDEX],
     known: &mut [u16; KNOWN],
     room: &mut [[u16; SET]; ROOM],
     e: ElementId,

@@ -8,7 +8,9 @@ use gathered::sets;
 use gathered::sets::ROOM;
 use rules::Cutter;
 use rules::ElementId;
+use space::chains::INDEX;
 use space::rows;
+use space::words::COUNTS;
 use space::words::SET;
 use space::words::wide;
 ghost use Rattle.cut.specs.Rounds.{LowReady, ElementAsked};
@@ -16,10 +18,10 @@ ghost use Rattle.cut.specs.Higher.{GatherReady, KnownGathered, HigherRea
 
 // A vertex element or an edge.
 pub fn answer_low(
-    counts: &mut [u16],
+    counts: &mut [u16; COUNTS],
     points: &mut [f64],
     elements: &mut [u16],
-    index: &mut [u16],
+    index: &mut [u16; INDEX],
     known: &mut [u16; KNOWN],
     room: &mut [[u16; SET]; ROOM],
     e: ElementId,
@@ -50,9 +52,9 @@ fn gather_known(elements: &[u16], known: &[u16; KNOWN], room: &mut [[u16; SET]; 
 
 // An element of rank 2 or more, once all of its boundary was asked.
 pub fn answer_higher(
-    counts: &mut [u16],
+    counts: &mut [u16; COUNTS],
     elements: &mut [u16],
-    index: &mut [u16],
+    index: &mut [u16; INDEX],
     known: &mut [u16; KNOWN],
     room: &mut [[u16; SET]; ROOM],
     e: ElementId,

@@ -7,6 +7,7 @@ use rules::ElementId;
 use rules::ElementOrNone;
 use soundness::asked::Asking;
 use soundness::asked::sound_asked;
+use space::chains::INDEX;
 ghost use mathlib.Core.Bool.{false};
 ghost use mathlib.Core.Path.{_≡_};
 ghost use Rattle.cut.specs.Whole.{SoundIndexed, SoundCut};
@@ -32,7 +33,7 @@ pub fn cut_sound(
     points: &mut [f64],
     planes: &mut [f64],
     elements: &mut [u16],
-    index: &mut [u16],
+    index: &mut [u16; INDEX],
     params: CutParams,
     root: ElementId,
 ) -> CutReply

@@ -9,12 +9,35 @@ use rules::CutParams;
 use rules::CutReply;
 use rules::Cutter;
 use rules::ElementId;
+use space::chains::INDEX;
 use space::memo::PlacedHyperplane;
 use space::memo::add_hyperplane;
 use space::restore::restore;
 use space::rows::rank_of;
+use space::words::COUNTS;
 use space::words::SET;
+ghost use mathlib.Core.Path.{_≡_};
+ghost use lib.ListN.{length};
 ghost use Rattle.cut.specs.Whole.{CutReady, CutTried, WholeCut};
+
+// The counts in an array: lent so, they cost each rank of the cut one word.
+fn counts_of(counts: &[u16]) -> [u16; COUNTS]
+    requires { ⌜ length (now counts) ≡ 4 ⌝ }
+    ensures { λ r. ⌜ r ≡ now (counts .entry) ⌝ }
+{
+    [counts[0], counts[1], counts[2], counts[3]]
+}
+
+// Back in the memory, after a refusal too: restoring begins at them.
+fn put_counts(counts: &mut [u16], used: [u16; COUNTS])
+    requires { ⌜ length (now counts) ≡ 4 ⌝ }
+    ensures { λ r. ⌜ now (counts .exit) ≡ used ⌝ }
+{
+    counts[0] = used[0];
+    counts[1] = used[1];
+    counts[2] = used[2];
+    counts[3] = used[3];
+}
 
 // The divider is matched or appended first, also for a flush or vertex root.
 fn cut_named(
@@ -22,7 +45,7 @@ fn cut_named(
     points: &mut [f64],
     planes: &mut [f64],
     elements: &mut [u16],
-    index: &mut [u16],
+    index: &mut [u16; INDEX],
     params: CutParams,
     root: ElementId,
 ) -> CutReply
@@ -39,8 +62,9 @@ fn cut_named(
             let k = Cutter { params, number };
             let mut known = [0u16; KNOWN];
             let mut room = [[0u16; SET]; ROOM];
+            let mut used = counts_of(counts);
             let asked = cut_element(
-                counts,
+                &mut used,
                 points,
                 elements,
                 index,
@@ -50,6 +74,7 @@ fn cut_named(
                 rank,
                 k,
             );
+            put_counts(counts, used);
             match asked {
                 Asked::Refused(no) => CutReply::Refused(no),
                 Asked::Done => {
@@ -68,7 +93,7 @@ pub fn cut_finite(
     points: &mut [f64],
     planes: &mut [f64],
     elements: &mut [u16],
-    index: &mut [u16],
+    index: &mut [u16; INDEX],
     params: CutParams,
     root: ElementId,
 ) -> CutReply

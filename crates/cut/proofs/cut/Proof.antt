@@ -15,10 +15,10 @@ abbrev start : tie.After-memory-indexed → tie.Start
 start c = lent (c .before .before .before .before .before)
 
 -- where the cut was made
-abbrev half-known : tie.After-index4 → tie.After-slice-known6
-half-known c = c .before .before .before .before .before
+abbrev half-known : tie.After-slice-known8 → tie.After-slice-known6
+half-known c = c .before .before .before .before
 
-abbrev made : tie.After-index4 → tie.After-cut-sound
+abbrev made : tie.After-slice-known8 → tie.After-cut-sound
 made c = half-known c .before .before .before .before
 
 slice-aggregate-memory-indexed : tie.Need-slice-aggregate-memory-indexed
@@ -43,9 +43,6 @@ returns : tie.Need-returns
 returns c =
     let t = c .before .before in
     unsound (start t .args .params) _ _ _ _ _ (sym (t .memory-indexed .ensures .told) ∙ not-true _ (c .if1 .taken))
-
-slice-aggregate-cut-sound : tie.Need-slice-aggregate-cut-sound
-slice-aggregate-cut-sound c = search needs
 
 cut-sound-requires : tie.Need-cut-sound-requires
 cut-sound-requires c κs =
@@ -82,7 +79,6 @@ cut-spec =
     same-length-3
     same-length-4
     returns
-    slice-aggregate-cut-sound
     cut-sound-requires
     same-length-5
     same-length-6

@@ -75,10 +75,8 @@ abbrev cut-boundary-Inv-loop : cut-boundary-lts.InvT-loop
 cut-boundary-Inv-loop counts₀ points₀ elements₀ index₀ known₀ room₀ e rank k n i₀ counts points elements index known room i =
     record {
       most : i ≤ n;
-      counts-long : length counts ≡ length counts₀;
       points-long : length points ≡ length points₀;
       elements-long : length elements ≡ length elements₀;
-      index-long : length index ≡ length index₀;
       more : 1 < rank;
       going : Going rank more (e .0) k counts₀ points₀ elements₀ known₀ (warningIn room₀) i counts points elements known (warningIn room);
       indexed : Indexed elements (getD counts 1 0) index;
@@ -97,7 +95,7 @@ module _ (t : ℕ) where
 
   -- where the round began, and what was shown there
   abbrev round-start : In-round cut-boundary-lts.After-size-of → In-round cut-boundary-lts.Start
-  round-start c = c .before .before .before .before .before .before
+  round-start c = c .before .before .before .before
 
   abbrev round-asked : (c : In-round cut-boundary-lts.Start)
       → RoundReady (c .args .counts .now) (c .args .points .now) (c .args .elements .now) (c .args .index .now) (c .args .known .now) (c .args .room .now) (c .args .rank) (c .args .e .0) (c .args .k)
@@ -110,11 +108,8 @@ module _ (t : ℕ) where
   abbrev read : In-round cut-boundary-lts.After-cut-element-arg6 → In-round cut-boundary-lts.After-wide
   read c = c .before .before .before .before .before .before
 
-  abbrev half-known : In-round cut-boundary-lts.After-slice-known8 → In-round cut-boundary-lts.After-slice-known6
-  half-known c = c .before .before .before .before
-
-  abbrev asked : In-round cut-boundary-lts.After-slice-known8 → In-round cut-boundary-lts.After-cut-element
-  asked c = half-known c .before .before .before .before
+  abbrev asked : In-round cut-boundary-lts.After-slice-known4 → In-round cut-boundary-lts.After-cut-element
+  asked c = c .before .before .before .before
 
   abbrev number-read : In-round cut-boundary-lts.After-cut-element → In-round cut-boundary-lts.After-wide
   number-read c = read (c .before)
@@ -129,7 +124,7 @@ module _ (t : ℕ) where
 
   cut-boundary-size-of-requires : In-round cut-boundary-lts.Need-size-of-requires
   cut-boundary-size-of-requires c κs =
-      let R = round-asked (c .before .before .before .before .before) .ready in
+      let R = round-asked (c .before .before .before) .ready in
       record { elements = round.ready-words R; room = ask-low R }
 
   cut-boundary-loop-holds : In-round cut-boundary-lts.Need-loop-holds
@@ -137,10 +132,8 @@ module _ (t : ℕ) where
       let R = round-asked (round-start c) in
       record {
         most = search needs;
-        counts-long = refl;
         points-long = refl;
         elements-long = refl;
-        index-long = refl;
         more = R .more;
         going = round.going-start (R .more);
         indexed = R .ready .indexed;
@@ -168,16 +161,10 @@ module _ (t : ℕ) where
       )
 
   cut-boundary-same-length : In-round cut-boundary-lts.Need-same-length
-  cut-boundary-same-length c = let s = asked (c .before .before .before) in s .cut-element .kept .0 ∙ in-loop s .loop .inv .counts-long
+  cut-boundary-same-length c = let s = asked (c .before .before .before) in s .cut-element .kept .1 .0 ∙ in-loop s .loop .inv .points-long
 
   cut-boundary-same-length-2 : In-round cut-boundary-lts.Need-same-length-2
-  cut-boundary-same-length-2 c = let s = asked (c .before .before .before) in s .cut-element .kept .1 .0 ∙ in-loop s .loop .inv .points-long
-
-  cut-boundary-same-length-3 : In-round cut-boundary-lts.Need-same-length-3
-  cut-boundary-same-length-3 c = let s = asked (c .before .before .before) in s .cut-element .kept .1 .1 .0 ∙ in-loop s .loop .inv .elements-long
-
-  cut-boundary-same-length-4 : In-round cut-boundary-lts.Need-same-length-4
-  cut-boundary-same-length-4 c = let s = asked (c .before .before .before) in s .cut-element .kept .1 .1 .1 .0 ∙ in-loop s .loop .inv .index-long
+  cut-boundary-same-length-2 c = let s = asked (c .before .before .before) in s .cut-element .kept .1 .1 .0 ∙ in-loop s .loop .inv .elements-long
 
   cut-boundary-returns : In-round cut-boundary-lts.Need-returns
   cut-boundary-returns c =
@@ -212,10 +199,8 @@ module _ (t : ℕ) where
       let C = s .cut-element .ensures in
       record {
         most = omega (arith, l .loop-test .taken);
-        counts-long = kept .0 ∙ at .inv .counts-long;
         points-long = kept .1 .0 ∙ at .inv .points-long;
         elements-long = kept .1 .1 .0 ∙ at .inv .elements-long;
-        index-long = kept .1 .1 .1 .0 ∙ at .inv .index-long;
         more = at .inv .more;
         going = round.going-on (at .inv .more) (at .inv .going) _ (l .before .before .size-of .ensures) (l .loop-test .taken) _ (number w) (C .of) (c .enum-told .given .1) (C .still);
         indexed = C .indexed;
@@ -241,7 +226,7 @@ module _ (t : ℕ) where
 
   -- where the function began, and what was shown there
   abbrev start : In-element cut-element-lts.After-is-known → In-element cut-element-lts.Start
-  start c = c .before .before .before .before .before .before
+  start c = c .before .before .before .before
 
   abbrev ready : (c : In-element cut-element-lts.Start)
       → AskReady (c .args .counts .now) (c .args .points .now) (c .args .elements .now) (c .args .index .now) (c .args .known .now) (c .args .room .now) (c .args .rank) (c .args .e .0) (c .args .k)
@@ -251,34 +236,28 @@ module _ (t : ℕ) where
   abbrev low : In-element cut-element-lts.After-answer-low-arg6 → In-element cut-element-lts.Then2
   low c = c .before .before .before .before .before .before
 
-  abbrev half-low : In-element cut-element-lts.After-slice-known8 → In-element cut-element-lts.After-slice-known6
-  half-low c = c .before .before .before .before
-
-  abbrev low-cut : In-element cut-element-lts.After-slice-known8 → In-element cut-element-lts.After-answer-low
-  low-cut c = half-low c .before .before .before .before
+  abbrev low-cut : In-element cut-element-lts.After-slice-known4 → In-element cut-element-lts.After-answer-low
+  low-cut c = c .before .before .before .before
 
   -- where the boundary is asked, and was asked
   abbrev higher : In-element cut-element-lts.After-cut-boundary-arg6 → In-element cut-element-lts.Else2
   higher c = c .before .before .before .before .before .before
 
-  abbrev half-round : In-element cut-element-lts.After-slice-known12 → In-element cut-element-lts.After-slice-known10
-  half-round c = c .before .before .before .before
-
-  abbrev round-cut : In-element cut-element-lts.After-slice-known12 → In-element cut-element-lts.After-cut-boundary
-  round-cut c = half-round c .before .before .before .before
+  abbrev round-cut : In-element cut-element-lts.After-slice-known6 → In-element cut-element-lts.After-cut-boundary
+  round-cut c = c .before .before .before .before
 
   -- where all of it is known, and where the element has answered
   abbrev all-known : In-element cut-element-lts.After-answer-higher-arg5 → In-element cut-element-lts.After-enum-told
   all-known c = c .before .before .before .before .before
 
-  abbrev whole : In-element cut-element-lts.After-slice-known15 → In-element cut-element-lts.After-answer-higher
-  whole c = c .before .before .before .before .before .before
+  abbrev whole : In-element cut-element-lts.After-slice-known7 → In-element cut-element-lts.After-answer-higher
+  whole c = c .before .before
 
-  abbrev whole-round : In-element cut-element-lts.After-slice-known15 → In-element cut-element-lts.After-cut-boundary
+  abbrev whole-round : In-element cut-element-lts.After-slice-known7 → In-element cut-element-lts.After-cut-boundary
   whole-round c = round-cut (all-known (whole c .before) .before .before)
 
   cut-element-is-known-requires : In-element cut-element-lts.Need-is-known-requires
-  cut-element-is-known-requires c κs = ask-low (ready (c .before .before .before .before .before))
+  cut-element-is-known-requires c κs = ask-low (ready (c .before .before .before))
 
   cut-element-returns : In-element cut-element-lts.Need-returns
   cut-element-returns c = known-asked _ (ready (start (c .before))) (c .before .is-known .ensures) (c .if1 .taken)
@@ -304,14 +283,8 @@ module _ (t : ℕ) where
       let b = round-cut (c .before .before .before) in
       element-refused (higher (b .before) .if2 .left) (b .cut-boundary .ensures) _ (c .before .asked .given .1)
 
-  cut-element-same-length-9 : In-element cut-element-lts.Need-same-length-9
-  cut-element-same-length-9 c = whole c .answer-higher .kept .0 ∙ whole-round c .cut-boundary .kept .0
-
-  cut-element-same-length-11 : In-element cut-element-lts.Need-same-length-11
-  cut-element-same-length-11 c = whole c .answer-higher .kept .1 .0 ∙ whole-round c .cut-boundary .kept .1 .1 .0
-
-  cut-element-same-length-12 : In-element cut-element-lts.Need-same-length-12
-  cut-element-same-length-12 c = whole c .answer-higher .kept .1 .1 .0 ∙ whole-round c .cut-boundary .kept .1 .1 .1 .0
+  cut-element-same-length-6 : In-element cut-element-lts.Need-same-length-6
+  cut-element-same-length-6 c = whole c .answer-higher .kept .1 .0 ∙ whole-round c .cut-boundary .kept .1 .1 .0
 
   cut-element-returns-4 : In-element cut-element-lts.Need-returns-4
   cut-element-returns-4 c =
@@ -322,14 +295,12 @@ module _ (t : ℕ) where
 pub +cut-boundary+cut-element-spec : {M : Type 1} → statement M
 +cut-boundary+cut-element-spec = close μ-cut-boundary μ-cut-element (λ t. cut-boundary-lts.spec (cut-boundary-claims t) (cut-boundary-at t) cut-boundary.Post cut-boundary-Inv-loop cut-boundary-μ-loop
     (cut-boundary-size-of-requires t) (cut-boundary-loop-holds t) (cut-boundary-boundary-at-requires t) (λ c κs. search needs) (λ c. search needs)
-    (cut-boundary-cut-element-requires t) (λ c. search needs) (cut-boundary-same-length t) (cut-boundary-same-length-2 t) (cut-boundary-same-length-3 t)
-    (cut-boundary-same-length-4 t) (cut-boundary-returns t) (λ c. search needs) (cut-boundary-add-i t)
-    (cut-boundary-loop-less t) (cut-boundary-loop-again t) (λ c. search needs) (λ c. search needs) (λ c. search needs) (λ c. search needs) (cut-boundary-returns-2 t))
+    (cut-boundary-cut-element-requires t) (λ c. search needs) (cut-boundary-same-length t) (cut-boundary-same-length-2 t) (cut-boundary-returns t) (λ c. search needs)
+    (cut-boundary-add-i t) (cut-boundary-loop-less t) (cut-boundary-loop-again t) (λ c. search needs) (λ c. search needs) (cut-boundary-returns-2 t))
     λ t. cut-element-lts.spec (cut-element-claims t) (cut-element-at t) cut-element.Post
-    (cut-element-is-known-requires t) (cut-element-returns t) (cut-element-answer-low-requires t) (λ c. low-cut t c .answer-low .kept .0)
-    (λ c. low-cut t c .answer-low .kept .1 .0) (λ c. low-cut t c .answer-low .kept .1 .1 .0) (λ c. low-cut t c .answer-low .kept .1 .1 .1 .0)
+    (cut-element-is-known-requires t) (cut-element-returns t) (cut-element-answer-low-requires t)
+    (λ c. low-cut t c .answer-low .kept .1 .0) (λ c. low-cut t c .answer-low .kept .1 .1 .0)
     (λ c. low-cut t c .answer-low .ensures) (cut-element-cut-boundary-requires t) (λ c. search needs) (λ c. search needs) (cut-element-answer-higher-requires t)
-    (λ c. round-cut t (c .before .before .before) .cut-boundary .kept .0) (λ c. round-cut t (c .before .before .before) .cut-boundary .kept .1 .0)
-    (λ c. round-cut t (c .before .before .before) .cut-boundary .kept .1 .1 .0) (λ c. round-cut t (c .before .before .before) .cut-boundary .kept .1 .1 .1 .0)
-    (cut-element-returns-3 t) (cut-element-same-length-9 t) (λ c. whole-round t c .cut-boundary .kept .1 .0) (cut-element-same-length-11 t) (cut-element-same-length-12 t)
+    (λ c. round-cut t (c .before .before .before) .cut-boundary .kept .1 .0) (λ c. round-cut t (c .before .before .before) .cut-boundary .kept .1 .1 .0)
+    (cut-element-returns-3 t) (λ c. whole-round t c .cut-boundary .kept .1 .0) (cut-element-same-length-6 t)
     (cut-element-returns-4 t)

@@ -28,7 +28,7 @@ abbrev passed : tie.After-cuts-in-turn-arg5 → tie.Else3
 passed c = c .before .before .before .before .before .before
 
 abbrev half-known : tie.After-slice-known10 → tie.After-slice-known8
-half-known c = c .before .before .before .before .before
+half-known c = c .before .before .before .before
 
 abbrev made : tie.After-slice-known10 → tie.After-cuts-in-turn
 made c = half-known c .before .before .before .before .before .before
@@ -101,9 +101,6 @@ returns-3 c =
     let k = c .before in
     list-short _ _ _ (is-sound (k .before .before)) (fits k) (c .if3 .taken)
 
-slice-aggregate-cuts-in-turn : tie.Need-slice-aggregate-cuts-in-turn
-slice-aggregate-cuts-in-turn c = search needs
-
 cuts-in-turn-requires : tie.Need-cuts-in-turn-requires
 cuts-in-turn-requires c κs =
     let k = passed c in
@@ -157,7 +154,6 @@ cut-all-spec =
     same-length-11
     same-length-12
     returns-3
-    slice-aggregate-cuts-in-turn
     cuts-in-turn-requires
     same-length-13
     same-length-14

@@ -7,18 +7,18 @@ use Rattle.cut.proofs.lists.cut_at.Statement.{statement}
 use Rattle.cut.proofs.lists.cut_at.Tie as tie
 
 -- where the function began
-abbrev begun : tie.After-slice-known5 → tie.Start
-begun c = c .before .before .before .before .before
+abbrev begun : tie.After-slice-known4 → tie.Start
+begun c = c .before .before .before .before
 
-abbrev start : tie.After-slice-known6 → tie.Start
+abbrev start : tie.After-slice-known5 → tie.Start
 start c = begun (c .before .before .before .before)
 
 -- where the cut was made, and where its root and its parameters were read
-abbrev half-known : tie.After-slice-known11 → tie.After-slice-known9
+abbrev half-known : tie.After-slice-known9 → tie.After-slice-known7
 half-known c = c .before .before .before .before
 
-abbrev made : tie.After-slice-known11 → tie.After-cut-sound
-made c = half-known c .before .before .before .before .before .before
+abbrev made : tie.After-slice-known9 → tie.After-cut-sound
+made c = half-known c .before .before .before .before
 
 abbrev rooted : tie.After-cut-sound → tie.After-wide
 rooted c = c .before .before .before .before .before .before
@@ -79,15 +79,15 @@ same-length-3 c = search needs
 same-length-4 : tie.Need-same-length-4
 same-length-4 c = search needs
 
-same-length-5 : tie.Need-same-length-5
-same-length-5 c = search needs
-
 returns : tie.Need-returns
 returns c =
     let s = made (c .before .before .before) in
     let w = rooted s in
     let a = start (told w .before) .args in
     made-refused (a .dividers .now) (a .kept .now) (a .roots .now) (a .i) (told w .params-at .ensures) (w .wide .ensures .value) (s .cut-sound .ensures) _ (c .before .reply .given .1)
+
+same-length-5 : tie.Need-same-length-5
+same-length-5 c = search needs
 
 same-length-6 : tie.Need-same-length-6
 same-length-6 c = search needs
@@ -100,12 +100,6 @@ same-length-8 c = search needs
 
 same-length-9 : tie.Need-same-length-9
 same-length-9 c = search needs
-
-same-length-10 : tie.Need-same-length-10
-same-length-10 c = search needs
-
-same-length-11 : tie.Need-same-length-11
-same-length-11 c = search needs
 
 returns-2 : tie.Need-returns-2
 returns-2 c =
@@ -134,12 +128,10 @@ cut-at-spec =
     same-length-2
     same-length-3
     same-length-4
-    same-length-5
     returns
+    same-length-5
     same-length-6
     same-length-7
     same-length-8
     same-length-9
-    same-length-10
-    same-length-11
     returns-2)

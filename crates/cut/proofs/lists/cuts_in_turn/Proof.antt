@@ -17,7 +17,6 @@ Inv-loop counts₀ points₀ planes₀ elements₀ index₀ dividers kept roots 
       points-long : length points ≡ length points₀;
       planes-long : length planes ≡ length planes₀;
       elements-long : length elements ≡ length elements₀;
-      index-long : length index ≡ length index₀;
       answers-long : length answers ≡ length answers₀;
     }
 
@@ -26,24 +25,21 @@ abbrev μ-loop : tie.MeasureT-loop
     length roots - i
 
 -- where the function began
-abbrev begun : tie.After-slice-known5 Inv-loop μ-loop → tie.Start Inv-loop μ-loop
-begun c = c .before .before .before .before .before
+abbrev begun : tie.After-slice-known4 Inv-loop μ-loop → tie.Start Inv-loop μ-loop
+begun c = c .before .before .before .before
 
-abbrev start : tie.After-slice-known6 Inv-loop μ-loop → tie.Start Inv-loop μ-loop
+abbrev start : tie.After-slice-known5 Inv-loop μ-loop → tie.Start Inv-loop μ-loop
 start c = begun (c .before .before .before .before)
 
 -- the turn of the loop, and where its cut was made
 abbrev turn : tie.After-cut-at-arg6 Inv-loop μ-loop → tie.In-loop Inv-loop μ-loop
 turn c = c .before .before .before .before .before .before
 
-abbrev half-known : tie.After-slice-known12 Inv-loop μ-loop → tie.After-slice-known10 Inv-loop μ-loop
+abbrev half-known : tie.After-slice-known10 Inv-loop μ-loop → tie.After-slice-known8 Inv-loop μ-loop
 half-known c = c .before .before .before .before
 
-abbrev known : tie.After-slice-known10 Inv-loop μ-loop → tie.After-slice-known8 Inv-loop μ-loop
-known c = c .before .before .before .before
-
-abbrev cut-made : tie.After-slice-known12 Inv-loop μ-loop → tie.After-cut-at Inv-loop μ-loop
-cut-made c = known (half-known c) .before .before .before .before
+abbrev cut-made : tie.After-slice-known10 Inv-loop μ-loop → tie.After-cut-at Inv-loop μ-loop
+cut-made c = half-known c .before .before .before .before .before .before
 
 loop-holds : tie.Need-loop-holds Inv-loop μ-loop
 loop-holds c = record {
@@ -52,7 +48,6 @@ loop-holds c = record {
   points-long = refl;
   planes-long = refl;
   elements-long = refl;
-  index-long = refl;
   answers-long = refl;
 }
 
@@ -75,10 +70,7 @@ same-length-4 : tie.Need-same-length-4 Inv-loop μ-loop
 same-length-4 c = let m = cut-made (c .before .before .before) in m .cut-at .kept .1 .1 .1 .0 ∙ turn (m .before) .before .loop .inv .elements-long
 
 same-length-5 : tie.Need-same-length-5 Inv-loop μ-loop
-same-length-5 c = let m = cut-made (c .before .before .before) in m .cut-at .kept .1 .1 .1 .1 .0 ∙ turn (m .before) .before .loop .inv .index-long
-
-same-length-6 : tie.Need-same-length-6 Inv-loop μ-loop
-same-length-6 c = let m = cut-made (c .before .before .before) in m .cut-at .kept .1 .1 .1 .1 .1 .1 .1 .1 .0 ∙ turn (m .before) .before .loop .inv .answers-long
+same-length-5 c = let m = cut-made (c .before .before .before) in m .cut-at .kept .1 .1 .1 .1 .1 .1 .1 .1 .0 ∙ turn (m .before) .before .loop .inv .answers-long
 
 returns : tie.Need-returns Inv-loop μ-loop
 returns c =
@@ -108,27 +100,23 @@ loop-again c =
       points-long = m .cut-at .kept .1 .0 ∙ t .before .loop .inv .points-long;
       planes-long = m .cut-at .kept .1 .1 .0 ∙ t .before .loop .inv .planes-long;
       elements-long = m .cut-at .kept .1 .1 .1 .0 ∙ t .before .loop .inv .elements-long;
-      index-long = m .cut-at .kept .1 .1 .1 .1 .0 ∙ t .before .loop .inv .index-long;
       answers-long = m .cut-at .kept .1 .1 .1 .1 .1 .1 .1 .1 .0 ∙ t .before .loop .inv .answers-long;
     }
 
+same-length-6 : tie.Need-same-length-6 Inv-loop μ-loop
+same-length-6 c = c .before .loop .inv .counts-long
+
 same-length-7 : tie.Need-same-length-7 Inv-loop μ-loop
-same-length-7 c = c .before .loop .inv .counts-long
+same-length-7 c = c .before .loop .inv .points-long
 
 same-length-8 : tie.Need-same-length-8 Inv-loop μ-loop
-same-length-8 c = c .before .loop .inv .points-long
+same-length-8 c = c .before .loop .inv .planes-long
 
 same-length-9 : tie.Need-same-length-9 Inv-loop μ-loop
-same-length-9 c = c .before .loop .inv .planes-long
+same-length-9 c = c .before .loop .inv .elements-long
 
 same-length-10 : tie.Need-same-length-10 Inv-loop μ-loop
-same-length-10 c = c .before .loop .inv .elements-long
-
-same-length-11 : tie.Need-same-length-11 Inv-loop μ-loop
-same-length-11 c = c .before .loop .inv .index-long
-
-same-length-12 : tie.Need-same-length-12 Inv-loop μ-loop
-same-length-12 c = c .before .loop .inv .answers-long
+same-length-10 c = c .before .loop .inv .answers-long
 
 returns-2 : tie.Need-returns-2 Inv-loop μ-loop
 returns-2 c = running-ended (c .before .loop .inv .run) (c .loop-test .left)
@@ -147,16 +135,14 @@ cuts-in-turn-spec =
     same-length-3
     same-length-4
     same-length-5
-    same-length-6
     returns
     enum-told
     add-i
     loop-less
     loop-again
+    same-length-6
     same-length-7
     same-length-8
     same-length-9
     same-length-10
-    same-length-11
-    same-length-12
     returns-2)

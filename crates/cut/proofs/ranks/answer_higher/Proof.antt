@@ -6,16 +6,13 @@ use Rattle.cut.proofs.ranks.answer_higher.Tie as tie
 
 -- where the function began, where the boundary was gathered, and where rule 6 has answered
 abbrev start : tie.After-gather-known-arg3 → tie.Start
-start c = c .before .before .before .before .before .before
+start c = c .before .before .before .before
 
 abbrev gathered : tie.After-rule6-arg4 → tie.After-gather-known
 gathered c = c .before .before .before .before
 
-abbrev given-back : tie.After-keep-arg → tie.After-slice-known4
-given-back c = c .before .before .before .before .before
-
 abbrev answered : tie.After-keep-arg → tie.After-rule6
-answered c = given-back c .before .before
+answered c = c .before .before .before
 
 gather-known-requires : tie.Need-gather-known-requires
 gather-known-requires c κs = higher-gathers (start c .pre)
@@ -32,12 +29,6 @@ keep-requires c κs =
 same-length : tie.Need-same-length
 same-length c = search needs
 
-same-length-2 : tie.Need-same-length-2
-same-length-2 c = search needs
-
-same-length-3 : tie.Need-same-length-3
-same-length-3 c = search needs
-
 returns : tie.Need-returns
 returns c =
     let a = answered (c .before) in
@@ -52,6 +43,4 @@ answer-higher-spec =
     rule6-requires
     keep-requires
     same-length
-    same-length-2
-    same-length-3
     returns)

@@ -5,17 +5,14 @@ use Rattle.cut.proofs.ranks.answer_low.Statement.{statement}
 use Rattle.cut.proofs.ranks.answer_low.Tie as tie
 
 -- where the function began, and where the element was cut: the lengths of the slices are known again after it
-abbrev lent : tie.After-slice-known4 → tie.Start
-lent c = c .before .before .before .before
+abbrev lent : tie.After-slice-known2 → tie.Start
+lent c = c .before .before
 
 abbrev start : tie.After-cut-low-arg5 → tie.Start
 start c = lent (c .before .before .before .before .before)
 
-abbrev half-known : tie.After-keep-arg → tie.After-slice-known6
-half-known c = c .before .before .before .before .before
-
 abbrev cut : tie.After-keep-arg → tie.After-cut-low
-cut c = half-known c .before .before .before .before
+cut c = c .before .before .before .before .before
 
 cut-low-requires : tie.Need-cut-low-requires
 cut-low-requires c κs = low-asks (start c .pre)
@@ -29,12 +26,6 @@ same-length c = search needs
 same-length-2 : tie.Need-same-length-2
 same-length-2 c = search needs
 
-same-length-3 : tie.Need-same-length-3
-same-length-3 c = search needs
-
-same-length-4 : tie.Need-same-length-4
-same-length-4 c = search needs
-
 returns : tie.Need-returns
 returns c = let s = cut (c .before) in low-asked (s .cut-low .ensures) (start (s .before) .pre .ready) (c .keep .ensures)
 
@@ -46,6 +37,4 @@ answer-low-spec =
     keep-requires
     same-length
     same-length-2
-    same-length-3
-    same-length-4
     returns)

@@ -6,13 +6,13 @@ use Rattle.cut.proofs.sound.cut_sound.Tie as tie
 
 -- where the function began, and where the cut was made
 abbrev start : tie.After-sound-asked-arg → tie.Start
-start c = c .before .before .before .before .before .before
+start c = c .before .before .before .before .before
 
-abbrev half-known : tie.After-slice-known10 → tie.After-slice-known8
+abbrev half-known : tie.After-slice-known8 → tie.After-slice-known6
 half-known c = c .before .before .before .before
 
-abbrev made : tie.After-slice-known10 → tie.After-cut-finite
-made c = half-known c .before .before .before .before .before .before
+abbrev made : tie.After-slice-known8 → tie.After-cut-finite
+made c = half-known c .before .before .before .before
 
 sound-asked-requires : tie.Need-sound-asked-requires
 sound-asked-requires c κs = counts-four (start c .pre)
@@ -83,9 +83,6 @@ same-length-6 c = search needs
 same-length-7 : tie.Need-same-length-7
 same-length-7 c = search needs
 
-same-length-8 : tie.Need-same-length-8
-same-length-8 c = search needs
-
 returns-4 : tie.Need-returns-4
 returns-4 c =
     let m = made c in
@@ -116,5 +113,4 @@ cut-sound-spec =
     same-length-5
     same-length-6
     same-length-7
-    same-length-8
     returns-4)

@@ -6,26 +6,26 @@ use Rattle.cut.proofs.whole.cut_finite.Statement.{statement}
 use Rattle.cut.proofs.whole.cut_finite.Tie as tie
 
 -- where the function began, and where the counts were read
-abbrev lent : tie.After-slice-known5 → tie.Start
-lent c = c .before .before .before .before .before
+abbrev lent : tie.After-slice-known4 → tie.Start
+lent c = c .before .before .before .before
 
-abbrev counted : tie.After-cut-named → tie.After-slice-known8
+abbrev counted : tie.After-cut-named → tie.After-slice-known7
 counted c = c .before .before .before .before .before .before
 
 abbrev start : tie.After-cut-named → tie.Start
 start c = lent (counted c .before .before .before)
 
 -- where the cut was tried, and where the memory was given back: the lengths of the slices are known again after each
-abbrev half-known : tie.After-slice-known13 → tie.After-slice-known11
+abbrev half-known : tie.After-slice-known11 → tie.After-slice-known9
 half-known c = c .before .before .before .before
 
-abbrev tried : tie.After-slice-known13 → tie.After-cut-named
-tried c = half-known c .before .before .before .before .before .before
+abbrev tried : tie.After-slice-known11 → tie.After-cut-named
+tried c = half-known c .before .before .before .before
 
-abbrev half-back : tie.After-slice-known17 → tie.After-slice-known15
+abbrev half-back : tie.After-slice-known15 → tie.After-slice-known13
 half-back c = c .before .before .before .before
 
-abbrev restored : tie.After-slice-known17 → tie.After-restore
+abbrev restored : tie.After-slice-known15 → tie.After-restore
 restored c = half-back c .before .before .before .before
 
 slice-read-e : tie.Need-slice-read-e
@@ -66,14 +66,14 @@ same-length-3 c = search needs
 same-length-4 : tie.Need-same-length-4
 same-length-4 c = search needs
 
-same-length-5 : tie.Need-same-length-5
-same-length-5 c = search needs
-
 returns : tie.Need-returns
 returns c =
     let b = restored c in
     let told = b .before .before .before .before .before in
     whole-refused (tried (told .before .before .before) .cut-named .ensures) _ (told .before .reply .given .1) (b .restore .ensures)
+
+same-length-5 : tie.Need-same-length-5
+same-length-5 c = search needs
 
 same-length-6 : tie.Need-same-length-6
 same-length-6 c = search needs
@@ -83,12 +83,6 @@ same-length-7 c = search needs
 
 same-length-8 : tie.Need-same-length-8
 same-length-8 c = search needs
-
-same-length-9 : tie.Need-same-length-9
-same-length-9 c = search needs
-
-same-length-10 : tie.Need-same-length-10
-same-length-10 c = search needs
 
 returns-2 : tie.Need-returns-2
 returns-2 c = whole-done (tried (c .before .before .before) .cut-named .ensures) _ _ (c .before .reply2 .given .1)
@@ -108,11 +102,9 @@ cut-finite-spec =
     same-length-2
     same-length-3
     same-length-4
-    same-length-5
     returns
+    same-length-5
     same-length-6
     same-length-7
     same-length-8
-    same-length-9
-    same-length-10
     returns-2)
