@@ -39,10 +39,8 @@ use Rattle.gathered.proofs.Steps.{told-by}
 use Rattle.cut.specs.Known.{knownAt, outputAt, Repeats, KeepReady, ReplyKept, Knows, KnownTo}
 use Rattle.cut.specs.Rounds.{AskReady, Ended, went, stopped, AnswerKept, ElementEnded, ElementAsked, BoundaryEnded, BoundaryCut}
 use Rattle.cut.specs.Higher.{HigherFit, GatherReady, Filled, KnownGathered, HigherReady, HigherAsked}
-use Rattle.cut.specs.declared.known.Asked.{Asked}
-use Rattle.cut.specs.declared.known.Asked.the-variants as asked
 use Rattle.cut.proofs.StaysKnown.{asked-room, kept-ended, kept-still, reply-in-room, still-trans, noted-now}
-use Rattle.cut.proofs.Rounds.{ask, ask-stays, ep, owner, size-is, size-most, within, number-of, ranked-of, opened-at, cut-higher}
+use Rattle.cut.proofs.Rounds.{boundary-not-0, ask, ask-stays, ep, owner, size-is, size-most, within, number-of, ranked-of, opened-at, cut-higher}
 
 -- ---- the boundary is gathered from what is known
 
@@ -181,7 +179,7 @@ module _ {cs es ms : List ℕ} {s s₁ : List (List ℕ)} {r e : ℕ} {k : Cutte
     pub higher-keep : {ix : List ℕ} → HigherReady cs es ix ms s r e k → KeepReady e x
     higher-keep R = record { low = le-trans (R .fit .fit .used) (R .fit .fit .holds .fits .elementRoom); room = reply-in-room (R .fit .fit) (told (R .fit)) }
 
-    pub higher-asked : {ix : List ℕ} → HigherReady cs es ix ms s r e k → {y : Asked} {ms′ : List ℕ} → ReplyKept ms e x y ms′ → HigherAsked cs es ms s r e k y cs′ es′ ix′ ms′ s₂
+    pub higher-asked : {ix : List ℕ} → HigherReady cs es ix ms s r e k → {y : ℕ} {ms′ : List ℕ} → ReplyKept ms e x y ms′ → HigherAsked cs es ms s r e k y cs′ es′ ix′ ms′ s₂
     higher-asked R N = record {
       of = λ ps hs t H. kept-ended (H .fit) (told H) (H .knows) N;
       indexed = D .indexed;
@@ -206,16 +204,16 @@ boundary-again {r = r} {e} {k} {t} more F g u o =
     subst (Later (lessGathered noneDropped) GatheredIn t (cutBoundary (cutElement desk c (r - 1)) (boundary t e) nothingYet)) o (again (r - 2) (ep r more)) in
     R .replay u (extends-refl u)
 
-module _ {cs : List ℕ} {ps : List Float} {es ms : List ℕ} {s : List (List ℕ)} {r e : ℕ} {k : Cutter} {y : Asked} {cs′ : List ℕ} {ps′ : List Float} {es′ ix′ ms′ : List ℕ} {s′ : List (List ℕ)}
+module _ {cs : List ℕ} {ps : List Float} {es ms : List ℕ} {s : List (List ℕ)} {r e : ℕ} {k : Cutter} {y : ℕ} {cs′ : List ℕ} {ps′ : List Float} {es′ ix′ ms′ : List ℕ} {s′ : List (List ℕ)}
     (more : 1 < r) (B : BoundaryCut cs ps es ms s r e k y cs′ ps′ es′ ix′ ms′ s′) where
-  pub element-refused : (n : ℕ) → y ≡ asked.Refused n → ElementAsked cs ps es ms s r e k (asked.Refused n) cs′ ps′ es′ ix′ ms′ s′
-  element-refused n q = record { of = λ hs t F K. go hs t (B .of hs t F K); indexed = B .indexed; shaped = B .shaped; still = B .still }
+  pub element-refused : (y ≡ 0 → ⊥) → ElementAsked cs ps es ms s r e k y cs′ ps′ es′ ix′ ms′ s′
+  element-refused q = record { of = λ hs t F K. go hs t (B .of hs t F K); indexed = B .indexed; shaped = B .shaped; still = B .still }
     where
-      go : (hs : List Float) (t : Table) → BoundaryEnded cs′ ps′ hs es′ ms′ (warningIn s′) r e k y (warningIn s) t → ElementEnded cs′ ps′ hs es′ ms′ (warningIn s′) r e k (asked.Refused n) (warningIn s) t
-      go hs t (went g u o d w H) = let z : _≡_ {A = ℕ} 0 1 = cc in absurd (omega arith)
-      go hs t (stopped j u o d x H) = stopped j u (higher-by k r e t more o) (sym q ∙ d) x H
+      go : (hs : List Float) (t : Table) → BoundaryEnded cs′ ps′ hs es′ ms′ (warningIn s′) r e k y (warningIn s) t → ElementEnded cs′ ps′ hs es′ ms′ (warningIn s′) r e k y (warningIn s) t
+      go hs t (went g u o d w H) = absurd (q d)
+      go hs t (stopped j u o d x H) = stopped j u (higher-by k r e t more o) d x H
 
-  module _ (q : y ≡ asked.Done) where
+  module _ (q : y ≡ 0) where
     -- where the round ended
     record End (hs : List Float) (t : Table) : Type 0 where
       pub table : Table
@@ -229,7 +227,7 @@ module _ {cs : List ℕ} {ps : List Float} {es ms : List ℕ} {s : List (List �
     end hs t F K = go (B .of hs t F K)
       where
         go : BoundaryEnded cs′ ps′ hs es′ ms′ (warningIn s′) r e k y (warningIn s) t → End hs t
-        go (stopped j u o d x H) = let z : _≡_ {A = ℕ} 0 1 = cc in absurd (omega arith)
+        go (stopped j u o d x H) = absurd (boundary-not-0 (cutOf (t .dimension) k) (r - 1) e t o d q)
         go (went g u o d w H) =
             let S = boundary-kept more F g u o in
             let same = element-same t u e (S .extends) (F .used) in
@@ -276,7 +274,7 @@ module _ {cs : List ℕ} {ps : List Float} {es ms : List ℕ} {s : List (List �
         let M = E (R .planes) (R .table) (R .fit) (R .knows) in
         record { points = ps′; planes = R .planes; table = M .table; fit = M .ready; indexed = B .indexed; shaped = B .shaped }
 
-    pub element-answered : {x : Asked} {cs″ es″ ix″ ms″ : List ℕ} {s″ : List (List ℕ)} → HigherAsked cs′ es′ ms′ s′ r e k x cs″ es″ ix″ ms″ s″ → ElementAsked cs ps es ms s r e k x cs″ ps′ es″ ix″ ms″ s″
+    pub element-answered : {x : ℕ} {cs″ es″ ix″ ms″ : List ℕ} {s″ : List (List ℕ)} → HigherAsked cs′ es′ ms′ s′ r e k x cs″ es″ ix″ ms″ s″ → ElementAsked cs ps es ms s r e k x cs″ ps′ es″ ix″ ms″ s″
     element-answered {x} {cs″} {es″} {ix″} {ms″} {s″} D = record {
       of = λ hs t F K. go hs t F K (D .of ps′ hs (E hs t F K .table) (E hs t F K .ready));
       indexed = D .indexed;

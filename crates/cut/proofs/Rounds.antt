@@ -14,9 +14,10 @@ use lib.Ieee.{Float}
 use Rattle.rules.specs.Limits.{Limits, desk}
 use Rattle.rules.specs.Table.{Element, corner, Table, rankOf, boundaryOf, elementCount, rank, boundary, element}
 use Rattle.rules.specs.Held.{Extends, Holds, Ranked, AnswerOf}
-use Rattle.rules.specs.Cut.{Outcome, done, next, Step, Cutting, Gathered, nothingYet, gathering, rule6, cutElement, cutBoundary, cutHigher}
+use Rattle.rules.specs.Cut.{Outcome, refused, done, next, Step, Cutting, Gathered, nothingYet, gathering, rule6, cutElement, cutBoundary, cutHigher}
 use Rattle.rules.specs.declared.ElementAnswer.{ElementAnswer}
 use Rattle.rules.specs.declared.Cutter.{Cutter}
+use Rattle.rules.proofs.Built.{RuleNumber, After, cut-boundary, cut-element}
 use Rattle.rules.proofs.Extends.{extends-refl, extends-trans, element-same, count-more, begins-length}
 use Rattle.rules.proofs.Good.{Good, sound-good, good-sound}
 use Rattle.rules.proofs.Growing.{all-get}
@@ -32,8 +33,20 @@ use Rattle.gathered.specs.Sets.{Shaped, warningIn}
 use Rattle.gathered.specs.Cutting.{cutOf, Fit}
 use Rattle.cut.specs.Known.{knownAt, Knows, KnownStill, KnownTo}
 use Rattle.cut.specs.Rounds.{AskReady, RoundReady, Ended, went, stopped, AnswerKept, ElementEnded, BoundaryEnded}
-use Rattle.cut.specs.declared.known.Asked.{Asked}
-use Rattle.cut.specs.declared.known.Asked.the-variants as asked
+
+-- ---- no refusal of the rules is 0
+
+not-0 : {A : Type 0} (t : Table) (o : Outcome A) {n x : ℕ} → After t o → o ≡ refused n → x ≡ n → x ≡ 0 → ⊥
+not-0 t o h m d q = subst RuleNumber (sym d ∙ q) (subst (After t) m h)
+
+pub element-not-0 : (c : Cutting) (r e : ℕ) (t : Table) {n x : ℕ} → cutElement desk c r e t ≡ refused n → x ≡ n → x ≡ 0 → ⊥
+element-not-0 c r e t = not-0 t (cutElement desk c r e t) (cut-element desk c r e t)
+
+pub boundary-not-0 : (c : Cutting) (r e : ℕ) (t : Table) {n x : ℕ} → cutBoundary (cutElement desk c r) (boundary t e) nothingYet t ≡ refused n → x ≡ n → x ≡ 0 → ⊥
+boundary-not-0 c r e t =
+    not-0 t (cutBoundary (cutElement desk c r) (boundary t e) nothingYet t) (cut-boundary desk c (cutElement desk c r) (cut-element desk c r) (boundary t e) nothingYet t)
+
+-- ---- a table that may be cut
 
 good-of : {cs : List ℕ} {ps hs : List Float} {es : List ℕ} {r e : ℕ} {k : Cutter} {t : Table} → Fit cs ps hs es r e k t → Good desk t
 good-of {t = t} F = sound-good desk t (F .sound)
@@ -205,24 +218,23 @@ module _ {r : ℕ} (more : 1 < r) {e : ℕ} {k : Cutter} {cs₀ : List ℕ} {ps�
         }
 
     -- how asking element b ended, seen from the first table
-    abbrev NextEnded : ℕ → Asked → List ℕ → List Float → List ℕ → List ℕ → Bool → {hs : List Float} {t : Table} → Fit cs₀ ps₀ hs es₀ r e k t → Knows k ms₀ v t → Type 0
+    abbrev NextEnded : ℕ → ℕ → List ℕ → List Float → List ℕ → List ℕ → Bool → {hs : List Float} {t : Table} → Fit cs₀ ps₀ hs es₀ r e k t → Knows k ms₀ v t → Type 0
     NextEnded b x cs′ ps′ es′ ms′ w′ {hs} {t} F K =
         Ended (λ a. a .warning) (AnswerKept cs′ ps′ hs es′ ms′ w′ b k) (Holds desk cs′ ps′ hs es′) (A F K .table) (ask r more e k (t .dimension) b (A F K .table)) x w w′
 
-    module _ (l : i < n) (b : ℕ) (read : b ≡ getD es (e * 36 + (4 + i)) 0) {x : Asked} {cs′ : List ℕ} {ps′ : List Float} {es′ ms′ : List ℕ} {w′ : Bool} where
+    module _ (l : i < n) (b : ℕ) (read : b ≡ getD es (e * 36 + (4 + i)) 0) {x : ℕ} {cs′ : List ℕ} {ps′ : List Float} {es′ ms′ : List ℕ} {w′ : Bool} where
       module _ (C : (hs : List Float) (u : Table) → Fit cs ps hs es (r - 1) b k u → Knows k ms w u → ElementEnded cs′ ps′ hs es′ ms′ w′ (r - 1) b k x w u) where
         next-one : {hs : List Float} {t : Table} (F : Fit cs₀ ps₀ hs es₀ r e k t) (K : Knows k ms₀ v t) → NextEnded b x cs′ ps′ es′ ms′ w′ F K
         next-one {hs} {t} F K =
             subst (λ (d : ℕ). Ended (λ a. a .warning) (AnswerKept cs′ ps′ hs es′ ms′ w′ b k) (Holds desk cs′ ps′ hs es′) (A F K .table) (cutElement desk (cutOf d k) (r - 1) b (A F K .table)) x w w′)
             (A F K .extends .dimension) (C hs (A F K .table) (fit-next F K l b read) (A F K .knows))
 
-        pub round-refused : (m : ℕ) → x ≡ asked.Refused m → (hs : List Float) (t : Table) → Fit cs₀ ps₀ hs es₀ r e k t → Knows k ms₀ v t
-            → BoundaryEnded cs′ ps′ hs es′ ms′ w′ r e k (asked.Refused m) v t
-        round-refused m q hs t F K = go (next-one F K)
+        pub round-refused : (x ≡ 0 → ⊥) → (hs : List Float) (t : Table) → Fit cs₀ ps₀ hs es₀ r e k t → Knows k ms₀ v t → BoundaryEnded cs′ ps′ hs es′ ms′ w′ r e k x v t
+        round-refused q hs t F K = go (next-one F K)
           where
-            go : NextEnded b x cs′ ps′ es′ ms′ w′ F K → BoundaryEnded cs′ ps′ hs es′ ms′ w′ r e k (asked.Refused m) v t
-            go (went a u o d y H) = let z : _≡_ {A = ℕ} 0 1 = cc in absurd (omega arith)
-            go (stopped j u o d y H) = stopped j u (opened-by F K l b read o) (sym q ∙ d) (extends-trans (A F K .extends) y) H
+            go : NextEnded b x cs′ ps′ es′ ms′ w′ F K → BoundaryEnded cs′ ps′ hs es′ ms′ w′ r e k x v t
+            go (went a u o d y H) = absurd (q d)
+            go (stopped j u o d y H) = stopped j u (opened-by F K l b read o) d (extends-trans (A F K .extends) y) H
 
         kept : {hs : List Float} {t : Table} (F : Fit cs₀ ps₀ hs es₀ r e k t) (K : Knows k ms₀ v t) (a : ElementAnswer) (u : Table)
             → ask r more e k (t .dimension) b (A F K .table) ≡ done a u → Kept desk (AnswerOf (r - 1)) (A F K .table) a u
@@ -231,11 +243,11 @@ module _ {r : ℕ} (more : 1 < r) {e : ℕ} {k : Cutter} {cs₀ : List ℕ} {ps�
             subst (Stays desk (AnswerOf (r - 1)) (A F K .table)) o (ask-stays r more e k (t .dimension) b (A F K .table) (A F K .good) (f .plane) (f .used) (f .ranked))
 
         -- an answer
-        pub going-on : x ≡ asked.Done → KnownStill ms ms′ → Going r more e k cs₀ ps₀ es₀ ms₀ v (i + 1) cs′ ps′ es′ ms′ w′
+        pub going-on : x ≡ 0 → KnownStill ms ms′ → Going r more e k cs₀ ps₀ es₀ ms₀ v (i + 1) cs′ ps′ es′ ms′ w′
         going-on q still = record { of = λ hs t F K. go hs t F K (next-one F K) }
           where
             go : (hs : List Float) (t : Table) (F : Fit cs₀ ps₀ hs es₀ r e k t) (K : Knows k ms₀ v t) → NextEnded b x cs′ ps′ es′ ms′ w′ F K → At r more e k hs t v (i + 1) cs′ ps′ es′ ms′ w′
-            go hs t F K (stopped j u o d y H) = let z : _≡_ {A = ℕ} 0 1 = cc in absurd (omega arith)
+            go hs t F K (stopped j u o d y H) = absurd (element-not-0 (cutOf (t .dimension) k) (r - 1) b (A F K .table) o d q)
             go hs t F K (went a u o d y H) =
                 let N = A F K in
                 let S = kept F K a u o in
@@ -253,7 +265,7 @@ module _ {r : ℕ} (more : 1 < r) {e : ℕ} {k : Cutter} {cs₀ : List ℕ} {ps�
                   rest = opened-by F K l b read o;
                 }
 
-    pub round-done : n ≤ i → i ≤ n → (hs : List Float) (t : Table) → Fit cs₀ ps₀ hs es₀ r e k t → Knows k ms₀ v t → BoundaryEnded cs ps hs es ms w r e k asked.Done v t
+    pub round-done : n ≤ i → i ≤ n → (hs : List Float) (t : Table) → Fit cs₀ ps₀ hs es₀ r e k t → Knows k ms₀ v t → BoundaryEnded cs ps hs es ms w r e k 0 v t
     round-done h j hs t F K =
         let N = A F K in
         let q : i ≡ length (boundary t e) = (let m = size-is more F n size in omega (arith, m, h, j)) in

@@ -34,8 +34,6 @@ use Rattle.rules.specs.declared.Cutter.{Cutter}
 use Rattle.ends.specs.Elements.{LowAsked, LowLeft}
 use Rattle.cut.specs.Known.{knownAt, outputAt, withAnswer, withReply, ReplyInRoom, askedBy, KeepReady, ReplyKept, Repeats, Knows, KnownStill}
 use Rattle.cut.specs.Rounds.{AskReady, LowReady, ElementAsked, ElementEnded, went, stopped}
-use Rattle.cut.specs.declared.known.Asked.{Asked}
-use Rattle.cut.specs.declared.known.Asked.the-variants as asked
 use Rattle.cut.proofs.Words.{zeros-unknown, kept-long, kept-same, kept-known, kept-other-known, kept-other}
 
 -- nothing is known at first
@@ -154,7 +152,7 @@ module _ {cs : List ℕ} {ps hs : List Float} {es : List ℕ} {r e : ℕ} {k : C
         go (told.went a u o q n H) = subst ReplyInRoom (sym q) (asked-room k e a good (F .used) (ranked-cut o) (H .fits .elementRoom))
         go (told.stopped n u o q y H) = subst ReplyInRoom (sym q) tt
 
-    pub kept-ended : {ms ms′ : List ℕ} {y : Asked} → Knows k ms v t → ReplyKept ms e x y ms′ → ElementEnded cs′ ps′ hs es′ ms′ w r e k y v t
+    pub kept-ended : {ms ms′ : List ℕ} {y : ℕ} → Knows k ms v t → ReplyKept ms e x y ms′ → ElementEnded cs′ ps′ hs es′ ms′ w r e k y v t
     kept-ended {ms} {ms′} {y} K N = go T
       where
         go : Told (Holds desk cs′ ps′ hs es′) t (cutElement desk (cutOf (t .dimension) k) r e t) x v w → ElementEnded cs′ ps′ hs es′ ms′ w r e k y v t
@@ -173,7 +171,7 @@ module _ {cs : List ℕ} {ps hs : List Float} {es : List ℕ} {r e : ℕ} {k : C
               output = ap (λ (m : List ℕ). outputAt m e) words ∙ kept-same ms e (a .output) fits;
             })
 
-  pub kept-still : {ms ms′ : List ℕ} {x : ElementReply} {y : Asked} {v : Bool} → Knows k ms v t → ReplyKept ms e x y ms′ → KnownStill ms ms′
+  pub kept-still : {ms ms′ : List ℕ} {x : ElementReply} {y : ℕ} {v : Bool} → Knows k ms v t → ReplyKept ms e x y ms′ → KnownStill ms ms′
   kept-still {ms} {x = x} K N =
       let long = K .long in
       subst (KnownStill ms) (sym (N .words)) (still-kept ms e x (let z : e * 3 + 2 < length ms = omega (arith, low, long) in z))
@@ -188,7 +186,7 @@ module _ {cs : List ℕ} {ps : List Float} {es ms : List ℕ} {s : List (List �
   low-asks A = let R = A .ready in record { ready = record { planes = R .planes; table = R .table; fit = R .fit }; low = A .low; indexed = R .indexed; shaped = R .shaped }
 
   -- a known answer is the answer
-  pub known-asked : {ix : List ℕ} (y : Bool) → AskReady cs ps es ix ms s r e k → y ≡ knownAt ms e → y ≡ true → ElementAsked cs ps es ms s r e k asked.Done cs ps es ix ms s
+  pub known-asked : {ix : List ℕ} (y : Bool) → AskReady cs ps es ix ms s r e k → y ≡ knownAt ms e → y ≡ true → ElementAsked cs ps es ms s r e k 0 cs ps es ix ms s
   known-asked y R p q = record {
     of = λ hs t F K.
         (let A = K .of e (ask-low R) (sym p ∙ q) in
@@ -204,7 +202,7 @@ module _ {cs : List ℕ} {ps : List Float} {es ms : List ℕ} {s : List (List �
     pub low-keep : {ix : List ℕ} → AskReady cs ps es ix ms s r e k → KeepReady e x
     low-keep R = record { low = ask-low R; room = reply-in-room (R .fit) (C .cut .of (R .planes) (R .table) (R .fit)) }
 
-    pub low-asked : {ix : List ℕ} → AskReady cs ps es ix ms s r e k → {y : Asked} {ms′ : List ℕ} → ReplyKept ms e x y ms′ → ElementAsked cs ps es ms s r e k y cs′ ps′ es′ ix′ ms′ s′
+    pub low-asked : {ix : List ℕ} → AskReady cs ps es ix ms s r e k → {y : ℕ} {ms′ : List ℕ} → ReplyKept ms e x y ms′ → ElementAsked cs ps es ms s r e k y cs′ ps′ es′ ix′ ms′ s′
     low-asked R N = record {
       of = λ hs t F K. kept-ended F (C .cut .of hs t F) K N;
       indexed = C .indexed;

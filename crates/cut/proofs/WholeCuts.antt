@@ -39,11 +39,10 @@ use Rattle.gathered.specs.Sets.{Shaped, warningIn}
 use Rattle.gathered.specs.Cutting.{Fit, cutOf}
 use Rattle.rules.specs.declared.Cutter.{Cutter}
 use Rattle.cut.specs.Known.{outputAt}
-use Rattle.cut.specs.declared.known.Asked.{Asked}
-use Rattle.cut.specs.declared.known.Asked.the-variants as asked
 use Rattle.cut.specs.Rounds.{AskReady, ElementAsked, ElementEnded, went, stopped}
 use Rattle.cut.specs.Whole.{CutFit, CutReady, CutTried, WholeCut}
 use Rattle.cut.proofs.StaysKnown.{knows-nothing}
+use Rattle.cut.proofs.Rounds.{element-not-0}
 
 -- ---- the hyperplane, then the root
 
@@ -153,7 +152,7 @@ module _ (p : CutParams) {cs : List ℕ} {ps hs : List Float} {es : List ℕ} {r
         }
 
         -- how the cut of the root ended is the reply
-        module _ {y : Asked} {cs₂ : List ℕ} {ps₂ : List Float} {es₂ ix₂ ms₂ : List ℕ} {s₂ : List (List ℕ)} (C : ElementAsked cs₁ ps es (replicate 1536 0) blankRoom r root (cutter p v) y cs₂ ps₂ es₂ ix₂ ms₂ s₂) where
+        module _ {y : ℕ} {cs₂ : List ℕ} {ps₂ : List Float} {es₂ ix₂ ms₂ : List ℕ} {s₂ : List (List ℕ)} (C : ElementAsked cs₁ ps es (replicate 1536 0) blankRoom r root (cutter p v) y cs₂ ps₂ es₂ ix₂ ms₂ s₂) where
           root-ended : {t : Table} (F : CutFit cs ps hs es (p .divider) root t) → ElementEnded cs₂ ps₂ hs₁ es₂ ms₂ (warningIn s₂) r root (cutter p v) y false (named F .table)
           root-ended F = C .of hs₁ (named F .table) (root-fit F) (knows-nothing (cutter p v) (warningIn blankRoom) (named F .table))
 
@@ -163,20 +162,20 @@ module _ (p : CutParams) {cs : List ℕ} {ps hs : List Float} {es : List ℕ} {r
               ap (λ (q′ : Outcome ℕ). next q′ (λ n l. cutElement desk (record { params = paramsOf (t .dimension) p; number = n }) (rank l root) root l)) (named F .ended)
               ∙ ap₂ (λ (d n : ℕ). cutElement desk (cutOf d (cutter p v)) n root (named F .table)) (sym (named F .extends .dimension)) (root-fit F .ranked)
 
-          pub root-refused : (n : ℕ) → y ≡ asked.Refused n → CutTried cs ps hs es p root (public.Refused n) cs₂ ps₂ hs₁ es₂ ix₂
-          root-refused n ended = record { of = λ t F. go t F (root-ended F); indexed = λ a w. C .indexed }
+          pub root-refused : (y ≡ 0 → ⊥) → CutTried cs ps hs es p root (public.Refused y) cs₂ ps₂ hs₁ es₂ ix₂
+          root-refused ended = record { of = λ t F. go t F (root-ended F); indexed = λ a w. C .indexed }
             where
               go : (t : Table) (F : CutFit cs ps hs es (p .divider) root t) → ElementEnded cs₂ ps₂ hs₁ es₂ ms₂ (warningIn s₂) r root (cutter p v) y false (named F .table)
-                  → Came asReply public.Refused (Holds desk cs₂ ps₂ hs₁ es₂) t (cutFinite desk (paramsOf (t .dimension) p) root t) (public.Refused n)
-              go t F (went a u m d w H) = let z : _≡_ {A = ℕ} 0 1 = cc in absurd (omega arith)
-              go t F (stopped j u m d z H) = let e : n ≡ j = cc in held.stopped j u (steps F ∙ m) (ap public.Refused e) (extends-trans (named F .extends) z) H
+                  → Came asReply public.Refused (Holds desk cs₂ ps₂ hs₁ es₂) t (cutFinite desk (paramsOf (t .dimension) p) root t) (public.Refused y)
+              go t F (went a u m d w H) = absurd (ended d)
+              go t F (stopped j u m d z H) = held.stopped j u (steps F ∙ m) (ap public.Refused d) (extends-trans (named F .extends) z) H
 
-          pub root-answered : y ≡ asked.Done → (o : ElementCutOutput) (w : Bool) → o ≡ outputAt ms₂ root → w ≡ warningIn s₂ → CutTried cs ps hs es p root (public.Answered o w) cs₂ ps₂ hs₁ es₂ ix₂
+          pub root-answered : y ≡ 0 → (o : ElementCutOutput) (w : Bool) → o ≡ outputAt ms₂ root → w ≡ warningIn s₂ → CutTried cs ps hs es p root (public.Answered o w) cs₂ ps₂ hs₁ es₂ ix₂
           root-answered ended o w told warned = record { of = λ t F. go t F (root-ended F); indexed = λ a q. C .indexed }
             where
               go : (t : Table) (F : CutFit cs ps hs es (p .divider) root t) → ElementEnded cs₂ ps₂ hs₁ es₂ ms₂ (warningIn s₂) r root (cutter p v) y false (named F .table)
                   → Came asReply public.Refused (Holds desk cs₂ ps₂ hs₁ es₂) t (cutFinite desk (paramsOf (t .dimension) p) root t) (public.Answered o w)
-              go t F (stopped j u m d z H) = let e : _≡_ {A = ℕ} 0 1 = cc in absurd (omega arith)
+              go t F (stopped j u m d z H) = absurd (element-not-0 (cutOf (named F .table .dimension) (cutter p v)) r root (named F .table) m d ended)
               go t F (went a u m d n H) = held.went a u (steps F ∙ m) (λ l. public.Answered ((told ∙ H .output) l) ((warned ∙ n) l)) (H .holds)
 
 -- ---- the counts, lent in an array of their own

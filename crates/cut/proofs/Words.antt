@@ -17,7 +17,6 @@ use Rattle.gathered.specs.declared.answer.ElementReply.{ElementReply}
 use Rattle.gathered.specs.declared.answer.ElementReply.the-variants as reply
 use Rattle.gathered.specs.Sets.{SidesInRoom, OutputInRoom}
 use Rattle.cut.specs.Known.{wordOf, someOf, outputOf, knownAt, outputAt, threeAt, withAnswer, withReply, ReplyInRoom, askedBy}
-use Rattle.cut.specs.declared.known.Asked.the-variants as asked
 
 -- ---- a word and its element
 
@@ -173,11 +172,11 @@ module _ (ms : List ℕ) (e : ℕ) where
       → ms′ ≡ threeAt ms e u v w → ms′ ≡ withAnswer ms e a
   answer-sides-kept a i o y u v w ms′ p hu hv hw h = h ∙ (λ l. threeAt ms e (hu l) (hv l) (hw l)) ∙ ap (withAnswer ms e) (sym p)
 
--- whether it was answered, by what it is
-pub asked-refused : (x : ElementReply) (n : ℕ) → x ≡ reply.Refused n → asked.Refused n ≡ askedBy x
+-- how asking ended, by what it is
+pub asked-refused : (x : ElementReply) (n : ℕ) → x ≡ reply.Refused n → n ≡ askedBy x
 asked-refused x n q = ap askedBy (sym q)
 
-pub asked-done : (x : ElementReply) (a : ElementCutOutput) → x ≡ reply.Answered a → asked.Done ≡ askedBy x
+pub asked-done : (x : ElementReply) (a : ElementCutOutput) → x ≡ reply.Answered a → 0 ≡ askedBy x
 asked-done x a q = ap askedBy (sym q)
 
 pub reply-room : (x : ElementReply) (a : ElementCutOutput) → x ≡ reply.Answered a → ReplyInRoom x → OutputInRoom a

@@ -17,8 +17,6 @@ use Rattle.gathered.specs.declared.answer.ElementReply.the-variants as reply
 use Rattle.gathered.specs.Sets.{OutputInRoom}
 use Rattle.gathered.specs.Cutting.{cutOf}
 use Rattle.rules.specs.declared.Cutter.{Cutter}
-use Rattle.cut.specs.declared.known.Asked.{Asked}
-use Rattle.cut.specs.declared.known.Asked.the-variants as asked
 
 -- ---- three words an element
 
@@ -67,10 +65,10 @@ ReplyInRoom (reply.Answered a) = OutputInRoom a
 
 -- ---- a reply, kept in the words
 
--- how asking ended: an answer is left out
-abbrev pub askedBy : ElementReply → Asked
-askedBy (reply.Refused n) = asked.Refused n
-askedBy (reply.Answered a) = asked.Done
+-- how asking ended: the number of the refusal, or 0 where there is an answer
+abbrev pub askedBy : ElementReply → ℕ
+askedBy (reply.Refused n) = n
+askedBy (reply.Answered a) = 0
 
 -- what keeping an answer asks
 pub record AnswerReady (e : ℕ) (a : ElementCutOutput) : Type 0 where
@@ -83,7 +81,7 @@ pub record KeepReady (e : ℕ) (x : ElementReply) : Type 0 where
   pub room : ReplyInRoom x
 
 -- and what it does: how asking ended, and the words after it
-pub record ReplyKept (ms : List ℕ) (e : ℕ) (x : ElementReply) (y : Asked) (ms′ : List ℕ) : Type 0 where
+pub record ReplyKept (ms : List ℕ) (e : ℕ) (x : ElementReply) (y : ℕ) (ms′ : List ℕ) : Type 0 where
   pub asked : y ≡ askedBy x
   pub words : ms′ ≡ withReply ms e x
 

@@ -1,5 +1,4 @@
 // Rule 5: an element asks for its boundary, and the boundary asks for each element. An element asked twice in a cut is answered from what is known.
-use crate::known::Asked;
 use crate::known::KNOWN;
 use crate::known::is_known;
 use crate::ranks::answer_higher;
@@ -14,6 +13,7 @@ use space::words::SET;
 use space::words::wide;
 ghost use Rattle.cut.specs.Rounds.{AskReady, RoundReady, ElementAsked, BoundaryCut};
 
+// The number of the refusal, or 0 where the answer is known from then on.
 pub fn cut_element(
     counts: &mut [u16; COUNTS],
     points: &mut [f64],
@@ -24,22 +24,22 @@ pub fn cut_element(
     e: ElementId,
     rank: usize,
     k: Cutter,
-) -> Asked
+) -> u8
     requires { ⌜ AskReady (now counts) (now points) (now elements) (now index) (now known) (now room) rank (e .0) k ⌝ }
     ensures { λ r. ⌜ ElementAsked (now (counts .entry)) (now (points .entry)) (now (elements .entry)) (now (known .entry)) (now (room .entry)) rank (e .0) k r
         (now (counts .exit)) (now (points .exit)) (now (elements .exit)) (now (index .exit)) (now (known .exit)) (now (room .exit)) ⌝ }
 {
     if is_known(known, e) {
-        return Asked::Done;
+        return 0;
     }
     if rank < 2 {
         return answer_low(counts, points, elements, index, known, room, e, rank, k);
     }
     let asked = cut_boundary(counts, points, elements, index, known, room, e, rank, k);
-    match asked {
-        Asked::Refused(no) => Asked::Refused(no),
-        Asked::Done => answer_higher(counts, elements, index, known, room, e, rank, k),
+    if asked != 0 {
+        return asked;
     }
+    answer_higher(counts, elements, index, known, room, e, rank, k)
 }
 
 // In rising number; a refusal ends the round. What is answered stays known, so nothing is held from one to the next.
@@ -53,7 +53,7 @@ fn cut_boundary(
     e: ElementId,
     rank: usize,
     k: Cutter,
-) -> Asked
+) -> u8
     requires { ⌜ RoundReady (now counts) (now points) (now elements) (now index) (now known) (now room) rank (e .0) k ⌝ }
     ensures { λ r. ⌜ BoundaryCut (now (counts .entry)) (now (points .entry)) (now (elements .entry)) (now (known .entry)) (now (room .entry)) rank (e .0) k r
         (now (counts .exit)) (now (points .exit)) (now (elements .exit)) (now (index .exit)) (now (known .exit)) (now (room .exit)) ⌝ }
@@ -62,9 +62,9 @@ fn cut_boundary(
     for i in 0..n {
         let b = ElementId(wide(rows::boundary_at(elements, e, i)));
         let step = cut_element(counts, points, elements, index, known, room, b, rank - 1, k);
-        if let Asked::Refused(no) = step {
-            return Asked::Refused(no);
+        if step != 0 {
+            return step;
         }
     }
-    Asked::Done
+    0
 }

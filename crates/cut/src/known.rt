@@ -14,12 +14,6 @@ const ANSWER: usize = 3;
 
 pub const KNOWN: usize = 1536;
 
-// Whether asking ended: refused, or the answer is known.
-pub enum Asked {
-    Refused(u8),
-    Done,
-}
-
 // None is 1, and an element is two above its number, so that no place of an answer is 0.
 fn word_of(x: ElementOrNone) -> u16
     requires { ⌜ InRoom x ⌝ }
@@ -100,16 +94,16 @@ fn keep_answer(known: &mut [u16; KNOWN], e: ElementId, answer: ElementCutOutput)
     }
 }
 
-// An answer is kept.
-pub fn keep(known: &mut [u16; KNOWN], e: ElementId, reply: ElementReply) -> Asked
+// An answer is kept: the number of a refusal, or 0.
+pub fn keep(known: &mut [u16; KNOWN], e: ElementId, reply: ElementReply) -> u8
     requires { ⌜ KeepReady (e .0) reply ⌝ }
     ensures { λ r. ⌜ ReplyKept (now (known .entry)) (e .0) reply r (now (known .exit)) ⌝ }
 {
     match reply {
-        ElementReply::Refused(no) => Asked::Refused(no),
+        ElementReply::Refused(no) => no,
         ElementReply::Answered(answer) => {
             keep_answer(known, e, answer);
-            Asked::Done
+            0
         }
     }
 }

@@ -1,5 +1,4 @@
 // What an element answers, and that it is known from then on: nothing of it is on the stack while a lower rank works.
-use crate::known::Asked;
 use crate::known::KNOWN;
 use crate::known::keep;
 use crate::known::output_at;
@@ -27,7 +26,7 @@ pub fn answer_low(
     e: ElementId,
     rank: usize,
     k: Cutter,
-) -> Asked
+) -> u8
     requires { ⌜ LowReady (now counts) (now points) (now elements) (now index) (now known) (now room) rank (e .0) k ⌝ }
     ensures { λ r. ⌜ ElementAsked (now (counts .entry)) (now (points .entry)) (now (elements .entry)) (now (known .entry)) (now (room .entry)) rank (e .0) k r
         (now (counts .exit)) (now (points .exit)) (now (elements .exit)) (now (index .exit)) (now (known .exit)) (now (room .exit)) ⌝ }
@@ -60,7 +59,7 @@ pub fn answer_higher(
     e: ElementId,
     rank: usize,
     k: Cutter,
-) -> Asked
+) -> u8
     requires { ⌜ HigherReady (now counts) (now elements) (now index) (now known) (now room) rank (e .0) k ⌝ }
     ensures { λ r. ⌜ HigherAsked (now (counts .entry)) (now (elements .entry)) (now (known .entry)) (now (room .entry)) rank (e .0) k r
         (now (counts .exit)) (now (elements .exit)) (now (index .exit)) (now (known .exit)) (now (room .exit)) ⌝ }

@@ -1,6 +1,5 @@
 // Rules 2 to 8, and all memory given back where they refuse.
 use crate::elements::cut_element;
-use crate::known::Asked;
 use crate::known::KNOWN;
 use crate::known::output_at;
 use gathered::sets::ROOM;
@@ -75,14 +74,12 @@ fn cut_named(
                 k,
             );
             put_counts(counts, used);
-            match asked {
-                Asked::Refused(no) => CutReply::Refused(no),
-                Asked::Done => {
-                    let output = output_at(&known, root);
-                    let warning = has_warning(&room);
-                    CutReply::Answered { output, warning }
-                }
+            if asked != 0 {
+                return CutReply::Refused(asked);
             }
+            let output = output_at(&known, root);
+            let warning = has_warning(&room);
+            CutReply::Answered { output, warning }
         }
     }
 }

@@ -161,20 +161,20 @@ module _ (t : ℕ) where
       )
 
   cut-boundary-same-length : In-round cut-boundary-lts.Need-same-length
-  cut-boundary-same-length c = let s = asked (c .before .before .before) in s .cut-element .kept .1 .0 ∙ in-loop s .loop .inv .points-long
+  cut-boundary-same-length c = let s = asked (c .before) in s .cut-element .kept .1 .0 ∙ in-loop s .loop .inv .points-long
 
   cut-boundary-same-length-2 : In-round cut-boundary-lts.Need-same-length-2
-  cut-boundary-same-length-2 c = let s = asked (c .before .before .before) in s .cut-element .kept .1 .1 .0 ∙ in-loop s .loop .inv .elements-long
+  cut-boundary-same-length-2 c = let s = asked (c .before) in s .cut-element .kept .1 .1 .0 ∙ in-loop s .loop .inv .elements-long
 
   cut-boundary-returns : In-round cut-boundary-lts.Need-returns
   cut-boundary-returns c =
-      let s = asked (c .before .before .before) in
+      let s = asked (c .before) in
       let w = number-read s in
       let l = looked-up w in
       let at = l .before .loop .inv in
       let C = s .cut-element .ensures in
       record {
-        of = round.round-refused (at .more) (at .going) _ (l .before .before .size-of .ensures) (l .loop-test .taken) _ (number w) (C .of) _ (c .before .step .given .1);
+        of = round.round-refused (at .more) (at .going) _ (l .before .before .size-of .ensures) (l .loop-test .taken) _ (number w) (C .of) (c .if1 .taken);
         indexed = C .indexed;
         shaped = C .shaped;
         still = still-trans (at .still) (C .still);
@@ -182,16 +182,16 @@ module _ (t : ℕ) where
 
   cut-boundary-add-i : In-round cut-boundary-lts.Need-add-i
   cut-boundary-add-i c =
-      let l = looked-up (number-read (asked (c .before .before))) in
+      let l = looked-up (number-read (asked (c .before))) in
       let n = l .before .before in
       omega (arith, round.round-most (round-asked (round-start n)) _ (n .size-of .ensures), l .loop-test .taken)
 
   cut-boundary-loop-less : In-round cut-boundary-lts.Need-loop-less
-  cut-boundary-loop-less c = let l = looked-up (number-read (asked (c .before .before))) in omega (arith, l .loop-test .taken)
+  cut-boundary-loop-less c = let l = looked-up (number-read (asked (c .before))) in omega (arith, l .loop-test .taken)
 
   cut-boundary-loop-again : In-round cut-boundary-lts.Need-loop-again
   cut-boundary-loop-again c =
-      let s = asked (c .before .before) in
+      let s = asked (c .before) in
       let w = number-read s in
       let l = looked-up w in
       let at = l .before .loop in
@@ -202,7 +202,7 @@ module _ (t : ℕ) where
         points-long = kept .1 .0 ∙ at .inv .points-long;
         elements-long = kept .1 .1 .0 ∙ at .inv .elements-long;
         more = at .inv .more;
-        going = round.going-on (at .inv .more) (at .inv .going) _ (l .before .before .size-of .ensures) (l .loop-test .taken) _ (number w) (C .of) (c .enum-told .given .1) (C .still);
+        going = round.going-on (at .inv .more) (at .inv .going) _ (l .before .before .size-of .ensures) (l .loop-test .taken) _ (number w) (C .of) (c .if1 .left) (C .still);
         indexed = C .indexed;
         shaped = C .shaped;
         still = still-trans (at .inv .still) (C .still);
@@ -247,14 +247,14 @@ module _ (t : ℕ) where
   round-cut c = c .before .before .before .before
 
   -- where all of it is known, and where the element has answered
-  abbrev all-known : In-element cut-element-lts.After-answer-higher-arg5 → In-element cut-element-lts.After-enum-told
+  abbrev all-known : In-element cut-element-lts.After-answer-higher-arg5 → In-element cut-element-lts.Else3
   all-known c = c .before .before .before .before .before
 
   abbrev whole : In-element cut-element-lts.After-slice-known7 → In-element cut-element-lts.After-answer-higher
   whole c = c .before .before
 
   abbrev whole-round : In-element cut-element-lts.After-slice-known7 → In-element cut-element-lts.After-cut-boundary
-  whole-round c = round-cut (all-known (whole c .before) .before .before)
+  whole-round c = round-cut (all-known (whole c .before) .before)
 
   cut-element-is-known-requires : In-element cut-element-lts.Need-is-known-requires
   cut-element-is-known-requires c κs = ask-low (ready (c .before .before .before))
@@ -271,17 +271,17 @@ module _ (t : ℕ) where
       let s = start (h .before .before) in
       (omega (arith, s .pre), record { ready = ready s; more = h .if2 .left })
 
+  cut-element-returns-3 : In-element cut-element-lts.Need-returns-3
+  cut-element-returns-3 c =
+      let b = round-cut (c .before) in
+      element-refused (higher (b .before) .if2 .left) (b .cut-boundary .ensures) (c .if3 .taken)
+
   cut-element-answer-higher-requires : In-element cut-element-lts.Need-answer-higher-requires
   cut-element-answer-higher-requires c κs =
       let g = all-known c in
-      let b = round-cut (g .before .before) in
+      let b = round-cut (g .before) in
       let h = higher (b .before) in
-      higher-ready (h .if2 .left) (b .cut-boundary .ensures) (g .enum-told .given .1) (ready (start (h .before .before)))
-
-  cut-element-returns-3 : In-element cut-element-lts.Need-returns-3
-  cut-element-returns-3 c =
-      let b = round-cut (c .before .before .before) in
-      element-refused (higher (b .before) .if2 .left) (b .cut-boundary .ensures) _ (c .before .asked .given .1)
+      higher-ready (h .if2 .left) (b .cut-boundary .ensures) (g .if3 .left) (ready (start (h .before .before)))
 
   cut-element-same-length-6 : In-element cut-element-lts.Need-same-length-6
   cut-element-same-length-6 c = whole c .answer-higher .kept .1 .0 ∙ whole-round c .cut-boundary .kept .1 .1 .0
@@ -290,17 +290,17 @@ module _ (t : ℕ) where
   cut-element-returns-4 c =
       let w = whole c in
       let b = whole-round c in
-      element-answered (higher (b .before) .if2 .left) (b .cut-boundary .ensures) (all-known (w .before) .enum-told .given .1) (w .answer-higher .ensures)
+      element-answered (higher (b .before) .if2 .left) (b .cut-boundary .ensures) (all-known (w .before) .if3 .left) (w .answer-higher .ensures)
 
 pub +cut-boundary+cut-element-spec : {M : Type 1} → statement M
 +cut-boundary+cut-element-spec = close μ-cut-boundary μ-cut-element (λ t. cut-boundary-lts.spec (cut-boundary-claims t) (cut-boundary-at t) cut-boundary.Post cut-boundary-Inv-loop cut-boundary-μ-loop
     (cut-boundary-size-of-requires t) (cut-boundary-loop-holds t) (cut-boundary-boundary-at-requires t) (λ c κs. search needs) (λ c. search needs)
-    (cut-boundary-cut-element-requires t) (λ c. search needs) (cut-boundary-same-length t) (cut-boundary-same-length-2 t) (cut-boundary-returns t) (λ c. search needs)
+    (cut-boundary-cut-element-requires t) (cut-boundary-same-length t) (cut-boundary-same-length-2 t) (cut-boundary-returns t)
     (cut-boundary-add-i t) (cut-boundary-loop-less t) (cut-boundary-loop-again t) (λ c. search needs) (λ c. search needs) (cut-boundary-returns-2 t))
     λ t. cut-element-lts.spec (cut-element-claims t) (cut-element-at t) cut-element.Post
     (cut-element-is-known-requires t) (cut-element-returns t) (cut-element-answer-low-requires t)
     (λ c. low-cut t c .answer-low .kept .1 .0) (λ c. low-cut t c .answer-low .kept .1 .1 .0)
-    (λ c. low-cut t c .answer-low .ensures) (cut-element-cut-boundary-requires t) (λ c. search needs) (λ c. search needs) (cut-element-answer-higher-requires t)
-    (λ c. round-cut t (c .before .before .before) .cut-boundary .kept .1 .0) (λ c. round-cut t (c .before .before .before) .cut-boundary .kept .1 .1 .0)
-    (cut-element-returns-3 t) (λ c. whole-round t c .cut-boundary .kept .1 .0) (cut-element-same-length-6 t)
+    (λ c. low-cut t c .answer-low .ensures) (cut-element-cut-boundary-requires t)
+    (λ c. round-cut t (c .before) .cut-boundary .kept .1 .0) (λ c. round-cut t (c .before) .cut-boundary .kept .1 .1 .0)
+    (cut-element-returns-3 t) (cut-element-answer-higher-requires t) (λ c. whole-round t c .cut-boundary .kept .1 .0) (cut-element-same-length-6 t)
     (cut-element-returns-4 t)

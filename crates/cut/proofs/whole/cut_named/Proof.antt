@@ -38,7 +38,7 @@ abbrev root-asked : tie.After-put-counts → tie.After-cut-element
 root-asked c = asked (c .before .before)
 
 -- and where its answer is known
-abbrev told : tie.After-output-at → tie.After-enum-told
+abbrev told : tie.After-output-at → tie.Else1
 told c = c .before .before
 
 add-hyperplane-requires : tie.Need-add-hyperplane-requires
@@ -74,36 +74,36 @@ put-counts-requires c κs =
     let p = added (named (asked (c .before)) .before .before) in
     p .add-hyperplane .kept .0 ∙ counts-ready (start p .pre)
 
-enum-known-asked : tie.Need-enum-known-asked
-enum-known-asked c = search needs
-
-enum-told : tie.Need-enum-told
-enum-told c = search needs
-
-output-at-requires : tie.Need-output-at-requires
-output-at-requires c κs =
-    let n = named (root-asked (put (c .before .before .before))) in
-    root-low (start (added (n .before .before)) .pre)
-
-has-warning-requires : tie.Need-has-warning-requires
-has-warning-requires c κs = search needs
-
 same-length : tie.Need-same-length
 same-length c = search needs
 
 same-length-2 : tie.Need-same-length-2
 same-length-2 c = search needs
 
-returns : tie.Need-returns
-returns c =
-    let p = added (c .before .before .before) in
-    plane-refused (start p .args .params) (p .add-hyperplane .ensures) _ (c .before .named .given .1)
-
 same-length-3 : tie.Need-same-length-3
 same-length-3 c = search needs
 
 same-length-4 : tie.Need-same-length-4
 same-length-4 c = search needs
+
+returns : tie.Need-returns
+returns c =
+    let b = put (c .before) in
+    let s = root-asked b in
+    let k = taken (s .before) in
+    let r = ranked (k .before) in
+    let n = numbered r in
+    let p = added (n .before .before) in
+    counts-back (b .put-counts .ensures)
+    (root-refused (start p .args .params) (counts-lent (k .counts-of .ensures) (p .add-hyperplane .ensures)) _ (n .named2 .given .1) _ (r .rank-of .ensures) (s .cut-element .ensures) (c .if1 .taken))
+
+output-at-requires : tie.Need-output-at-requires
+output-at-requires c κs =
+    let n = named (root-asked (put (c .before .before))) in
+    root-low (start (added (n .before .before)) .pre)
+
+has-warning-requires : tie.Need-has-warning-requires
+has-warning-requires c κs = search needs
 
 same-length-5 : tie.Need-same-length-5
 same-length-5 c = search needs
@@ -113,18 +113,12 @@ same-length-6 c = search needs
 
 returns-2 : tie.Need-returns-2
 returns-2 c =
-    let b = put (c .before .before .before) in
-    let s = root-asked b in
-    let k = taken (s .before) in
-    let r = ranked (k .before) in
-    let n = numbered r in
-    let p = added (n .before .before) in
-    counts-back (b .put-counts .ensures)
-    (root-refused (start p .args .params) (counts-lent (k .counts-of .ensures) (p .add-hyperplane .ensures)) _ (n .named2 .given .1) _ (r .rank-of .ensures) (s .cut-element .ensures) _ (c .before .asked .given .1))
+    let p = added (c .before .before .before) in
+    plane-refused (start p .args .params) (p .add-hyperplane .ensures) _ (c .before .named .given .1)
 
 same-length-7 : tie.Need-same-length-7
 same-length-7 c =
-    let b = put (told (c .before .before) .before .before) in
+    let b = put (told (c .before .before) .before) in
     b .put-counts .kept .0 ∙ added (named (root-asked b) .before .before) .add-hyperplane .kept .0
 
 same-length-8 : tie.Need-same-length-8
@@ -132,7 +126,7 @@ same-length-8 c = search needs
 
 same-length-9 : tie.Need-same-length-9
 same-length-9 c =
-    let b = put (told (c .before .before) .before .before) in
+    let b = put (told (c .before .before) .before) in
     added (named (root-asked b) .before .before) .add-hyperplane .kept .1 .0
 
 same-length-10 : tie.Need-same-length-10
@@ -142,7 +136,7 @@ returns-3 : tie.Need-returns-3
 returns-3 c =
     let o = c .before .before in
     let e = told o in
-    let b = put (e .before .before) in
+    let b = put (e .before) in
     let s = root-asked b in
     let k = taken (s .before) in
     let r = ranked (k .before) in
@@ -150,7 +144,7 @@ returns-3 c =
     let p = added (n .before .before) in
     counts-back (b .put-counts .ensures)
     (root-answered (start p .args .params) (counts-lent (k .counts-of .ensures) (p .add-hyperplane .ensures)) _ (n .named2 .given .1) _ (r .rank-of .ensures) (s .cut-element .ensures)
-    (e .enum-told .given .1) _ _ (o .output-at .ensures) (c .has-warning .ensures))
+    (e .if1 .left) _ _ (o .output-at .ensures) (c .has-warning .ensures))
 
 pub cut-named-spec : {M : Type 1} → statement M
 cut-named-spec =
@@ -163,15 +157,13 @@ cut-named-spec =
     counts-of-requires
     cut-element-requires
     put-counts-requires
-    enum-known-asked
-    enum-told
-    output-at-requires
-    has-warning-requires
     same-length
     same-length-2
-    returns
     same-length-3
     same-length-4
+    returns
+    output-at-requires
+    has-warning-requires
     same-length-5
     same-length-6
     returns-2
