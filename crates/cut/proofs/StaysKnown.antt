@@ -1,12 +1,12 @@
 -- What is known stays true: an answer that a cut has given is given again by every later table, and nothing is added (the repeat of the rules).
-use Prim.Native.Nat.{ℕ, _+_, _*_, _≤_, _<_}
+use Prim.Native.Nat.{ℕ, _≤_, _<_}
 use mathlib.Core.Path.{_≡_, refl, sym, ap, ap₂, _∙_, subst}
 use mathlib.Core.Bool.{Bool, true, false, true≢false, _||_}
 use mathlib.Core.List.{List}
 use native.Mathlib.Nat.{le-trans}
 use native.Mathlib.Omega.{arith}
 use lib.Dec.{eqb}
-use lib.ListN.{length, getD, replicate, length-replicate}
+use lib.ListN.{length, replicate, length-replicate}
 use lib.Ieee.{Float}
 use Rattle.rules.specs.Limits.{desk}
 use Rattle.rules.specs.Table.{Table, elementCount, rank}
@@ -26,7 +26,6 @@ use Rattle.rules.proofs.Good.{Good, sound-good}
 use Rattle.rules.proofs.Later.{Later, Replays, same}
 use Rattle.rules.proofs.Laws.{eq-test, test-eq, or-none}
 use Rattle.rules.proofs.Repeat.{cut-any}
-use Rattle.space.specs.Chains.{Indexed}
 use Rattle.gathered.specs.Sets.{InRoom, OutputInRoom}
 use Rattle.gathered.specs.Cutting as told
 use Rattle.gathered.specs.Cutting.{cutOf, Fit, Told}
@@ -37,8 +36,8 @@ use Rattle.cut.specs.Rounds.{AskReady, LowReady, ElementAsked, ElementEn
 use Rattle.cut.proofs.Words.{zeros-unknown, kept-long, kept-same, kept-known, kept-other-known, kept-other}
 
 -- nothing is known at first
-pub knows-nothing : (k : Cutter) (w : Bool) (t : Table) → Knows k (replicate 1536 0) w t
-knows-nothing k w t = record { long = length-replicate {A = ℕ} 1536 0; of = λ e h p. absurd (true≢false (sym p ∙ zeros-unknown e h)) }
+pub knows-nothing : (k : Cutter) (w : Bool) (t : Table) → Knows k (replicate 512 0) w t
+knows-nothing k w t = record { long = length-replicate {A = ℕ} 512 0; of = λ e h p. absurd (true≢false (sym p ∙ zeros-unknown e h)) }
 
 -- ---- warnings
 
@@ -92,11 +91,11 @@ module _ (k : Cutter) (e : ℕ) (a : ElementAnswer) {t u : Table} (g : Good desk
       go (NonFlush i j x) h = record { inside = one i (h .0); outside = one j (h .1); intersection = one x (h .2) }
 
   -- its answer is kept
-  knows-more : {ms : List ℕ} (w : Bool) → (w || a .warning) ≡ w → e < 512 → Knows k ms w u → Knows k (withAnswer ms e (a .output)) w u
-  knows-more {ms} w n low K = record { long = kept-long ms e (a .output) ∙ K .long; of = λ j h q. go j h q (eqb j e) refl }
+  knows-more : {ms : List ℕ} (w : Bool) → (w || a .warning) ≡ w → e < 512 → elementCount u ≤ 512 → Knows k ms w u → Knows k (withAnswer ms e (a .output)) w u
+  knows-more {ms} w n low m K = record { long = kept-long ms e (a .output) ∙ K .long; of = λ j h q. go j h q (eqb j e) refl }
     where
       there : outputAt (withAnswer ms e (a .output)) e ≡ a .output
-      there = kept-same ms e (a .output) (let long = K .long in omega (arith, low, long))
+      there = kept-same ms e (a .output) (asked-room m) (let long = K .long in omega (arith, low, long))
 
       go : (j : ℕ) → j < 512 → knownAt (withAnswer ms e (a .output)) j ≡ true → (c : Bool) → eqb j e ≡ c → Repeats k u (outputAt (withAnswer ms e (a .output)) j) w j
       go j h q true p =
@@ -122,7 +121,7 @@ pub still-trans : {ms ms₁ ms₂ : List ℕ} → KnownStill ms ms₁ → KnownS
 still-trans A B = record { of = λ j h. B .of j (A .of j h) }
 
 -- an answer is kept beside it
-still-kept : (ms : List ℕ) (e : ℕ) (x : ElementReply) → e * 3 + 2 < length ms → KnownStill ms (withReply ms e x)
+still-kept : (ms : List ℕ) (e : ℕ) (x : ElementReply) → e < length ms → KnownStill ms (withReply ms e x)
 still-kept ms e (reply.Refused n) l = still-refl ms
 still-kept ms e (reply.Answered a) l = record { of = λ j h. go j h (eqb j e) refl }
   where
@@ -159,22 +158,22 @@ module _ {cs : List ℕ} {ps hs : List Float} {es : List ℕ} {r e : ℕ} {k : C
         go (told.stopped n u o q z H) = stopped n u o (N .asked ∙ ap askedBy q) z H
         go (told.went a u o q n H) =
             let long = K .long in
-            let fits : e * 3 + 2 < length ms = omega (arith, low, long) in
+            let fits : e < length ms = omega (arith, low, long) in
             let words : ms′ ≡ withAnswer ms e (a .output) = N .words ∙ ap (withReply ms e) q in
             let later : Knows k ms w u = subst (λ (b : Bool). Knows k ms b u) (sym n) (knows-warned (a .warning) (knows-later good (asked-extends k e a good (F .used) (ranked-cut o)) K)) in
             let noted : (w || a .warning) ≡ w = ap (λ (b : Bool). b || a .warning) n ∙ noted-now v (a .warning) ∙ sym n in
             went a u o (N .asked ∙ ap askedBy q) n
             (record {
               holds = H;
-              knows = subst (λ (m : List ℕ). Knows k m w u) (sym words) (knows-more k e a good (F .used) (ranked-cut o) w noted low later);
+              knows = subst (λ (m : List ℕ). Knows k m w u) (sym words) (knows-more k e a good (F .used) (ranked-cut o) w noted low (H .fits .elementRoom) later);
               known = ap (λ (m : List ℕ). knownAt m e) words ∙ kept-known ms e (a .output) fits;
-              output = ap (λ (m : List ℕ). outputAt m e) words ∙ kept-same ms e (a .output) fits;
+              output = ap (λ (m : List ℕ). outputAt m e) words ∙ kept-same ms e (a .output) (asked-room k e a good (F .used) (ranked-cut o) (H .fits .elementRoom)) fits;
             })
 
   pub kept-still : {ms ms′ : List ℕ} {x : ElementReply} {y : ℕ} {v : Bool} → Knows k ms v t → ReplyKept ms e x y ms′ → KnownStill ms ms′
   kept-still {ms} {x = x} K N =
       let long = K .long in
-      subst (KnownStill ms) (sym (N .words)) (still-kept ms e x (let z : e * 3 + 2 < length ms = omega (arith, low, long) in z))
+      subst (KnownStill ms) (sym (N .words)) (still-kept ms e x (let z : e < length ms = omega (arith, low, long) in z))
 
 -- ---- what the code needs
 

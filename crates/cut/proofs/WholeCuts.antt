@@ -141,7 +141,7 @@ module _ (p : CutParams) {cs : List ℕ} {ps hs : List Float} {es : List ℕ} {r
             ∙ sym (slices (A .holds) .elementCount)
 
         -- nothing is known yet
-        pub root-ready : {ix : List ℕ} → CutReady cs ps hs es ix (p .divider) root → AskReady cs₁ ps es ix (replicate 1536 0) blankRoom r root (cutter p v)
+        pub root-ready : {ix : List ℕ} → CutReady cs ps hs es ix (p .divider) root → AskReady cs₁ ps es ix (replicate 512 0) blankRoom r root (cutter p v)
         root-ready R = record {
           planes = hs₁;
           table = named (R .fit) .table;
@@ -152,7 +152,7 @@ module _ (p : CutParams) {cs : List ℕ} {ps hs : List Float} {es : List ℕ} {r
         }
 
         -- how the cut of the root ended is the reply
-        module _ {y : ℕ} {cs₂ : List ℕ} {ps₂ : List Float} {es₂ ix₂ ms₂ : List ℕ} {s₂ : List (List ℕ)} (C : ElementAsked cs₁ ps es (replicate 1536 0) blankRoom r root (cutter p v) y cs₂ ps₂ es₂ ix₂ ms₂ s₂) where
+        module _ {y : ℕ} {cs₂ : List ℕ} {ps₂ : List Float} {es₂ ix₂ ms₂ : List ℕ} {s₂ : List (List ℕ)} (C : ElementAsked cs₁ ps es (replicate 512 0) blankRoom r root (cutter p v) y cs₂ ps₂ es₂ ix₂ ms₂ s₂) where
           root-ended : {t : Table} (F : CutFit cs ps hs es (p .divider) root t) → ElementEnded cs₂ ps₂ hs₁ es₂ ms₂ (warningIn s₂) r root (cutter p v) y false (named F .table)
           root-ended F = C .of hs₁ (named F .table) (root-fit F) (knows-nothing (cutter p v) (warningIn blankRoom) (named F .table))
 

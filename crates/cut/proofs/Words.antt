@@ -1,12 +1,13 @@
--- The words of what a cut knows: what is kept of an element is read back, and the words of the others stay.
-use Prim.Native.Nat.{ℕ, zero, suc, _+_, _-_, _*_, _<_}
+-- The words of what a cut knows: the fields kept of an element are read back as digits of its word, and the words of the others stay.
+use Prim.Native.Nat.{ℕ, zero, suc, _+_, _-_, _*_, _/_, _%_, _<_}
 use mathlib.Core.Path.{_≡_, refl, sym, ap, _∙_, subst}
 use mathlib.Core.Bool.{true, false}
 use mathlib.Core.List.{List}
 use native.Mathlib.Omega.{arith}
 use borrow.Author.Tests.{lt-ltb}
+use lib.Arith.{digits-div, digits-mod}
 use lib.Dec.{ltb, lit≤}
-use lib.ListN.{length, getD, set, length-set, replicate, getD-replicate}
+use lib.ListN.{length, getD, length-set, replicate, getD-replicate}
 use lib.Seq.{getD-set-same, getD-set-other}
 use Rattle.rules.specs.declared.ElementOrNone.{ElementOrNone}
 use Rattle.rules.specs.declared.ElementOrNone.the-variants.{None, Some}
@@ -15,16 +16,21 @@ use Rattle.rules.specs.declared.ElementCutOutput.the-variants.{Flush, NonFlush}
 use Rattle.rules.specs.declared.ElementId.{ElementId}
 use Rattle.gathered.specs.declared.answer.ElementReply.{ElementReply}
 use Rattle.gathered.specs.declared.answer.ElementReply.the-variants as reply
-use Rattle.gathered.specs.Sets.{SidesInRoom, OutputInRoom}
-use Rattle.cut.specs.Known.{wordOf, someOf, outputOf, knownAt, outputAt, threeAt, withAnswer, withReply, ReplyInRoom, askedBy}
+use Rattle.gathered.specs.Sets.{InRoom, SidesInRoom, OutputInRoom}
+use Rattle.gathered.proofs.Gathering.{some-room}
+use Rattle.space.specs.Numbers.{NumberBelow}
+use Rattle.cut.specs.Known.{fieldSize, fieldOf, someOf, outputOf, packed, outputIn, knownAt, outputAt, fieldsAt, withAnswer, withReply, ReplyInRoom, askedBy}
 
--- ---- a word and its element
+-- ---- a field and its element
 
-pub word-none : (x : ElementOrNone) → x ≡ None → 1 ≡ wordOf x
-word-none x q = ap wordOf (sym q)
+pub field-none : (x : ElementOrNone) → x ≡ None → NumberBelow 1 (fieldOf x) fieldSize
+field-none x q = record { value = ap fieldOf (sym q); bound = lit≤ tt }
 
-pub word-some : (x : ElementOrNone) (e : ElementId) (w : ℕ) → x ≡ Some e → w ≡ e .0 + 2 → w ≡ wordOf x
-word-some x e w q h = (let z : w ≡ suc (suc (e .0)) = omega (arith, h) in z) ∙ ap wordOf (sym q)
+pub field-some : (x : ElementOrNone) (e : ElementId) → x ≡ Some e → InRoom x → NumberBelow (e .0 + 2) (fieldOf x) fieldSize
+field-some x e q h = record {
+  value = (let z : e .0 + 2 ≡ suc (suc (e .0)) = omega arith in z) ∙ ap fieldOf (sym q);
+  bound = (let l = some-room e q h in let z : e .0 + 2 < fieldSize = omega (arith, l) in z);
+}
 
 pub some-none : (w : ℕ) → w < 2 → None ≡ someOf w
 some-none zero h = refl
@@ -36,7 +42,19 @@ some-is zero n h q = absurd (omega arith)
 some-is (suc zero) n h q = absurd (omega arith)
 some-is (suc (suc e)) n h q = let z : n ≡ e = omega (arith, q) in ap (λ (i : ℕ). Some (record { 0 = i })) z
 
--- ---- what three words say
+some-field : (x : ElementOrNone) → someOf (fieldOf x) ≡ x
+some-field None = refl
+some-field (Some e) = refl
+
+field-above : (x : ElementOrNone) → 0 < fieldOf x
+field-above None = omega arith
+field-above (Some e) = omega arith
+
+field-below : (x : ElementOrNone) → InRoom x → fieldOf x < fieldSize
+field-below None h = lit≤ tt
+field-below (Some e) h = omega (arith, h)
+
+-- ---- what three fields say
 
 flush-of : (a b c : ℕ) → b ≡ 0 → Flush ≡ outputOf a b c
 flush-of a zero c q = refl
@@ -46,116 +64,94 @@ sides-of : (a b c : ℕ) → 0 < b → NonFlush (someOf a) (someOf b) (someOf c)
 sides-of a zero c q = absurd (omega arith)
 sides-of a (suc b) c q = refl
 
-pub output-flush : (ms : List ℕ) (e : ℕ) → getD ms (e * 3 + 1) 0 ≡ 0 → Flush ≡ outputAt ms e
-unfolding outputAt
-output-flush ms e q = flush-of (getD ms (e * 3) 0) (getD ms (e * 3 + 1) 0) (getD ms (e * 3 + 2) 0) q
+field-output : (i o x : ElementOrNone) → outputOf (fieldOf i) (fieldOf o) (fieldOf x) ≡ NonFlush i o x
+field-output i o x = sym (sides-of (fieldOf i) (fieldOf o) (fieldOf x) (field-above o)) ∙ (λ l. NonFlush (some-field i l) (some-field o l) (some-field x l))
 
-pub output-sides : (ms : List ℕ) (e : ℕ) (i o x : ElementOrNone) → 0 < getD ms (e * 3 + 1) 0
-    → i ≡ someOf (getD ms (e * 3) 0) → o ≡ someOf (getD ms (e * 3 + 1) 0) → x ≡ someOf (getD ms (e * 3 + 2) 0) → NonFlush i o x ≡ outputAt ms e
+pub output-flush : (ms : List ℕ) (e : ℕ) → getD ms e 0 / fieldSize % fieldSize ≡ 0 → Flush ≡ outputAt ms e
+unfolding outputAt
+output-flush ms e q = let w = getD ms e 0 in flush-of (w % fieldSize) (w / fieldSize % fieldSize) (w / fieldSize / fieldSize) q
+
+pub output-sides : (ms : List ℕ) (e : ℕ) (i o x : ElementOrNone) → 0 < getD ms e 0 / fieldSize % fieldSize → i ≡ someOf (getD ms e 0 % fieldSize)
+    → o ≡ someOf (getD ms e 0 / fieldSize % fieldSize) → x ≡ someOf (getD ms e 0 / fieldSize / fieldSize) → NonFlush i o x ≡ outputAt ms e
 unfolding outputAt
 output-sides ms e i o x q hi ho hx =
-    (λ l. NonFlush (hi l) (ho l) (hx l)) ∙ sides-of (getD ms (e * 3) 0) (getD ms (e * 3 + 1) 0) (getD ms (e * 3 + 2) 0) q
+    let w = getD ms e 0 in
+    (λ l. NonFlush (hi l) (ho l) (hx l)) ∙ sides-of (w % fieldSize) (w / fieldSize % fieldSize) (w / fieldSize / fieldSize) q
 
 -- ---- nothing is kept yet
 
-pub zeros-unknown : (e : ℕ) → e < 512 → knownAt (replicate 1536 0) e ≡ false
+pub zeros-unknown : (e : ℕ) → e < 512 → knownAt (replicate 512 0) e ≡ false
 unfolding knownAt
-zeros-unknown e h = ap (ltb 0) (getD-replicate {A = ℕ} 1536 (e * 3) 0 0 (omega arith))
+zeros-unknown e h = ap (ltb 0) (getD-replicate {A = ℕ} 512 e 0 0 h)
 
--- ---- three words are written
+-- ---- three fields are written
+
+module _ (a b c : ℕ) (ha : a < fieldSize) (hb : b < fieldSize) where
+  above : packed a b c / fieldSize ≡ c * fieldSize + b
+  above = digits-div (c * fieldSize + b) ha
+
+  -- what was packed is read back
+  packed-output : outputIn (packed a b c) ≡ outputOf a b c
+  packed-output = λ l. outputOf (digits-mod (c * fieldSize + b) ha l) (second l) (third l)
+    where
+      second : packed a b c / fieldSize % fieldSize ≡ b
+      second = ap (λ (w : ℕ). w % fieldSize) above ∙ digits-mod c hb
+
+      third : packed a b c / fieldSize / fieldSize ≡ c
+      third = ap (λ (w : ℕ). w / fieldSize) above ∙ digits-div c hb
 
 module _ (ms : List ℕ) (e a b c : ℕ) where
-  pub three-long : length (threeAt ms e a b c) ≡ length ms
-  unfolding threeAt
-  three-long = length-set (set (set ms (e * 3) a) (e * 3 + 1) b) (e * 3 + 2) c ∙ length-set (set ms (e * 3) a) (e * 3 + 1) b ∙ length-set ms (e * 3) a
+  fields-long : length (fieldsAt ms e a b c) ≡ length ms
+  unfolding fieldsAt
+  fields-long = length-set ms e (packed a b c)
 
-  -- a word that is none of the three
-  other-word : (i : ℕ) → (i ≡ e * 3 → ⊥) → (i ≡ e * 3 + 1 → ⊥) → (i ≡ e * 3 + 2 → ⊥) → getD (threeAt ms e a b c) i 0 ≡ getD ms i 0
-  unfolding threeAt
-  other-word i p q r =
-      getD-set-other (set (set ms (e * 3) a) (e * 3 + 1) b) (e * 3 + 2) i c 0 r
-      ∙ getD-set-other (set ms (e * 3) a) (e * 3 + 1) i b 0 q
-      ∙ getD-set-other ms (e * 3) i a 0 p
+  fields-there : e < length ms → getD (fieldsAt ms e a b c) e 0 ≡ packed a b c
+  unfolding fieldsAt
+  fields-there = getD-set-same ms e (packed a b c) 0
 
-  pub three-other-known : (j : ℕ) → (j ≡ e → ⊥) → knownAt (threeAt ms e a b c) j ≡ knownAt ms j
+  fields-beside : (j : ℕ) → (j ≡ e → ⊥) → getD (fieldsAt ms e a b c) j 0 ≡ getD ms j 0
+  unfolding fieldsAt
+  fields-beside j n = getD-set-other ms e j (packed a b c) 0 n
+
+  fields-other-known : (j : ℕ) → (j ≡ e → ⊥) → knownAt (fieldsAt ms e a b c) j ≡ knownAt ms j
   unfolding knownAt
-  three-other-known j n = ap (ltb 0) (other-word (j * 3) (λ q. n (omega arith)) (λ q. absurd (omega arith)) (λ q. absurd (omega arith)))
+  fields-other-known j n = ap (ltb 0) (fields-beside j n)
 
-  pub three-other : (j : ℕ) → (j ≡ e → ⊥) → outputAt (threeAt ms e a b c) j ≡ outputAt ms j
+  fields-other : (j : ℕ) → (j ≡ e → ⊥) → outputAt (fieldsAt ms e a b c) j ≡ outputAt ms j
   unfolding outputAt
-  three-other j n = λ l. outputOf
-      (other-word (j * 3) (λ q. n (omega arith)) (λ q. absurd (omega arith)) (λ q. absurd (omega arith)) l)
-      (other-word (j * 3 + 1) (λ q. absurd (omega arith)) (λ q. n (omega arith)) (λ q. absurd (omega arith)) l)
-      (other-word (j * 3 + 2) (λ q. absurd (omega arith)) (λ q. absurd (omega arith)) (λ q. n (omega arith)) l)
+  fields-other j n = ap outputIn (fields-beside j n)
 
-  pub three-same : e * 3 + 2 < length ms → outputAt (threeAt ms e a b c) e ≡ outputOf a b c
-  unfolding outputAt threeAt
-  three-same h = λ l. outputOf (first l) (second l) (third l)
-    where
-      m₁ : List ℕ
-      m₁ = set ms (e * 3) a
+  fields-same : a < fieldSize → b < fieldSize → e < length ms → outputAt (fieldsAt ms e a b c) e ≡ outputOf a b c
+  unfolding outputAt
+  fields-same ha hb h = ap outputIn (fields-there h) ∙ packed-output a b c ha hb
 
-      m₂ : List ℕ
-      m₂ = set m₁ (e * 3 + 1) b
-
-      long₁ : length m₁ ≡ length ms
-      long₁ = length-set ms (e * 3) a
-
-      long₂ : length m₂ ≡ length ms
-      long₂ = length-set m₁ (e * 3 + 1) b ∙ long₁
-
-      first : getD (set m₂ (e * 3 + 2) c) (e * 3) 0 ≡ a
-      first =
-          getD-set-other m₂ (e * 3 + 2) (e * 3) c 0 (λ q. omega arith) ∙ getD-set-other m₁ (e * 3 + 1) (e * 3) b 0 (λ q. omega arith)
-          ∙ getD-set-same ms (e * 3) a 0 (omega arith)
-
-      second : getD (set m₂ (e * 3 + 2) c) (e * 3 + 1) 0 ≡ b
-      second = getD-set-other m₂ (e * 3 + 2) (e * 3 + 1) c 0 (λ q. omega arith) ∙ getD-set-same m₁ (e * 3 + 1) b 0 (omega (arith, long₁))
-
-      third : getD (set m₂ (e * 3 + 2) c) (e * 3 + 2) 0 ≡ c
-      third = getD-set-same m₂ (e * 3 + 2) c 0 (omega (arith, long₂))
-
-  pub three-known : 0 < a → e * 3 + 2 < length ms → knownAt (threeAt ms e a b c) e ≡ true
-  unfolding knownAt threeAt
-  three-known h l =
-      ap (ltb 0)
-      (getD-set-other (set (set ms (e * 3) a) (e * 3 + 1) b) (e * 3 + 2) (e * 3) c 0 (λ q. omega arith) ∙ getD-set-other (set ms (e * 3) a) (e * 3 + 1) (e * 3) b 0 (λ q. omega arith)
-      ∙ getD-set-same ms (e * 3) a 0 (omega arith))
-      ∙ lt-ltb 0 a h
+  fields-known : 0 < a → e < length ms → knownAt (fieldsAt ms e a b c) e ≡ true
+  unfolding knownAt
+  fields-known h l = ap (ltb 0) (fields-there l) ∙ lt-ltb 0 (packed a b c) (let z : 0 < packed a b c = omega (arith, h) in z)
 
 -- ---- an answer is kept
 
-some-word : (x : ElementOrNone) → someOf (wordOf x) ≡ x
-some-word None = refl
-some-word (Some e) = refl
-
-word-above : (x : ElementOrNone) → 0 < wordOf x
-word-above None = omega arith
-word-above (Some e) = omega arith
-
-word-output : (i o x : ElementOrNone) → outputOf (wordOf i) (wordOf o) (wordOf x) ≡ NonFlush i o x
-word-output i o x = sym (sides-of (wordOf i) (wordOf o) (wordOf x) (word-above o)) ∙ (λ l. NonFlush (some-word i l) (some-word o l) (some-word x l))
-
 module _ (ms : List ℕ) (e : ℕ) where
   pub kept-long : (a : ElementCutOutput) → length (withAnswer ms e a) ≡ length ms
-  kept-long Flush = three-long ms e 1 0 0
-  kept-long (NonFlush i o x) = three-long ms e (wordOf i) (wordOf o) (wordOf x)
+  kept-long Flush = fields-long ms e 1 0 0
+  kept-long (NonFlush i o x) = fields-long ms e (fieldOf i) (fieldOf o) (fieldOf x)
 
-  pub kept-same : (a : ElementCutOutput) → e * 3 + 2 < length ms → outputAt (withAnswer ms e a) e ≡ a
-  kept-same Flush h = three-same ms e 1 0 0 h
-  kept-same (NonFlush i o x) h = three-same ms e (wordOf i) (wordOf o) (wordOf x) h ∙ word-output i o x
+  pub kept-same : (a : ElementCutOutput) → OutputInRoom a → e < length ms → outputAt (withAnswer ms e a) e ≡ a
+  kept-same Flush r h = fields-same ms e 1 0 0 (lit≤ tt) (lit≤ tt) h
+  kept-same (NonFlush i o x) r h =
+      fields-same ms e (fieldOf i) (fieldOf o) (fieldOf x) (field-below i (r .inside)) (field-below o (r .outside)) h ∙ field-output i o x
 
   pub kept-other-known : (a : ElementCutOutput) (j : ℕ) → (j ≡ e → ⊥) → knownAt (withAnswer ms e a) j ≡ knownAt ms j
-  kept-other-known Flush j n = three-other-known ms e 1 0 0 j n
-  kept-other-known (NonFlush i o x) j n = three-other-known ms e (wordOf i) (wordOf o) (wordOf x) j n
+  kept-other-known Flush j n = fields-other-known ms e 1 0 0 j n
+  kept-other-known (NonFlush i o x) j n = fields-other-known ms e (fieldOf i) (fieldOf o) (fieldOf x) j n
 
   pub kept-other : (a : ElementCutOutput) (j : ℕ) → (j ≡ e → ⊥) → outputAt (withAnswer ms e a) j ≡ outputAt ms j
-  kept-other Flush j n = three-other ms e 1 0 0 j n
-  kept-other (NonFlush i o x) j n = three-other ms e (wordOf i) (wordOf o) (wordOf x) j n
+  kept-other Flush j n = fields-other ms e 1 0 0 j n
+  kept-other (NonFlush i o x) j n = fields-other ms e (fieldOf i) (fieldOf o) (fieldOf x) j n
 
-  pub kept-known : (a : ElementCutOutput) → e * 3 + 2 < length ms → knownAt (withAnswer ms e a) e ≡ true
-  kept-known Flush h = three-known ms e 1 0 0 (lit≤ tt) h
-  kept-known (NonFlush i o x) h = three-known ms e (wordOf i) (wordOf o) (wordOf x) (word-above i) h
+  pub kept-known : (a : ElementCutOutput) → e < length ms → knownAt (withAnswer ms e a) e ≡ true
+  kept-known Flush h = fields-known ms e 1 0 0 (lit≤ tt) h
+  kept-known (NonFlush i o x) h = fields-known ms e (fieldOf i) (fieldOf o) (fieldOf x) (field-above i) h
 
   -- a reply, by what it is
   pub reply-refused : (x : ElementReply) (n : ℕ) → x ≡ reply.Refused n → ms ≡ withReply ms e x
@@ -164,13 +160,13 @@ module _ (ms : List ℕ) (e : ℕ) where
   pub reply-answered : (x : ElementReply) (a : ElementCutOutput) (ms′ : List ℕ) → x ≡ reply.Answered a → ms′ ≡ withAnswer ms e a → ms′ ≡ withReply ms e x
   reply-answered x a ms′ q h = h ∙ ap (withReply ms e) (sym q)
 
-  -- the words of an answer, by what it is
-  pub answer-flush-kept : (a : ElementCutOutput) (ms′ : List ℕ) → a ≡ Flush → ms′ ≡ threeAt ms e 1 0 0 → ms′ ≡ withAnswer ms e a
+  -- the fields of an answer, by what it is
+  pub answer-flush-kept : (a : ElementCutOutput) (ms′ : List ℕ) → a ≡ Flush → ms′ ≡ fieldsAt ms e 1 0 0 → ms′ ≡ withAnswer ms e a
   answer-flush-kept a ms′ p h = h ∙ ap (withAnswer ms e) (sym p)
 
-  pub answer-sides-kept : (a : ElementCutOutput) (i o y : ElementOrNone) (u v w : ℕ) (ms′ : List ℕ) → a ≡ NonFlush i o y → u ≡ wordOf i → v ≡ wordOf o → w ≡ wordOf y
-      → ms′ ≡ threeAt ms e u v w → ms′ ≡ withAnswer ms e a
-  answer-sides-kept a i o y u v w ms′ p hu hv hw h = h ∙ (λ l. threeAt ms e (hu l) (hv l) (hw l)) ∙ ap (withAnswer ms e) (sym p)
+  pub answer-sides-kept : (a : ElementCutOutput) (i o y : ElementOrNone) (u v w : ℕ) (ms′ : List ℕ) → a ≡ NonFlush i o y → u ≡ fieldOf i → v ≡ fieldOf o → w ≡ fieldOf y
+      → ms′ ≡ fieldsAt ms e u v w → ms′ ≡ withAnswer ms e a
+  answer-sides-kept a i o y u v w ms′ p hu hv hw h = h ∙ (λ l. fieldsAt ms e (hu l) (hv l) (hw l)) ∙ ap (withAnswer ms e) (sym p)
 
 -- how asking ended, by what it is
 pub asked-refused : (x : ElementReply) (n : ℕ) → x ≡ reply.Refused n → n ≡ askedBy x

@@ -1,5 +1,5 @@
 -- What a cut remembers: the words of the answers given so far, and when they are true of a table. Definitions only.
-use Prim.Native.Nat.{ℕ, zero, suc, _+_, _*_, _<_}
+use Prim.Native.Nat.{ℕ, zero, suc, _+_, _*_, _/_, _%_, _<_}
 use mathlib.Core.Path.{_≡_}
 use mathlib.Core.Bool.{Bool, true, _||_}
 use mathlib.Core.List.{List}
@@ -18,40 +18,52 @@ use Rattle.gathered.specs.Sets.{OutputInRoom}
 use Rattle.gathered.specs.Cutting.{cutOf}
 use Rattle.rules.specs.declared.Cutter.{Cutter}
 
--- ---- three words an element
+-- ---- one word of three fields an element
+
+-- a field lies below this number
+abbrev pub fieldSize : ℕ
+fieldSize = 1024
 
 -- none is 1, and an element is two above its number
-abbrev pub wordOf : ElementOrNone → ℕ
-wordOf None = 1
-wordOf (Some e) = suc (suc (e .0))
+abbrev pub fieldOf : ElementOrNone → ℕ
+fieldOf None = 1
+fieldOf (Some e) = suc (suc (e .0))
 
--- the element of a word, or none
+-- the element of a field, or none
 abbrev pub someOf : ℕ → ElementOrNone
 someOf zero = None
 someOf (suc zero) = None
 someOf (suc (suc e)) = given e
 
--- what three words say: a second word of 0 is flush
+-- what three fields say: a second field of 0 is flush
 abbrev pub outputOf : ℕ → ℕ → ℕ → ElementCutOutput
 outputOf a zero c = Flush
 outputOf a (suc b) c = NonFlush (someOf a) (someOf (suc b)) (someOf c)
 
--- element e was asked: its first word is not 0
+-- a word is its fields as digits, the first lowest
+abbrev pub packed : ℕ → ℕ → ℕ → ℕ
+packed a b c = (c * fieldSize + b) * fieldSize + a
+
+-- and says what they say
+abbrev pub outputIn : ℕ → ElementCutOutput
+outputIn w = outputOf (w % fieldSize) (w / fieldSize % fieldSize) (w / fieldSize / fieldSize)
+
+-- element e was asked: its word is not 0
 unfoldable pub knownAt : List ℕ → ℕ → Bool
-knownAt ms e = ltb 0 (getD ms (e * 3) 0)
+knownAt ms e = ltb 0 (getD ms e 0)
 
 -- what it answered
 unfoldable pub outputAt : List ℕ → ℕ → ElementCutOutput
-outputAt ms e = outputOf (getD ms (e * 3) 0) (getD ms (e * 3 + 1) 0) (getD ms (e * 3 + 2) 0)
+outputAt ms e = outputIn (getD ms e 0)
 
--- the three words of element e are a, b and c
-unfoldable pub threeAt : List ℕ → ℕ → ℕ → ℕ → ℕ → List ℕ
-threeAt ms e a b c = set (set (set ms (e * 3) a) (e * 3 + 1) b) (e * 3 + 2) c
+-- the fields of element e are a, b and c
+unfoldable pub fieldsAt : List ℕ → ℕ → ℕ → ℕ → ℕ → List ℕ
+fieldsAt ms e a b c = set ms e (packed a b c)
 
 -- the answer of element e is kept
 abbrev pub withAnswer : List ℕ → ℕ → ElementCutOutput → List ℕ
-withAnswer ms e Flush = threeAt ms e 1 0 0
-withAnswer ms e (NonFlush i o x) = threeAt ms e (wordOf i) (wordOf o) (wordOf x)
+withAnswer ms e Flush = fieldsAt ms e 1 0 0
+withAnswer ms e (NonFlush i o x) = fieldsAt ms e (fieldOf i) (fieldOf o) (fieldOf x)
 
 -- a refusal is not kept
 abbrev pub withReply : List ℕ → ℕ → ElementReply → List ℕ
@@ -69,6 +81,13 @@ ReplyInRoom (reply.Answered a) = OutputInRoom a
 abbrev pub askedBy : ElementReply → ℕ
 askedBy (reply.Refused n) = n
 askedBy (reply.Answered a) = 0
+
+-- what writing the fields of element e asks
+pub record FieldsReady (e a b c : ℕ) : Type 0 where
+  pub low : e < 512
+  pub first : a < fieldSize
+  pub second : b < fieldSize
+  pub third : c < fieldSize
 
 -- what keeping an answer asks
 pub record AnswerReady (e : ℕ) (a : ElementCutOutput) : Type 0 where
@@ -96,7 +115,7 @@ pub record Repeats (k : Cutter) (t : Table) (x : ElementCutOutput) (w : Bool) (e
 
 -- all that is known is repeated by the table as it is now
 pub record Knows (k : Cutter) (ms : List ℕ) (w : Bool) (t : Table) : Type 0 where
-  pub long : length ms ≡ 1536
+  pub long : length ms ≡ 512
   pub of : (e : ℕ) → e < 512 → knownAt ms e ≡ true → Repeats k t (outputAt ms e) w e
 
 -- ---- what is known stays so

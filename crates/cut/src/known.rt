@@ -1,56 +1,59 @@
-// What a cut has answered so far, three words an element. An element that was not asked has zeros; flush is 1, 0, 0.
+// What a cut has answered so far, one word of three fields an element. The word of an element that was not asked is 0; the fields of flush are 1, 0, 0.
 use gathered::answer::ElementReply;
 use rules::ElementCutOutput;
 use rules::ElementId;
 use rules::ElementOrNone;
-use space::words::wide;
 ghost use Prim.Native.Nat.{_<_};
 ghost use mathlib.Core.Path.{_≡_};
 ghost use Rattle.gathered.specs.Sets.{InRoom};
-ghost use Rattle.cut.specs.Known.{wordOf, someOf, knownAt, outputAt, threeAt, withAnswer, AnswerReady, KeepReady, ReplyKept};
+ghost use Rattle.space.specs.Numbers.{NumberBelow};
+ghost use Rattle.cut.specs.Known.{fieldSize, fieldOf, someOf, knownAt, outputAt, fieldsAt, withAnswer, FieldsReady, AnswerReady, KeepReady, ReplyKept};
 
-// The words of an answer, and of the answers of all elements.
-const ANSWER: usize = 3;
+// The words of all elements, and how many numbers a field of a word can be.
+pub const KNOWN: usize = 512;
 
-pub const KNOWN: usize = 1536;
+const FIELD: u32 = 1024;
 
-// None is 1, and an element is two above its number, so that no place of an answer is 0.
-fn word_of(x: ElementOrNone) -> u16
+// None is 1, and an element is two above its number, so that no field of a place is 0.
+fn field_of(x: ElementOrNone) -> u32
     requires { ⌜ InRoom x ⌝ }
-    ensures { λ r. ⌜ r ≡ wordOf x ⌝ }
+    ensures { λ r. ⌜ NumberBelow r (fieldOf x) fieldSize ⌝ }
 {
     match x {
         ElementOrNone::None => 1,
-        ElementOrNone::Some(e) => (e.0 + 2) as u16,
+        ElementOrNone::Some(e) => e.0 as u32 + 2,
     }
 }
 
-fn some_of(word: u16) -> ElementOrNone
-    ensures { λ r. ⌜ r ≡ someOf word ⌝ }
+fn some_of(field: u32) -> ElementOrNone
+    ensures { λ r. ⌜ r ≡ someOf field ⌝ }
 {
-    if word < 2 {
+    if field < 2 {
         return ElementOrNone::None;
     }
-    ElementOrNone::Some(ElementId(wide(word - 2)))
+    let number = (field - 2) as usize;
+    ElementOrNone::Some(ElementId(number))
 }
 
 // Whether an element was asked before.
-pub fn is_known(known: &[u16; KNOWN], e: ElementId) -> bool
+pub fn is_known(known: &[u32; KNOWN], e: ElementId) -> bool
     requires { ⌜ e .0 < 512 ⌝ }
     ensures { λ r. ⌜ r ≡ knownAt (now (known .entry)) (e .0) ⌝ }
 {
-    0 < known[e.0 * ANSWER]
+    let at = e.0;
+    0 < known[at]
 }
 
-// What the words of an element that was asked say.
-pub fn output_at(known: &[u16; KNOWN], e: ElementId) -> ElementCutOutput
+// What the word of an element that was asked says.
+pub fn output_at(known: &[u32; KNOWN], e: ElementId) -> ElementCutOutput
     requires { ⌜ e .0 < 512 ⌝ }
     ensures { λ r. ⌜ r ≡ outputAt (now (known .entry)) (e .0) ⌝ }
 {
-    let at = e.0 * ANSWER;
-    let a = known[at];
-    let b = known[at + 1];
-    let c = known[at + 2];
+    let at = e.0;
+    let word = known[at];
+    let a = word % FIELD;
+    let b = word / FIELD % FIELD;
+    let c = word / FIELD / FIELD;
     if b == 0 {
         return ElementCutOutput::Flush;
     }
@@ -64,38 +67,36 @@ pub fn output_at(known: &[u16; KNOWN], e: ElementId) -> ElementCutOutput
     }
 }
 
-fn put_words(known: &mut [u16; KNOWN], e: ElementId, a: u16, b: u16, c: u16)
-    requires { ⌜ e .0 < 512 ⌝ }
-    ensures { λ r. ⌜ now (known .exit) ≡ threeAt (now (known .entry)) (e .0) a b c ⌝ }
+fn put_fields(known: &mut [u32; KNOWN], e: ElementId, a: u32, b: u32, c: u32)
+    requires { ⌜ FieldsReady (e .0) a b c ⌝ }
+    ensures { λ r. ⌜ now (known .exit) ≡ fieldsAt (now (known .entry)) (e .0) a b c ⌝ }
 {
-    let first = e.0 * ANSWER;
-    known[first] = a;
-    known[first + 1] = b;
-    known[first + 2] = c;
+    let at = e.0;
+    known[at] = (c * FIELD + b) * FIELD + a;
 }
 
-// Its words are written.
-fn keep_answer(known: &mut [u16; KNOWN], e: ElementId, answer: ElementCutOutput)
+// Its word is written.
+fn keep_answer(known: &mut [u32; KNOWN], e: ElementId, answer: ElementCutOutput)
     requires { ⌜ AnswerReady (e .0) answer ⌝ }
     ensures { λ r. ⌜ now (known .exit) ≡ withAnswer (now (known .entry)) (e .0) answer ⌝ }
 {
     match answer {
-        ElementCutOutput::Flush => put_words(known, e, 1, 0, 0),
+        ElementCutOutput::Flush => put_fields(known, e, 1, 0, 0),
         ElementCutOutput::NonFlush {
             inside,
             outside,
             intersection,
         } => {
-            let a = word_of(inside);
-            let b = word_of(outside);
-            let c = word_of(intersection);
-            put_words(known, e, a, b, c);
+            let a = field_of(inside);
+            let b = field_of(outside);
+            let c = field_of(intersection);
+            put_fields(known, e, a, b, c);
         }
     }
 }
 
 // An answer is kept: the number of a refusal, or 0.
-pub fn keep(known: &mut [u16; KNOWN], e: ElementId, reply: ElementReply) -> u8
+pub fn keep(known: &mut [u32; KNOWN], e: ElementId, reply: ElementReply) -> u8
     requires { ⌜ KeepReady (e .0) reply ⌝ }
     ensures { λ r. ⌜ ReplyKept (now (known .entry)) (e .0) reply r (now (known .exit)) ⌝ }
 {

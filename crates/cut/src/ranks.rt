@@ -21,7 +21,7 @@ pub fn answer_low(
     points: &mut [f64],
     elements: &mut [u16],
     index: &mut [u16; INDEX],
-    known: &mut [u16; KNOWN],
+    known: &mut [u32; KNOWN],
     room: &mut [[u16; SET]; ROOM],
     e: ElementId,
     rank: usize,
@@ -36,7 +36,7 @@ pub fn answer_low(
 }
 
 // What the boundary of element e has answered, from what is known.
-fn gather_known(elements: &[u16], known: &[u16; KNOWN], room: &mut [[u16; SET]; ROOM], e: ElementId)
+fn gather_known(elements: &[u16], known: &[u32; KNOWN], room: &mut [[u16; SET]; ROOM], e: ElementId)
     requires { ⌜ GatherReady (now elements) (now known) (now room) (e .0) ⌝ }
     ensures { λ r. ⌜ KnownGathered (now (elements .entry)) (now (known .entry)) (now (room .entry)) (e .0) (now (room .exit)) ⌝ }
 {
@@ -54,7 +54,7 @@ pub fn answer_higher(
     counts: &mut [u16; COUNTS],
     elements: &mut [u16],
     index: &mut [u16; INDEX],
-    known: &mut [u16; KNOWN],
+    known: &mut [u32; KNOWN],
     room: &mut [[u16; SET]; ROOM],
     e: ElementId,
     rank: usize,

@@ -59,7 +59,7 @@ fn cut_named(
         PlacedHyperplane::At(number) => {
             let rank = rank_of(elements, root);
             let k = Cutter { params, number };
-            let mut known = [0u16; KNOWN];
+            let mut known = [0u32; KNOWN];
             let mut room = [[0u16; SET]; ROOM];
             let mut used = counts_of(counts);
             let asked = cut_element(

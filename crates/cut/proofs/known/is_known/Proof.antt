@@ -1,4 +1,4 @@
--- An element was asked where its first word is not 0.
+-- An element was asked where its word is not 0.
 use mathlib.Core.Path.{refl}
 use Rattle.cut.specs.Known.{knownAt}
 use borrow.Author.Needs.{needs}
@@ -8,9 +8,6 @@ use Rattle.cut.proofs.known.is_known.Tie as tie
 mul-result : tie.Need-mul-result
 mul-result c = search needs
 
-mul-result-2 : tie.Need-mul-result-2
-mul-result-2 c = search needs
-
 element-copy-out-result : tie.Need-element-copy-out-result
 element-copy-out-result c = search needs
 
@@ -19,4 +16,4 @@ unfolding knownAt
 returns c = refl
 
 pub is-known-spec : {M : Type 1} → statement M
-is-known-spec = tie.close (tie.spec mul-result mul-result-2 element-copy-out-result returns)
+is-known-spec = tie.close (tie.spec mul-result element-copy-out-result returns)

@@ -1,4 +1,5 @@
--- A word below 2 is none, and any other is two above its element.
+-- A field below 2 is none, and any other is two above its element.
+use mathlib.Core.Path.{refl}
 use Rattle.cut.proofs.Words.{some-none, some-is}
 use borrow.Author.Needs.{needs}
 use Rattle.cut.proofs.known.some_of.Statement.{statement}
@@ -7,11 +8,11 @@ use Rattle.cut.proofs.known.some_of.Tie as tie
 returns : tie.Need-returns
 returns c = some-none _ (c .if1 .taken)
 
-wide-requires : tie.Need-wide-requires
-wide-requires c κs = search needs
+cast-number : tie.Need-cast-number
+cast-number c = search needs
 
 returns-2 : tie.Need-returns-2
-returns-2 c = some-is _ _ (c .before .if1 .left) (c .wide .ensures .value)
+returns-2 c = some-is _ _ (c .if1 .left) refl
 
 pub some-of-spec : {M : Type 1} → statement M
-some-of-spec = tie.close (tie.spec returns wide-requires returns-2)
+some-of-spec = tie.close (tie.spec returns cast-number returns-2)
