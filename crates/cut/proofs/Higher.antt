@@ -1,7 +1,7 @@
 -- An element of rank 2 or more. What is known of its boundary is what the rules gather when they ask it again, in the table as it is now: nothing is added.
 -- And the rules gather the same when they ask it for the first time (the repeat of the rules), so the element's answer is that of the table before.
 use Prim.Native.Nat.{ℕ, suc, _+_, _-_, _*_, _≤_, _<_}
-use mathlib.Core.Bool.{Bool, true, _||_}
+use mathlib.Core.Bool.{Bool, _||_}
 use mathlib.Core.Path.{_≡_, refl, sym, ap, ap₂, _∙_, subst}
 use mathlib.Core.List.{List, []}
 use native.Mathlib.Nat.{le-trans}
@@ -10,9 +10,9 @@ use lib.ListN.{length, getD, drop}
 use lib.Seq.{drop-length}
 use lib.Ieee.{Float}
 use Rattle.rules.specs.Limits.{desk}
-use Rattle.rules.specs.Table.{Element, Table, rankOf, boundaryOf, elementCount, rank, boundary, element}
+use Rattle.rules.specs.Table.{Element, Table, rankOf, boundaryOf, rank, boundary, element}
 use Rattle.rules.specs.Held.{Extends, Holds, Came, Sets, Ranked}
-use Rattle.rules.specs.Cut.{Outcome, done, next, Step, Cutting, Gathered, nothingYet, gathering, gatheringOutput, rule6, cutElement, cutBoundary}
+use Rattle.rules.specs.Cut.{Outcome, done, next, Cutting, Gathered, nothingYet, gathering, gatheringOutput, rule6, cutElement, cutBoundary}
 use Rattle.rules.specs.declared.ElementCutOutput.{ElementCutOutput}
 use Rattle.rules.specs.declared.ElementAnswer.{ElementAnswer}
 use Rattle.rules.specs.declared.Cutter.{Cutter}
@@ -20,7 +20,7 @@ use Rattle.rules.proofs.Corners.{good-fine}
 use Rattle.rules.proofs.Extends.{extends-refl, extends-trans, element-same, count-more, begins-length}
 use Rattle.rules.proofs.Fewer.{lessGathered, noneDropped}
 use Rattle.rules.proofs.Fine.{GatheredIn, boundary-below}
-use Rattle.rules.proofs.Good.{Good, sound-good, good-sound}
+use Rattle.rules.proofs.Good.{sound-good, good-sound}
 use Rattle.rules.proofs.Later.{Later, Replays}
 use Rattle.rules.proofs.Laws.{or-none, or-shift}
 use Rattle.rules.proofs.Ranked.{sets-none}
@@ -28,7 +28,6 @@ use Rattle.rules.proofs.Repeat as repeat
 use Rattle.rules.proofs.Stays.{Stays, Kept}
 use Rattle.rules.proofs.StaysCut.{boundary-stays}
 use Rattle.rules.proofs.Warned.{Done, Warns, gathering-warns, rule6-warns}
-use Rattle.space.specs.Chains.{Indexed}
 use Rattle.space.specs.Ready.{ElementReady}
 use Rattle.space.proofs.Slices.{slices}
 use Rattle.gathered.specs.declared.answer.ElementReply.{ElementReply}
@@ -37,7 +36,7 @@ use Rattle.gathered.specs.Sets.{Gathers, Cleared, OutputInRoom, OutputGathered,
 use Rattle.gathered.specs.Cutting.{cutOf, answeredBy, Fit, Told, Rule6Fit, Rule6Ready, Rule6Done}
 use Rattle.gathered.proofs.Steps.{told-by}
 use Rattle.cut.specs.Known.{knownAt, outputAt, Repeats, KeepReady, ReplyKept, Knows, KnownTo}
-use Rattle.cut.specs.Rounds.{AskReady, Ended, went, stopped, AnswerKept, ElementEnded, ElementAsked, BoundaryEnded, BoundaryCut}
+use Rattle.cut.specs.Rounds.{AskReady, went, stopped, ElementEnded, ElementAsked, BoundaryEnded, BoundaryCut}
 use Rattle.cut.specs.Higher.{HigherFit, GatherReady, Filled, KnownGathered, HigherReady, HigherAsked}
 use Rattle.cut.proofs.StaysKnown.{asked-room, kept-ended, kept-still, reply-in-room, still-trans, noted-now}
 use Rattle.cut.proofs.Rounds.{boundary-not-0, ask, ask-stays, ep, owner, size-is, size-most, within, number-of, ranked-of, opened-at, cut-higher}

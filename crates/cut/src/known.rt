@@ -14,7 +14,7 @@ pub const KNOWN: usize = 512;
 
 const FIELD: u32 = 1024;
 
-// None is 1, and an element is two above its number, so that no field of a place is 0.
+// None is 1, and an element is two above its number, so that 0 tells flush, and what was not asked.
 fn field_of(x: ElementOrNone) -> u32
     requires { ⌜ InRoom x ⌝ }
     ensures { λ r. ⌜ NumberBelow r (fieldOf x) fieldSize ⌝ }
