@@ -274,7 +274,7 @@ static uint64_t call(int kind) {
     case 5: return desk_edges_in_order(TABLE, 8, list, SIZE(list));
     case 6: return desk_has_primordial_facet(TABLE, 26);
     case 7: return slanted_cut(0, 26);
-    case 8: return desk_save(TABLE, file, sizeof file);
+    case 8: return file_size = desk_file_size(desk_save(TABLE, file, sizeof file));
     case 9: return desk_open(TABLE, file, file_size);
     case 10: return desk_touch(TABLE, 0.6, 0.8, 0.0, 0.0, 2.0, piece);
     default: return desk_is_sound(TABLE);
