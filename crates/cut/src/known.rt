@@ -3,15 +3,17 @@ use gathered::answer::ElementReply;
 use rules::ElementCutOutput;
 use rules::ElementId;
 use rules::ElementOrNone;
+use space::words::ELEMENTS;
 ghost use Prim.Native.Nat.{_<_};
 ghost use mathlib.Core.Path.{_≡_};
 ghost use Rattle.gathered.specs.Sets.{InRoom};
 ghost use Rattle.space.specs.Numbers.{NumberBelow};
 ghost use Rattle.cut.specs.Known.{fieldSize, fieldOf, someOf, knownAt, outputAt, fieldsAt, withAnswer, FieldsReady, AnswerReady, KeepReady, ReplyKept};
 
-// The words of all elements, and how many numbers a field of a word can be.
-pub const KNOWN: usize = 512;
+// A word for each element.
+pub const KNOWN: usize = ELEMENTS;
 
+// How many numbers a field of a word can be.
 const FIELD: u32 = 1024;
 
 // None is 1, and an element is two above its number, so that 0 tells flush, and what was not asked.
