@@ -1,5 +1,5 @@
-/* What calls cost. `calls cuts`, `calls lists`, `calls questions` and `calls touches` give nanoseconds, the best of many runs, one line
-   each for bench/times; `calls count STEPS KIND TIMES` makes one kind of call, and `calls count-cuts NAME HOW TIMES` the cuts of one workload, for
+/* What calls cost. `calls cuts`, `calls lists` and `calls questions` give nanoseconds, the best of many runs, one line each for
+   bench/times; `calls count STEPS KIND TIMES` makes one kind of call, and `calls count-cuts NAME HOW TIMES` the cuts of one workload, for
    the instruction counter of bench/instructions; `calls names` has the workloads; `calls run NAME` goes through one once, for a
    profiler. */
 #include "desk.h"
@@ -79,22 +79,11 @@ static void grid(const struct workload *w, uint16_t cube) {
     }
 }
 
-/* The normal of plane i of some that are tangent to a ball of three dimensions and spread over it, and to one of four. */
-static void tangent(int i, int planes, double normal[4]) {
-    double z = 1.0 - 2.0 * (i + 0.5) / planes, r = sqrt(1.0 - z * z), angle = i * 2.399963229728653;
-    normal[0] = r * cos(angle), normal[1] = r * sin(angle), normal[2] = z, normal[3] = 0.0;
-}
-
-static void tangent_of_four(int i, int planes, double normal[4]) {
-    double part = (i + 0.5) / planes, r = sqrt(part), s = sqrt(1.0 - part), angle = i * 2.399963229728653, other = i * 1.9416135460476878;
-    normal[0] = r * cos(angle), normal[1] = r * sin(angle), normal[2] = s * cos(other), normal[3] = s * sin(other);
-}
-
-/* What lies inside all of them is kept. */
+/* Planes tangent to a ball, spread over it; what lies inside all of them is kept. */
 static void ball(const struct workload *w, uint16_t piece) {
     for (int i = 0; i < w->size; i++) {
-        double normal[4];
-        tangent(i, w->size, normal);
+        double z = 1.0 - 2.0 * (i + 0.5) / w->size, r = sqrt(1.0 - z * z), angle = i * 2.399963229728653;
+        double normal[4] = {r * cos(angle), r * sin(angle), z};
         piece = inside_of(cut(normal, 0.9, 0, piece));
     }
 }
@@ -302,49 +291,6 @@ static double best_call(int kind) {
     return best;
 }
 
-/* Solids of as many corners as a table has room for: their touches are the dearest. */
-struct solid {
-    const char *name;
-    uint8_t dimensions;
-    int planes;
-    void (*normal_of)(int i, int planes, double normal[4]);
-};
-
-static const struct solid solids[] = {
-    {"3D solid of 39 tangent planes", 3, 39, tangent},
-    {"4D solid of 11 tangent planes", 4, 11, tangent_of_four},
-};
-
-static uint16_t carved(const struct solid *s) {
-    desk_cube(TABLE, s->dimensions, 1.0);
-    uint16_t left = (uint16_t)(counts[1] - 1);
-    for (int i = 0; i < s->planes; i++) {
-        double normal[4];
-        s->normal_of(i, s->planes, normal);
-        left = inside_of(cut(normal, 1.4, 0, left));
-    }
-    return left;
-}
-
-static double best_touch(double distance, uint16_t solid) {
-    double best = INFINITY;
-    for (double end = now() + BUDGET; now() < end;) {
-        double start = now();
-        desk_touch(TABLE, 1.0, 0.0, 0.0, 0.0, distance, solid);
-        best = fmin(best, now() - start);
-    }
-    return best;
-}
-
-/* Elements, corners, the soundness test, a touch by a plane that misses the solid, and by one that parts it. */
-static void time_touches(void) {
-    for (int i = 0; i < SIZE(solids); i++) {
-        uint16_t solid = carved(&solids[i]);
-        unsigned corners = desk_touch(TABLE, 1.0, 0.0, 0.0, 0.0, 3.0, solid) >> 16;
-        printf("%s;%u;%u;%.0f;%.0f;%.0f\n", solids[i].name, counts[1], corners, best_call(0), best_touch(3.0, solid), best_touch(0.0, solid));
-    }
-}
-
 static void time_questions(void) {
     for (int steps = 0; steps <= 14; steps += 2) {
         slanted_cuts(steps);
@@ -365,7 +311,6 @@ int main(int argc, char **argv) {
     if (argc == 2 && strcmp(argv[1], "cuts") == 0) time_cuts();
     else if (argc == 2 && strcmp(argv[1], "lists") == 0) time_lists();
     else if (argc == 2 && strcmp(argv[1], "questions") == 0) time_questions();
-    else if (argc == 2 && strcmp(argv[1], "touches") == 0) time_touches();
     else if (argc == 2 && strcmp(argv[1], "names") == 0) print_names();
     else if (argc == 3 && strcmp(argv[1], "run") == 0) run_named(argv[2]);
     else if (argc == 5 && strcmp(argv[1], "count") == 0) count_calls(atoi(argv[2]), atoi(argv[3]), atoi(argv[4]));

@@ -1,8 +1,7 @@
 /* Bytes of stack that each entry point takes. A stack is filled with a pattern, a call is made on it, and the bytes down to the
    lowest that changed are counted, less those of no call. Frames have fixed sizes and a cut goes down by rank alone, so a table
    of four dimensions takes the most that there is, where a cut adds faces of more than five edges, whose paths are joined; what a
-   cut takes more than in the dimension below is its part that grows with the rank. Link with libdesk.a for the machine at hand, and with
-   `-Wl,-z,now`: else the first call of a function of libc has the linker on the stack too. */
+   cut takes more than in the dimension below is its part that grows with the rank. Link with libdesk.a for the machine at hand. */
 #include "desk.h"
 #include <stdio.h>
 #include <string.h>

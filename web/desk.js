@@ -48,9 +48,9 @@ class Desk {
         return this.step?.bench ?? new Bench();
     }
 
-    // the click that ends with the record that we are at, if one does; the last may have left no record of its own
+    // the click that ends with the record that we are at, if one does
     get clicked() {
-        return [this.click, this.step?.click].find(click => click && click.end === this.step) ?? null;
+        return [this.step?.click, this.click].find(click => click && click.end === this.step) ?? null;
     }
 
     get radius() {

@@ -6,8 +6,8 @@ import { axis } from "./plane.js";
 import { lineOf } from "./session.js";
 import { count, refusal } from "./words.js";
 
-// how many pieces a grid has along each axis; in four dimensions a table has no room for 2 x 2 x 2 x 1
-export const GRIDS = { 1: [[2], [3]], 2: [[2, 2], [3, 3]], 3: [[2, 2, 2], [3, 3, 3]], 4: [[2, 2, 1, 1], [3, 2, 1, 1]] };
+// how many pieces a grid has along each axis; in four dimensions a table has room for no more
+export const GRIDS = { 1: [[2], [3]], 2: [[2, 2], [3, 3]], 3: [[2, 2, 2], [3, 3, 3]], 4: [[2, 2, 1, 1]] };
 
 export const gridName = along => along.join(" × ");
 
@@ -22,26 +22,23 @@ function listsOf(pieces, plane, kept) {
 
 // the click, as it is told in the end; the desk makes each list, and gives { number, at, answers } of it
 export function everyPiece(desk, { name, planes, kept }) {
-    const click = { name, planes: planes.length, asked: 0, aim: { ...desk.aim }, before: desk.live.sizes, cuts: 0, calls: 0, stopped: null };
-    for (const plane of planes) {
-        if (desk.bench.pieces.length === 0) return click;
-        click.asked++;
+    const click = { name, planes: planes.length, aim: { ...desk.aim }, before: desk.live.sizes, cuts: 0, calls: 0, stopped: null };
+    for (const [i, plane] of planes.entries())
         for (const list of listsOf(desk.bench.pieces, plane, kept)) {
             const { number, at, answers } = desk.makeAll(list, click);
             click.calls++;
             click.cuts += answers.length;
             if (number === 0) continue;
-            click.stopped = { number, at, list };
+            click.stopped = { number, at, plane: i, list };
             return click;
         }
-    }
     return click;
 }
 
 // ---- what is said of it
 
-function stoppedWords({ stopped: { number, at, list }, planes, asked, cuts }, table) {
-    const where = `plane ${asked} of ${planes}, ${count(list.length, "cut", "cuts")}`;
+function stoppedWords({ stopped: { number, at, plane, list }, planes, cuts }, table) {
+    const where = `plane ${plane + 1} of ${planes}, ${count(list.length, "cut", "cuts")}`;
     const reason = `refused ${number}. ${refusal(number, list[at] ?? {}, table)}`;
     const stay = cuts === 0 ? "No cut was made before it" : cuts === 1 ? "The cut before it stays" : `The ${cuts} cuts before it stay`;
     return at === null
@@ -49,17 +46,10 @@ function stoppedWords({ stopped: { number, at, list }, planes, asked, cuts }, ta
         : [`Stopped at position ${at}, counted from 0, in the list of ${where}: ${lineOf(list[at])} is ${reason}`, `${stay}; those after it were not made.`];
 }
 
-// once no piece lies there, no plane is asked any more
-function leftWords({ planes, asked }) {
-    const left = planes - asked;
-    return left === 0 ? [] : [`No piece was left for the other ${left === 1 ? "plane" : count(left, "plane", "planes")}.`];
-}
-
 export function clickWords(click, { live, bench }) {
-    const { name, asked, cuts, calls, before, stopped, end } = click;
-    const undo = end.click === click ? " Undo takes the whole click back." : ""; // a list that is refused before any cut leaves no record
-    const made = `${name}: ${count(asked, "plane", "planes")} over every piece, ${count(cuts, "cut", "cuts")} in ${count(calls, "call", "calls")}.${undo}`;
+    const { name, planes, cuts, calls, before, stopped } = click;
+    const made = `${name}: ${count(planes, "plane", "planes")} over every piece, ${count(cuts, "cut", "cuts")} in ${count(calls, "call", "calls")}. Undo takes the whole click back.`;
     const why = cuts > 0 ? ": all that these cuts need is in the table already" : "";
     const lie = `${count(bench.pieces.length, "piece lies", "pieces lie")} on the bench. ${addedWords(before, live.sizes, why)}`;
-    return [made, ...(stopped ? stoppedWords(click, live) : leftWords(click)), lie.charAt(0).toUpperCase() + lie.slice(1)];
+    return [made, ...(stopped ? stoppedWords(click, live) : []), lie.charAt(0).toUpperCase() + lie.slice(1)];
 }

@@ -34,7 +34,11 @@ function cutWritten(desk) {
 }
 
 function showGrids({ live, bench, stands }) {
-    GRIDS[live.dimension]?.forEach((along, i) => ($(`grid${i + 2}`).textContent = gridName(along)));
+    const grids = GRIDS[live.dimension] ?? [];
+    [$("grid2"), $("grid3")].forEach((button, i) => {
+        button.hidden = stands && !grids[i];
+        if (grids[i]) button.textContent = gridName(grids[i]);
+    });
     for (const id of ["grid2", "grid3", "cutevery", "cutplanes"]) enable($(id), stands && bench.pieces.length > 0);
 }
 

@@ -1,7 +1,6 @@
 // The lesson, read from docs/LESSON.md itself: each session as steps, with its text. What is added there shows up here.
 import { $, enable, escaped } from "./dom.js";
 import { bytesOf, lineOf, recordsOf } from "./session.js";
-import { count } from "./words.js";
 
 // every session: its title, the session, the lines that it prints, and the text around it; cuts that go on from a saved table have the
 // session that left it
@@ -48,12 +47,9 @@ async function start(desk, i) {
 // what is done off the lesson's path stands there too; a click of many cuts as one step, its last
 const isStep = ({ click }, i, steps) => !click || steps[i + 1]?.click !== click;
 
-// who cuts on from within a click keeps only the cuts before
-const cutsOf = (click, steps) => steps.filter(step => step.click === click && step.reply.number === 0).length;
-
-function row({ record, line, click }, i, { at, steps }) {
+function row({ record, line, click }, i, at) {
     const state = i < at ? "done" : i === at ? "now" : "to come";
-    const asked = click ? `${click.name}: ${count(cutsOf(click, steps), "cut", "cuts")}` : lineOf(record);
+    const asked = click ? `${click.name}: ${click.cuts} cuts` : lineOf(record);
     return `<li class="${state === "to come" ? "later" : state}"${i === at ? ' aria-current="step"' : ""}><code>${escaped(asked)}</code>` +
         `<code class="gives">${i <= at ? escaped(line) : "?"}</code></li>`;
 }
@@ -83,7 +79,7 @@ export const lesson = {
         if (i === null) return;
         const { title, paragraphs } = parts[i];
         $("lessontitle").textContent = `${i + 1}. ${title}`;
-        const steps = history.steps.map((step, k, all) => (isStep(step, k, all) ? { k, html: row(step, k, history) } : null)).filter(Boolean);
+        const steps = history.steps.map((step, k, all) => (isStep(step, k, all) ? { k, html: row(step, k, history.at) } : null)).filter(Boolean);
         $("lessonsteps").innerHTML = steps.map(({ html }) => html).join("");
         $("lessonat").textContent = `step ${steps.filter(({ k }) => k <= history.at).length} of ${steps.length}`;
         $("lessontext").innerHTML = paragraphs.map(paragraph).join("");

@@ -6,7 +6,7 @@ import { path, line, circle, text } from "./svg.js";
 const HUES = [206, 28, 152, 322, 48, 262, 178, 0, 90, 232];
 
 // an old entry keeps its number, and so its colour
-const hueOf = e => HUES[e % HUES.length];
+export const hueOf = e => HUES[e % HUES.length];
 
 const group = ({ e, look }, content) => `<g class="piece ${look}" style="--hue:${hueOf(e)}">${content}</g>`;
 
@@ -16,7 +16,7 @@ export function edgeLine(scene, edge, shift, rest) {
     return line(a, b, rest);
 }
 
-function loopPath(scene, face, shift) {
+export function loopPath(scene, face, shift) {
     return path(scene.shapes.loop(face).map(v => scene.eye.paper(scene.table.vertex(v), shift)));
 }
 

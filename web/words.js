@@ -46,7 +46,7 @@ export function short(x, digits = 5) {
 // vertices by their tags, the first few
 export const cornerNames = some => `${some.slice(0, 4).map(v => `[v${v}]`).join(", ")}${some.length > 4 ? " and more" : ""}`;
 
-const point = p => `(${p.map(plain).join(", ")})`;
+export const point = p => `(${p.map(plain).join(", ")})`;
 
 // why a record or a question was refused, with what is wrong in it
 export function refusal(number, { root, normal, distance, dimension }, table) {

@@ -111,7 +111,7 @@ enum desk_number { DESK_REFUSALS(DESK_NAMED) DESK_DONE = 0 };
 #undef DESK_NAMED
 
 /* Where the corners of an element lie to a plane. */
-enum desk_touch_answer { DESK_ALL_ON = 0, DESK_INSIDE_OR_ON = 1, DESK_OUTSIDE_OR_ON = 2, DESK_BOTH = 3 };
+enum desk_touched { DESK_ALL_ON = 0, DESK_INSIDE_OR_ON = 1, DESK_OUTSIDE_OR_ON = 2, DESK_BOTH = 3 };
 
 /* ---- The functions of the archive */
 
@@ -148,7 +148,7 @@ uint32_t desk_cut_all(DESK_WRITES, const double *dividers, size_t dividers_len, 
                       const uint16_t *roots, size_t roots_len, uint64_t *answers, size_t answers_len);
 
 /* Where the corners of an element lie to a plane, without a cut: the table is only read. Bits 0 to 7 the number, 0, 3, 4 or 5; bits 8
-   and 9 a number of enum desk_touch_answer; from bit 16 how many corners were tested, in rising vertex order: up to and with the first at
+   and 9 a number of enum desk_touched; from bit 16 how many corners were tested, in rising vertex order: up to and with the first at
    which both an inside and an outside corner have been met, or all. An infinite distance tests none. */
 uint32_t desk_touch(DESK_READS, double n0, double n1, double n2, double n3, double distance, uint32_t root);
 
@@ -218,7 +218,7 @@ static inline int desk_is_stopped(uint32_t cut_all) {
 }
 
 /* Of a touch: the answer, and how many corners were tested. */
-static inline enum desk_touch_answer desk_touch_answer_of(uint32_t touch) { return (enum desk_touch_answer)(touch >> 8 & 3); }
+static inline enum desk_touched desk_touched_of(uint32_t touch) { return (enum desk_touched)(touch >> 8 & 3); }
 static inline uint32_t desk_corners_tested(uint32_t touch) { return touch >> 16; }
 
 /* Of a list or an area sheet: how many numbers it has. */

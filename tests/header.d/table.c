@@ -180,8 +180,8 @@ static uint32_t touched_at_x(double distance, uint32_t root) {
     return desk_table_touch(&table, divider, root);
 }
 
-static int is(uint32_t touch, enum desk_touch_answer answer, uint32_t tested) {
-    return desk_number_of(touch) == DESK_DONE && desk_touch_answer_of(touch) == answer && desk_corners_tested(touch) == tested;
+static int is(uint32_t touch, enum desk_touched answer, uint32_t tested) {
+    return desk_number_of(touch) == DESK_DONE && desk_touched_of(touch) == answer && desk_corners_tested(touch) == tested;
 }
 
 /* Vertices 0 and 2 of the square lie at x = -1, 1 and 3 at x = 1; element 0 is vertex 0, element 7 the edge at x = 1. */

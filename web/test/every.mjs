@@ -1,11 +1,90 @@
-// Planes over every piece in one click: what the page does and says with them.
+// Planes over every piece in one click: lists of cuts against the same cuts made singly, and what the page does and says with them.
 import { execFileSync } from "node:child_process";
 import { existsSync, readFileSync } from "node:fs";
 import { join } from "node:path";
 import { load } from "../engine.js";
-import { GRIDS } from "../every.js";
-import { turns } from "../session.js";
+import { GRIDS, gridOf } from "../every.js";
+import { planesOf } from "../grid.js";
+import { KEPT, ask, askAll, turns } from "../session.js";
 import { TABLE_BYTES, Table } from "../table.js";
+
+// the same numbers in every run
+function dice(seed) {
+    let at = seed;
+    return n => (at = (at * 1103515245 + 12345) % 2147483648, Math.floor(at / 65536) % n);
+}
+
+// cuts of every kind: some are refused, some flush, some of what the cuts before them gave
+function anyCut(any, { dimension, sizes }) {
+    const axis = any(dimension);
+    const v = Array.from({ length: dimension }, (_, i) => (any(2) === 0 ? Number(i === axis) : any(5) - 2));
+    const long = Math.hypot(...v) || 1;
+    const distance = [0, 1, -1, 0.3, -0.45, Infinity, 1 - 2 ** -18][any(7)];
+    const root = any(40) === 0 ? 600 : Math.max(0, sizes.elements + any(12) - 10);
+    return { kind: "cut", kept: KEPT[any(40) === 0 ? 0 : 3 - any(3)], root, normal: v.map(x => x / (any(40) === 0 ? 1 : long)), distance };
+}
+
+// a list and the same cuts one by one: the number, the position, the answers, and every byte of the table
+function checkSame(checks, table, single) {
+    const [any, ends, unlike] = [dice(2024), {}, []];
+    let [taken, warned] = [0, 0];
+    for (let turn = 0; turn < 400; turn++) {
+        table.cube(1 + turn % 4, 1);
+        single.restore(table.bytes);
+        const list = Array.from({ length: 1 + any(14) }, () => anyCut(any, table));
+        const replies = [];
+        while (replies.length < list.length && (replies.at(-1)?.number ?? 0) === 0) replies.push(ask(single, list[replies.length]));
+        const number = replies.at(-1).number;
+        const [answers, at] = number === 0 ? [replies, null] : [replies.slice(0, -1), replies.length - 1];
+        const given = askAll(table, list);
+        ends[number] = (ends[number] ?? 0) + 1;
+        taken += answers.length;
+        warned += answers.filter(({ warning }) => warning).length;
+        if (JSON.stringify(given) !== JSON.stringify({ number, at, answers }) || Buffer.compare(table.bytes, single.bytes) !== 0) unlike.push({ list, given });
+    }
+    checks.same(`400 lists, ${taken} cuts taken, ${warned} with a warning`, unlike.slice(0, 1), []);
+    checks.holds(`many of each kind: ${JSON.stringify(ends)}`, ends[0] > 50 && ends[4] > 50 && ends[5] > 3 && warned > 20 && taken > 1000);
+}
+
+export async function checkLists(checks) {
+    const engine = await load(readFileSync("target/web/desk.wasm"), 2 * TABLE_BYTES);
+    const [table, single] = [new Table(engine), new Table(engine)];
+    const cut = (root, change = {}) => ({ normal: [1, 0], distance: 0, inside: true, outside: true, root, ...change });
+    checks.same("no table: 3 before 26", table.cutAll(Array(65).fill(cut(8))), { number: 3, at: null, answers: [] });
+    table.cube(2, 1);
+    const square = table.bytes.slice();
+    for (const many of [65, 66, 1000]) checks.same(`${many} cuts are more than a list has`, table.cutAll(Array(many).fill(cut(8))), { number: 26, at: null, answers: [] });
+    checks.holds("and none was made", Buffer.compare(square, table.bytes) === 0);
+    checks.same("no cuts are done", table.cutAll([]), { number: 0, at: null, answers: [] });
+    const most = table.cutAll(Array(64).fill(cut(8)));
+    checks.same("64 are a list", [most.number, most.answers.length, most.answers[63]], [0, 64, { number: 0, warning: false, flush: false, inside: 16, outside: 17, face: 15 }]);
+    table.restore(square);
+    const M1 = { number: 0, warning: false, flush: false, inside: 16, outside: 17, face: 15 };
+    for (const root of [9999, 65535, 65544, 8.5, NaN, -65528])
+        checks.same(`the second cut of ${root}`, table.cutAll([cut(8), cut(root), cut(16)]), { number: 4, at: 1, answers: [M1] });
+    checks.same("what was taken before it stays", table.sizes, { elements: 18, vertices: 6, hyperplanes: 5 });
+    checks.same("at the first", table.cutAll([cut(8, { distance: NaN })]), { number: 5, at: 0, answers: [] });
+    table.restore(square);
+    checks.same("the sides kept, each by its bit", table.cutAll([cut(8, { outside: false }), cut(8, { inside: false }), cut(8, { inside: false, outside: false })]).answers
+        .map(({ inside, outside, face }) => [inside, outside, face]), [[14, null, 13], [null, 17, 13], [null, null, 13]]);
+    checkSame(checks, table, single);
+
+    checks.same("the planes of a grid", [gridOf([2], 1), gridOf([3, 3], 3), gridOf([2, 2, 1, 1], 1)], [[{ normal: [1], distance: 0 }],
+        [[[1, 0], -1], [[1, 0], 1], [[0, 1], -1], [[0, 1], 1]].map(([normal, distance]) => ({ normal, distance })),
+        [{ normal: [1, 0, 0, 0], distance: 0 }, { normal: [0, 1, 0, 0], distance: 0 }]]);
+    checks.same("planes that are written", planesOf("1 0 1/3 # a third\n\n 0, 1, -inf", 2), [{ normal: [1, 0], distance: 1 / 3 }, { normal: [0, 1], distance: -Infinity }]);
+    for (const [text, dimension] of [["1 0", 2], ["1 0 0 0", 2], ["1 x 0", 2], ["1 0 0", 3]]) {
+        let says = "taken";
+        try {
+            planesOf(text, dimension);
+        } catch (error) {
+            says = error.constructor.name;
+        }
+        checks.same(`${text} is no plane of ${dimension} dimensions`, says, "NoRecord");
+    }
+}
+
+// ---- in the browser
 
 // the lists that the engine is asked for while something is done, by how many cuts each has
 async function lists(hands, doing) {
@@ -43,7 +122,8 @@ async function checkGrids(checks, hands) {
             await hands.press("#redo");
             checks.same(`${name}: done again`, [await hands.printed(), await hands.run("desk.bench.pieces.length")], [printed, pieces]);
         }
-    checks.same("cuts and elements", seen, [["2", 1, 6], ["3", 3, 9], ["2 × 2", 3, 33], ["3 × 3", 12, 69], ["2 × 2 × 2", 7, 174], ["3 × 3 × 3", 39, 501], ["2 × 2 × 1 × 1", 3, 297], ["3 × 2 × 1 × 1", 6, 432]]);
+    checks.same("cuts and elements", seen, [["2", 1, 6], ["3", 3, 9], ["2 × 2", 3, 33], ["3 × 3", 12, 69], ["2 × 2 × 2", 7, 174], ["3 × 3 × 3", 39, 501], ["2 × 2 × 1 × 1", 3, 297]]);
+    checks.same("four dimensions have room for one grid", await hands.run("document.querySelector('#grid3').hidden"), true);
 }
 
 // what the click says, how its records stand in the session, and that the session gives its lines again elsewhere
@@ -79,20 +159,9 @@ async function checkTold(checks, hands) {
     // beside a lesson's steps it is one step
     await hands.press('[data-lesson="1"]');
     await hands.press("#grid3");
-    checks.same("in a lesson", [await hands.texts("#lessonsteps li code"), await hands.text("#lessonat")], [["cube 2 1", "cube 9 4 4", "3 × 3: twelve cuts", "cut 67 68 66 69 16 8"], "step 2 of 2"]);
+    checks.same("in a lesson", [await hands.texts("#lessonsteps li code"), await hands.text("#lessonat")], [["cube 2 1", "cube 9 4 4", "3 × 3: 12 cuts", "cut 67 68 66 69 16 8"], "step 2 of 2"]);
     await hands.press("#lessonback");
     checks.same("and back", [await hands.line(), await hands.text("#lessonat")], ["cube 9 4 4", "step 1 of 2"]);
-    await hands.press("#history button[data-step='4']");
-    await hands.press("#cut");
-    checks.same("cut on from within it", [(await hands.texts("#lessonsteps li code"))[2], await hands.text("#lessonat"), await hands.count("#history li")], ["3 × 3: four cuts", "step 3 of 3", 6]);
-    await hands.press("#undo");
-    await hands.press("#undo");
-    for (const [distance, told] of [["0", "one cut"], ["nan", "no cuts"]]) {
-        await hands.type("#distance", distance);
-        await hands.press("#cutevery");
-        checks.same(`a click of ${told}`, await hands.texts("#lessonsteps li code"), ["cube 2 1", "cube 9 4 4", `This plane: ${told}`, await hands.line()]);
-        await hands.press("#undo");
-    }
     await hands.press("#lessonleave");
 
     // a session that was opened has the same records, and knows of no click
@@ -107,7 +176,7 @@ async function checkStopped(checks, hands) {
     const before = await hands.printed();
     const asked = await lists(hands, () => hands.press("#grid3"));
     const said = await words(hands);
-    checks.same("stopped", [asked, said.slice(0, 3)], [[8, 12, 16, 24], ["3 × 3 × 3: four planes over every piece, 38 cuts in four calls. Undo takes the whole click back.",
+    checks.same("stopped", [asked, said.slice(0, 3)], [[8, 12, 16, 24], ["3 × 3 × 3: six planes over every piece, 38 cuts in four calls. Undo takes the whole click back.",
         "Stopped at position 2, counted from 0, in the list of plane 4 of 6, 24 cuts: cut both 247 0 1 0 0.3333333333333333 is refused 9. There is no room for another element.",
         "The 38 cuts before it stay; those after it were not made."]]);
     checks.same("the refused cut is the last record", [await hands.line(), await hands.text("#asked"), (await hands.texts("#says p"))[0]],
@@ -121,45 +190,19 @@ async function checkStopped(checks, hands) {
     await hands.start(2);
     await hands.type("#planes", "1 1 0\n1 0 0");
     await hands.press("#cutplanes");
-    checks.same("at the first", await words(hands), ["Planes of your own: one plane over every piece, no cuts in one call. Undo takes the whole click back.",
+    checks.same("at the first", await words(hands), ["Planes of your own: two planes over every piece, no cuts in one call. Undo takes the whole click back.",
         "Stopped at position 0, counted from 0, in the list of plane 1 of 2, one cut: cut both 8 1 1 0 is refused 5. The normal is not unit: its squares add up to 2, not to 1.",
         "No cut was made before it; those after it were not made.", "One piece lies on the bench. Nothing was added."]);
     await hands.press("#undo");
     checks.same("taken back", await hands.line(), "cube 9 4 4");
-    const unlike = () => hands.run(`(() => {
+    await hands.run(`(() => {
         const { calls } = desk.engine;
         desk.engine.calls = { ...calls, desk_cut_all: (...words) => calls.desk_cut_all(...words.with(13, words[13] + 1n)) };
         document.querySelector("#grid2").click();
         desk.engine.calls = calls;
     })()`);
-    const before26 = cuts => ["2 × 2: one plane over every piece, no cuts in one call.",
-        `The list of plane 1 of 2, ${cuts}, is refused 26. The list has more than its limit, or its parts do not belong together. None of its cuts was made. No cut was made before it.`];
-    await unlike();
-    checks.same("parts that do not belong together: no record, so nothing to undo", [(await words(hands)).slice(0, 2), await hands.printed(), await hands.run("desk.history.steps.length")],
-        [before26("one cut"), "cube 9 4 4\nrefused 5\n", 2]);
-    await hands.press("#grid2");
-    const made = await hands.printed();
-    await unlike();
-    checks.same("after a click that was made", [(await words(hands)).slice(0, 2), await hands.printed()], [before26("four cuts"), made]);
-}
-
-// planes that no piece is left for
-async function checkNoneLeft(checks, hands) {
-    const undo = "Undo takes the whole click back.";
-    for (const [kept, planes, told] of [
-        ["neither", "1 0 0\n0 1 0", [`Planes of your own: one plane over every piece, one cut in one call. ${undo}`, "No piece was left for the other plane."]],
-        ["inside", "1 0 0\n1 0 -2\n0 1 0\n0 1 0.5\n1 0 0", [`Planes of your own: two planes over every piece, two cuts in two calls. ${undo}`, "No piece was left for the other three planes."]],
-        ["outside", "1 0 0\n0 1 0", [`Planes of your own: two planes over every piece, two cuts in two calls. ${undo}`]],
-    ]) {
-        await hands.start(2);
-        await hands.press(`input[value="${kept}"]`);
-        await hands.type("#planes", planes);
-        const calls = (await lists(hands, () => hands.press("#cutplanes"))).length;
-        const said = await words(hands);
-        checks.same(`keep ${kept}: what was asked`, [said.slice(0, -1), calls], [told, await hands.count("#history li.ofclick")]);
-        checks.same(`keep ${kept}: on the bench`, said.at(-1).split(" on")[0], told.length > 1 ? "No pieces lie" : "One piece lies");
-    }
-    await hands.press('input[value="both"]');
+    checks.same("parts that do not belong together", [(await words(hands))[1], await hands.printed(), await hands.run("desk.history.steps.length")],
+        ["The list of plane 1 of 2, one cut, is refused 26. The list has more than its limit, or its parts do not belong together. None of its cuts was made. No cut was made before it.", "cube 9 4 4\nrefused 5\n", 2]);
 }
 
 // the plane that is aimed at, planes that are written, the sides kept, and more pieces than a list has
@@ -220,5 +263,5 @@ async function checkOwn(checks, hands) {
 }
 
 export async function checkEvery(checks, hands) {
-    for (const part of [checkGrids, checkTold, checkStopped, checkNoneLeft, checkOwn]) await part(checks, hands);
+    for (const part of [checkGrids, checkTold, checkStopped, checkOwn]) await part(checks, hands);
 }

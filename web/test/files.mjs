@@ -10,7 +10,7 @@ import { checkAreasOf } from "./areas.mjs";
 import { Checks } from "./check.mjs";
 import { checkCalls } from "./close.mjs";
 import { checkColours } from "./colours.mjs";
-import { checkLists } from "./lists.mjs";
+import { checkLists } from "./every.mjs";
 import { checkSaved } from "./saved.mjs";
 import { checkSidesOf } from "./touch.mjs";
 
@@ -28,15 +28,6 @@ for (const name of built.filter(name => /\.(js|css|html)$/.test(name))) {
     const named = [...read(`target/web/${name}`).matchAll(/(?:from |src=|href=|fetched\()"(?:\.\/)?([^"]*)"/g)].map(([, other]) => other);
     checks.same(`${name} names only files beside it`, named.filter(other => !built.includes(other) && other !== "data:,"), []);
 }
-
-// docs/PAGE.md names each module once, and says how many edits there are; what a module gives out somebody takes
-const modules = sources.filter(name => name.endsWith(".js")).map(name => name.slice("web/".length));
-const page = read("docs/PAGE.md");
-const named = [...page.slice(page.indexOf("| Module |")).matchAll(/^\| (`.*`) \|/gm)].flatMap(([, names]) => [...names.matchAll(/`([^`]*)`/g)].map(([, name]) => name));
-checks.same("docs/PAGE.md names each module", named.sort(), modules.sort());
-checks.same("docs/PAGE.md counts the edits", /makes (\d+) edits/.exec(page)?.[1], String(read("web/test/mutants").match(/^try '/gm).length));
-const taken = new Set(sources.flatMap(name => [...read(name).matchAll(/import \{([^}]*)\} from/g)]).flatMap(([, names]) => names.split(",").map(one => one.trim().split(" ")[0])));
-for (const name of modules) checks.same(`${name} gives out only what is taken`, [...read(`web/${name}`).matchAll(/^export (?:async )?\S+ (\w+)/gm)].map(([, one]) => one).filter(one => !taken.has(one)), []);
 
 // the lesson is docs/LESSON.md, every session of it
 const text = read("docs/LESSON.md");

@@ -195,7 +195,7 @@ class Table:
         return self.cut(divider, PolytopeFate.KEEP, PolytopeFate.REMOVE, root)
 
     def slice(self, divider: Hyperplane, root: ElementId) -> ElementCutOutput:
-        """A cut that keeps what lies on either side. A piece that the plane misses, or only touches as here, is its old entry:
+        """A cut that keeps what lies on either side. A piece that the plane misses is its old entry:
 
         >>> square = Table.with_primordial_cube_radius(2, 1.0)
         >>> square.slice(Hyperplane((0.6, 0.8), 1.4), ElementId(8))
@@ -273,7 +273,7 @@ class Table:
         return self._list(ElementId, raw.greatest_common_subelements, (c_uint16 * len(numbers))(*numbers), len(numbers))
 
     def edges_in_order(self, root: ElementId) -> List[Tuple[VertexId, VertexId]]:
-        """The edges of a face in order, as pairs of vertices, round to the start. Refuses with 3, 4 or 6.
+        """The edges of a face in order, as pairs of vertices, round to the start. Refuses with 3, 4, 6 or 7.
 
         >>> square = Table.with_primordial_cube_radius(2, 1.0)
         >>> [(a.number, b.number) for a, b in square.edges_in_order(ElementId(8))]

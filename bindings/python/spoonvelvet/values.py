@@ -31,9 +31,7 @@ REFUSALS: Mapping[int, str] = {
 
 
 class Refused(Exception):
-    """A call was refused. It left the table as it came, but for a list of cuts that stopped: there the cuts before the refused one stay.
-
-    Its number is 1 to 13, 16, 25 or 26, as documents 01 and 02 have them.
+    """A call was refused, and left the table as it came. Its number is 1 to 13, 16, 25 or 26, as documents 01 and 02 have them.
 
     >>> print(Refused(4))
     refused 4: an element number is not in use
@@ -142,15 +140,7 @@ class Flush(ElementCutOutput):
 
 @dataclass(frozen=True)
 class NonFlush(ElementCutOutput):
-    """Three places, each an element or none. A side that is removed is none; the intersection is there either way.
-
-    An element given is an entry that was added, or an equal one that was there, such as the root where the plane misses it or only
-    touches it. A side is none, too, where nothing of the root is left there. The intersection is the face of the cut, one rank below the
-    root, and none where the plane meets the root in less than such a face: nowhere, or a square at a corner alone.
-
-    Two exceptions give a side also when it is removed: a root that is a vertex element is given on its side, and at an infinite distance
-    the root is given as inside (+) or as outside (-).
-    """
+    """Three places, each an element or none. A side that is removed is none; the intersection is there either way."""
 
     inside: Optional[ElementId]
     outside: Optional[ElementId]

@@ -2,11 +2,10 @@
 //!
 //! A [`Table`] is the room of one table. A cut does not make pieces: it adds entries to the table, and a piece that the
 //! plane misses is its old entry. Element, vertex and hyperplane numbers count three lists, so they are three types.
-//! Any number and float may be given. A refused call leaves the table as it came; a list of cuts that stops at a refused one keeps the
-//! cuts before it ([`Stopped`]). The answer of a cut warns of a plane that passes close by a corner ([`CutAnswer`]). [`Table::cut_all`]
-//! makes a list of cuts in one call, and [`Table::touch`] tells whether a plane touches a piece, without a cut. [`Table::areas`] gives the
-//! areas of flat pieces in exact numbers, and [`Table::stl`] a piece of three dimensions as a file for a printer. [`Table::save`] gives a
-//! table as its one file, and [`Table::open`] opens it.
+//! Any number and float may be given; a refused call leaves the table and the list as they came. The answer of a cut warns of a plane
+//! that passes close by a corner ([`CutAnswer`]). [`Table::cut_all`] makes a list of cuts in one call, and [`Table::touch`] tells whether
+//! a plane touches a piece, without a cut. [`Table::areas`] gives the areas of flat pieces in exact numbers, and [`Table::stl`] a piece of
+//! three dimensions as a file for a printer. [`Table::save`] gives a table as its one file, and [`Table::open`] opens it.
 //!
 //! ```
 //! use spoonvelvet::{ElementCutOutput, ElementId, Hyperplane, Refused, Table};

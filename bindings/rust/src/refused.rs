@@ -1,7 +1,6 @@
 //! Refusals: their numbers, as documents 01 and 02 have them, with a name and words for each.
 
-/// Why a call was refused. It left the table as it came, but for a list of cuts that stopped: the cuts before the refused one stay
-/// ([`Stopped`](crate::Stopped)).
+/// Why a call was refused. It left the table as it came.
 ///
 /// ```
 /// use spoonvelvet::{ElementId, Refused, Table};

@@ -47,7 +47,7 @@ impl fmt::Debug for Stopped {
 
 impl std::error::Error for Stopped {}
 
-/// For a caller that does not ask where. The cuts before the refused one stay all the same.
+/// For a caller that does not ask where.
 impl From<Stopped> for Refused {
     fn from(stopped: Stopped) -> Self {
         stopped.refused

@@ -134,7 +134,7 @@ impl Table {
         self.cut(divider, PolytopeFate::Keep, PolytopeFate::Remove, root)
     }
 
-    /// A cut that keeps what lies on either side. A piece that the plane misses, or only touches as here, is its old entry:
+    /// A cut that keeps what lies on either side. A piece that the plane misses is its old entry:
     ///
     /// ```
     /// # use spoonvelvet::{ElementCutOutput, ElementId, Hyperplane, Refused, Table};
@@ -237,7 +237,7 @@ impl Table {
         self.list(ElementId, |c, p, h, e, room| raw::greatest_common_subelements(c, p, h, e, &numbers, room))
     }
 
-    /// The edges of a face in order, as pairs of vertices, round to the start. Refuses with 4 or 6.
+    /// The edges of a face in order, as pairs of vertices, round to the start. Refuses with 4, 6 or 7.
     ///
     /// ```
     /// # use spoonvelvet::{ElementId, Refused, Table, VertexId};

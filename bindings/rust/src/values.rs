@@ -90,13 +90,11 @@ pub enum ElementCutOutput {
     Flush,
     /// Three places, each an element or none.
     NonFlush {
-        /// What lies inside: an entry that was added, or an equal one that was there, such as the root where the plane misses it or only
-        /// touches it. None where nothing of the element is left there, or that side is removed.
+        /// What lies inside: an entry that was added, or the root itself where the plane misses it.
         inside: Option<ElementId>,
         /// The same of what lies outside.
         outside: Option<ElementId>,
-        /// The face of the cut, one rank below the element: an entry that was added, or one that was there. None where the plane meets the
-        /// element in less than such a face: nowhere, or a square at a corner alone.
+        /// The face of the cut, where the two sides meet. None where the plane misses the element.
         intersection: Option<ElementId>,
     },
 }

@@ -34,7 +34,7 @@ fn a_cut_adds_entries() {
 }
 
 #[test]
-fn where_no_edge_is_crossed_a_piece_is_its_old_entry() {
+fn a_missed_piece_is_its_old_entry() {
     assert_eq!(cut(&mut square(), at_x(1.0), Keep, Remove, 8), (parts(Some(8), None, Some(7)), [9, 4, 5]));
     assert_eq!(cut(&mut square(), at_x(f64::INFINITY), Remove, Remove, 8), (parts(Some(8), None, None), [9, 4, 4]));
     let slanted = Hyperplane { normal: [0.6, 0.8, 0.0, 0.0], distance: 1.4 };

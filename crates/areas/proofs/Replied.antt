@@ -11,7 +11,7 @@ use Rattle.rules.specs.Memory.{sound_memory}
 use Rattle.rules.specs.Held.{Holds, memory_of}
 use Rattle.rules.specs.Questions.{Asked, no_answer, answer}
 use Rattle.rules.specs.Replies.{listed}
-use Rattle.rules.specs.Areas.{most_pieces, piece_on_grid, areas_reply}
+use Rattle.rules.specs.Areas.{most_pieces, piece_on_grid, sheet, areas_reply}
 use Rattle.rules.specs.declared.ListReply.{ListReply}
 use Rattle.rules.specs.declared.ListReply.TheVariants.{Refused, Listed}
 use Rattle.rules.proofs.AreaReplies.{sheet_by, few, used, flat, sheet_by_lem}

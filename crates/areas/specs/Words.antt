@@ -7,7 +7,7 @@ use Rattle.rules.specs.Lists.{if◌then◌else◌, all}
 use Rattle.rules.specs.Floats.{within, farthest}
 use Rattle.rules.specs.Questions.{Asked, no_answer, answer}
 use Rattle.rules.specs.Areas.{most_pieces, on_grid, units, turn, sizes}
-use Rattle.space.specs.Numbers.{row_width, point_slice, element_slice}
+use Rattle.space.specs.Numbers.{point_slice, row_width}
 use Rattle.walk.specs.Boundaries.{row_boundary}
 use Rattle.walk.specs.Walks.{words_in_order, FaceFits}
 
@@ -15,10 +15,10 @@ use Rattle.walk.specs.Walks.{words_in_order, FaceFits}
 
 -- its coordinates along axes 0 and 1
 abbrev pub first_of : List Float → ℕ → Float
-first_of ps v = slice_index_or ps (v * desk.dimensions) nan
+first_of ps v = slice_index_or ps (v * 4) nan
 
 abbrev pub second_of : List Float → ℕ → Float
-second_of ps v = slice_index_or ps (v * desk.dimensions + 1) nan
+second_of ps v = slice_index_or ps (v * 4 + 1) nan
 
 abbrev pub corner_on_grid : List Float → ℕ → Bool
 corner_on_grid ps v = on_grid (first_of ps v) && on_grid (second_of ps v)
@@ -72,9 +72,9 @@ pub record CornersFit (ps : List Float) (ns : List ℕ) (n : ℕ) : Type 0 where
   pub long : n ≤ length ns
   pub each : (i : ℕ) → i < n → CornerFits ps (slice_index ns i)
 
--- and of n steps, no more than a boundary has numbers
+-- and of n steps, at most 32
 pub record StepsFit (ps : List Float) (ns : List ℕ) (n : ℕ) : Type 0 where
-  pub few : n ≤ desk.boundary
+  pub few : n ≤ 32
   pub corners : CornersFit ps ns (2 * n)
 
 -- a face that can be walked, with such vertices
@@ -89,7 +89,7 @@ pub record PiecesFit (ps : List Float) (es : List ℕ) (fs : List ℕ) : Type 0 
 
 -- every piece's row is within the room
 pub record PiecesUsed (es : List ℕ) (fs : List ℕ) : Type 0 where
-  pub elements : length es ≡ element_slice
+  pub elements : length es ≡ desk.elements * row_width
   pub each : (i : ℕ) → i < length fs → slice_index fs i < desk.elements
 
 -- and there is room for their sheet

@@ -2,7 +2,7 @@
 pub mod grid;
 pub mod piece;
 
-ghost use Rattle.std.specs.Prelude.{◌≡◌, map, pos, unsigned_abs};
+ghost use Rattle.std.specs.Prelude.{◌≡◌, map, pos, nat_lt, unsigned_abs};
 ghost use Rattle.std.proofs.lemmas.List.Edits.{sets};
 ghost use Rattle.rules.specs.Limits.{desk};
 ghost use Rattle.rules.specs.Lists.{all};
@@ -13,12 +13,22 @@ ghost use Rattle.areas.specs.Words.{word_area, words_on_grid, word_sheet, sheet_
 
 use crate::piece::{is_piece_on_grid, twice_area};
 use rules::{ElementId, ListReply};
-use soundness::asked::all_used;
 use soundness::sound::memory_sound;
 use space::rows;
 use space::words::wide;
 
 const MOST_PIECES: usize = 16;
+
+fn are_in_use(n: usize, pieces: &[u16]) -> bool
+    ensures { result ≡ all (λ f. nat_lt f n) pieces.now }
+{
+    for i in 0..pieces.len() {
+        if n <= wide(pieces[i]) {
+            return false;
+        }
+    }
+    true
+}
 
 fn are_faces(elements: &[u16], pieces: &[u16]) -> bool
     requires { PiecesUsed elements.now pieces.now }
@@ -112,7 +122,7 @@ pub fn areas(
     if MOST_PIECES < pieces.len() {
         return ListReply::Refused(26);
     }
-    if !all_used(pieces, counts[1]) {
+    if !are_in_use(wide(counts[1]), pieces) {
         return ListReply::Refused(4);
     }
     if counts[0] != 2 {

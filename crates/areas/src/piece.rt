@@ -7,11 +7,11 @@ use crate::grid::{is_on_grid, units_of};
 use rules::{ElementId, VertexId};
 use space::memo::read_point;
 use space::rows;
-use space::words::{BOUNDARY, wide};
+use space::words::wide;
 use walk::walk_face;
 
-// Two vertex numbers for each edge of a walk.
-const WALK: usize = 2 * BOUNDARY;
+// Two vertex numbers for each of at most 32 edges.
+const WALK: usize = 64;
 
 fn is_corner_on_grid(points: &[f64], v: VertexId) -> bool
     requires { CornerFits points.now v.0 }

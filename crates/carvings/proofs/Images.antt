@@ -126,6 +126,9 @@ image_agree f f' n h (x ∷ xs) b = ap₂ with_member (h x b.0) (image_agree f f
 pub image_same : (s : List ℕ) → rises s ≡ true → image (λ x. x) s ≡ s
 image_same s h = same_members (image (λ x. x) s) s (rises_image (λ x. x) s) h (λ y. any_image (λ x. x) (eqb y) s)
 
+pub image_fixed : (f : ℕ → ℕ) (n : ℕ) → ((e : ℕ) → e < n → f e ≡ e) → (s : List ℕ) → Below n s → rises s ≡ true → image f s ≡ s
+image_fixed f n h s b r = image_agree (λ x. x) f n h s b ∙ image_same s r
+
 module _ (f : ℕ → ℕ) (n : ℕ) (once : (e e' : ℕ) → e < n → e' < n → f e ≡ f e' → e ≡ e') where
   -- no later member of a set goes where the first goes
   pub image_new : (x : ℕ) (xs : List ℕ) → rises (x ∷ xs) ≡ true → Below n (x ∷ xs) → member (f x) (image f xs) ≡ false

@@ -16,7 +16,7 @@ use Rattle.rules.specs.Limits.{desk, no_plane}
 use Rattle.rules.specs.Lists.{if◌then◌else◌, pad, up_to, keep}
 use Rattle.rules.specs.Floats.{plus_zero, one}
 use Rattle.rules.specs.Table.{Element, corner, polytope, boundary_of, primordials}
-use Rattle.rules.specs.Memory.{element_row, plane_width, plane_row, plane_named}
+use Rattle.rules.specs.Memory.{element_row, plane_row, plane_named}
 use Rattle.rules.specs.Cube.{digits, of_digits, faces, twos, is_vertex, is_facet, chosen, cube_element, cube_point, facet_normal, facet_plane, cube}
 use Rattle.rules.specs.Held.{laid, Wide, element_words, memory_of, counts_of, points_of, planes_of, elements_of}
 use Rattle.rules.proofs.Counting.{before, before_less, up_to_suc, length_up}
@@ -27,7 +27,6 @@ use Rattle.rules.proofs.CubeFaces.{face_numbers, faces_known}
 use Rattle.rules.proofs.Laws.{not_eq, test_eq}
 use Rattle.rules.proofs.Growing.{keep_append}
 use Rattle.hypermath.proofs.Filling.{fill_next}
-use Rattle.space.specs.Numbers.{row_width, point_slice, plane_slice, element_slice}
 use Rattle.cube.specs.Cubes.{FacesSoFar, coordinate_at, component_at}
 use Rattle.cube.specs.Writing.{cube_elements, cube_points, cube_planes, CornerPut, FacetPut, CubePut}
 use Rattle.space.specs.Shared.{four, five, row_of}
@@ -45,10 +44,10 @@ faces_twice d e f g = g.size ∙ (faces_known (digits d e) (digit_low d e)).coun
 pub rank_half : (d e : ℕ) (f : Faces) → FacesSoFar f (map of_digits (faces (digits d e))) → f.n / 2 ≡ twos (digits d e)
 rank_half d e f g = let h = faces_twice d e f g in omega (arith, h)
 
-pub rank_low : (d e : ℕ) → d ≤ desk.dimensions → twos (digits d e) < desk.dimensions + 1
+pub rank_low : (d e : ℕ) → d ≤ 4 → twos (digits d e) < 5
 rank_low d e l = let h = twos_length (digits d e) in let k = digits_length d e in omega (arith, h, k)
 
-pub faces_few : (d e : ℕ) (f : Faces) → d ≤ desk.dimensions → FacesSoFar f (map of_digits (faces (digits d e))) → f.n ≤ 2 * desk.dimensions
+pub faces_few : (d e : ℕ) (f : Faces) → d ≤ 4 → FacesSoFar f (map of_digits (faces (digits d e))) → f.n ≤ 8
 faces_few d e f l g = let h = faces_twice d e f g in let k = rank_low d e l in omega (arith, h, k)
 
 pub facet_no : (d e r : ℕ) → r ≡ twos (digits d e) → r ≡ 0 → false ≡ is_facet (digits d e)
@@ -61,15 +60,15 @@ facet_is d e r q z =
 
 -- ---- the room for corners and facets
 
-pub corner_room : (d e : ℕ) → d ≤ desk.dimensions → e < 3 ^ d → is_vertex (digits d e) ≡ true → length (chosen is_vertex d e) < 2 ^ desk.dimensions + 1
+pub corner_room : (d e : ℕ) → d ≤ 4 → e < 3 ^ d → is_vertex (digits d e) ≡ true → length (chosen is_vertex d e) < 17
 unfolding before
 corner_room d e low l p =
     let h = before_less (λ n. is_vertex (digits d n)) e (3 ^ d) p l in
     let t = vertex_tally d in
-    let m : 2 ^ d ≤ 2 ^ desk.dimensions = pow-le-pow_right (let q : 0 < 2 = omega arith in q) low in
+    let m : 2 ^ d ≤ 2 ^ 4 = pow-le-pow_right (let q : 0 < 2 = omega arith in q) low in
     omega (arith, h, t, m)
 
-pub facet_room : (d e : ℕ) → d ≤ desk.dimensions → e < 3 ^ d → is_facet (digits d e) ≡ true → length (chosen is_facet d e) < 2 * desk.dimensions + 1
+pub facet_room : (d e : ℕ) → d ≤ 4 → e < 3 ^ d → is_facet (digits d e) ≡ true → length (chosen is_facet d e) < 9
 unfolding before
 facet_room d e low l p =
     let h = before_less (λ n. is_facet (digits d n)) e (3 ^ d) p l in
@@ -77,7 +76,7 @@ facet_room d e low l p =
     let m = few d low in
     omega (arith, h, t, m)
   where
-    few : (d : ℕ) → d ≤ desk.dimensions → primordials d ≤ 2 * desk.dimensions
+    few : (d : ℕ) → d ≤ 4 → primordials d ≤ 8
     few zero l = omega arith
     few (suc zero) l = omega arith
     few (suc (suc d)) l = omega (arith, l)
@@ -110,9 +109,9 @@ row_polytope d e f h b p q g n =
     xs = map of_digits (faces (digits d e))
 
     list : take f.n f.list ≡ xs
-    list = ap₂ take g.size g.list ∙ take-append_seam xs (replicate (desk.boundary + 2 - length xs) 0)
+    list = ap₂ take g.size g.list ∙ take-append_seam xs (replicate (34 - length xs) 0)
 
-pub facet_named : (h n : ℕ) → h ≡ n → n < 2 * desk.dimensions + 1 → plane_named h ≡ some n
+pub facet_named : (h n : ℕ) → h ≡ n → n < 9 → plane_named h ≡ some n
 facet_named h n q l = ap plane_named q ∙ ap (λ (b : Bool). if b then none else some n) (not_eq n no_plane (λ e. let z : ⊥ = omega (arith, l, e) in z))
 
 -- ---- floats worked out of digits
@@ -122,16 +121,16 @@ component_plus k h g = ap₂ (λ (a b : Bool). if a then plus_zero else if b the
 
 -- the axes so far are worked out, and the others are zeros
 abbrev pub worked : (ℕ → Float) → List ℕ → ℕ → List Float
-worked f ds axis = pad plus_zero desk.dimensions (map f (take axis ds))
+worked f ds axis = pad plus_zero 4 (map f (take axis ds))
 
-pub worked_next : (f : ℕ → Float) (d e axis : ℕ) (ks : List ℕ) (p : List Float) (x : Float) → d ≤ desk.dimensions → axis < d → ks ≡ pad 0 desk.dimensions (digits d e) → p ≡ worked f (digits d e) axis → x ≡ f (get_or ks axis 0)
+pub worked_next : (f : ℕ → Float) (d e axis : ℕ) (ks : List ℕ) (p : List Float) (x : Float) → d ≤ 4 → axis < d → ks ≡ pad 0 4 (digits d e) → p ≡ worked f (digits d e) axis → x ≡ f (get_or ks axis 0)
     → set p axis x ≡ worked f (digits d e) (axis + 1)
 worked_next f d e axis ks p x low l read q v =
     ap₂ (λ (r : List Float) (y : Float). set r axis y) q (v ∙ ap f digit)
     ∙ ap (λ (i : ℕ). set (worked f ds axis) i (f (get_or ds axis 0))) (sym here)
-    ∙ fill_next plus_zero desk.dimensions (map f (take axis ds)) (f (get_or ds axis 0)) (omega (arith, here))
-    ∙ ap (pad plus_zero desk.dimensions) (sym (map_append f (take axis ds) (get_or ds axis 0 ∷ [])))
-    ∙ ap (λ (r : List ℕ). pad plus_zero desk.dimensions (map f r)) (sym (take-suc ds axis 0 in_use_lem) ∙ ap (λ (i : ℕ). take i ds) (sym (add-one axis)))
+    ∙ fill_next plus_zero 4 (map f (take axis ds)) (f (get_or ds axis 0)) (omega (arith, here))
+    ∙ ap (pad plus_zero 4) (sym (map_append f (take axis ds) (get_or ds axis 0 ∷ [])))
+    ∙ ap (λ (r : List ℕ). pad plus_zero 4 (map f r)) (sym (take-suc ds axis 0 in_use_lem) ∙ ap (λ (i : ℕ). take i ds) (sym (add-one axis)))
   where
     ds : List ℕ
     ds = digits d e
@@ -143,11 +142,11 @@ worked_next f d e axis ks p x low l read q v =
     here = length-map (take axis ds) f ∙ length-take-le axis ds (omega (arith, in_use_lem))
 
     digit : get_or ks axis 0 ≡ get_or ds axis 0
-    digit = ap (λ (l : List ℕ). get_or l axis 0) read ∙ get_or-append ds (replicate (desk.dimensions - length ds) 0) 0 axis in_use_lem
+    digit = ap (λ (l : List ℕ). get_or l axis 0) read ∙ get_or-append ds (replicate (4 - length ds) 0) 0 axis in_use_lem
 
-pub worked_end : (f : ℕ → Float) (d e axis : ℕ) (p : List Float) → axis ≡ d → p ≡ worked f (digits d e) axis → p ≡ pad plus_zero desk.dimensions (map f (digits d e))
+pub worked_end : (f : ℕ → Float) (d e axis : ℕ) (p : List Float) → axis ≡ d → p ≡ worked f (digits d e) axis → p ≡ pad plus_zero 4 (map f (digits d e))
 worked_end f d e axis p h q =
-    q ∙ ap (λ (i : ℕ). worked f (digits d e) i) (h ∙ sym (digits_length d e)) ∙ ap (λ (l : List ℕ). pad plus_zero desk.dimensions (map f l)) (take-length (digits d e))
+    q ∙ ap (λ (i : ℕ). worked f (digits d e) i) (h ∙ sym (digits_length d e)) ∙ ap (λ (l : List ℕ). pad plus_zero 4 (map f l)) (take-length (digits d e))
 
 -- ---- one element more
 
@@ -177,22 +176,22 @@ module _ {A B : Type 0} (z : B) (w room : ℕ) (f : A → List B) (g : ℕ → A
 
 -- ---- elements
 
-short_row : (x : Element) → length (boundary_of x) ≤ desk.boundary → length (element_row x) ≤ row_width
+short_row : (x : Element) → length (boundary_of x) ≤ 32 → length (element_row x) ≤ 36
 unfolding element_row
 short_row (corner v) h = omega arith
 short_row (polytope r b o m) h = omega (arith, h)
 
-pub elements_next : (d e : ℕ) (es row : List ℕ) → d ≤ desk.dimensions → e < 3 ^ desk.dimensions + 1 → es ≡ cube_elements d e → row ≡ element_words desk (cube_element d e) → sets es (e * row_width) row ≡ cube_elements d (e + 1)
+pub elements_next : (d e : ℕ) (es row : List ℕ) → d ≤ 4 → e < 82 → es ≡ cube_elements d e → row ≡ element_words desk (cube_element d e) → sets es (e * 36) row ≡ cube_elements d (e + 1)
 elements_next d e es row low few q r =
-    ap (λ (l : List ℕ). sets l (e * row_width) row) q
-    ∙ ap (λ (n : ℕ). sets (cube_elements d e) (n * row_width) row) (sym (length_up 0 e))
-    ∙ sym (put_behind 0 row_width element_slice (element_words desk) (cube_element d) long (up_to e) e row r (let s = length_up 0 e in omega (arith, s)))
-    ∙ ap (λ (l : List ℕ). laid 0 element_slice (element_words desk) (map (cube_element d) l)) (sym (up_to_suc e) ∙ ap up_to (sym (add-one e)))
+    ap (λ (l : List ℕ). sets l (e * 36) row) q
+    ∙ ap (λ (n : ℕ). sets (cube_elements d e) (n * 36) row) (sym (length_up 0 e))
+    ∙ sym (put_behind 0 36 18432 (element_words desk) (cube_element d) long (up_to e) e row r (let s = length_up 0 e in omega (arith, s)))
+    ∙ ap (λ (l : List ℕ). laid 0 18432 (element_words desk) (map (cube_element d) l)) (sym (up_to_suc e) ∙ ap up_to (sym (add-one e)))
   where
-    long : (n : ℕ) → length (element_words desk (cube_element d n)) ≡ row_width
-    long n = length_padded 0 row_width (element_row (cube_element d n)) (short_row (cube_element d n) (fits n))
+    long : (n : ℕ) → length (element_words desk (cube_element d n)) ≡ 36
+    long n = length_padded 0 36 (element_row (cube_element d n)) (short_row (cube_element d n) (fits n))
       where
-        fits : (n : ℕ) → length (boundary_of (cube_element d n)) ≤ desk.boundary
+        fits : (n : ℕ) → length (boundary_of (cube_element d n)) ≤ 32
         fits n =
             let b = ap length (boundary_of_lem d n) in
             let c = (faces_known (digits d n) (digit_low d n)).count in
@@ -201,57 +200,55 @@ elements_next d e es row low few q r =
 
 -- ---- points
 
-module _ (d : ℕ) (radius : Float) (low : d ≤ desk.dimensions) where
-  point_long : (n : ℕ) → length (pad plus_zero desk.dimensions (cube_point radius (digits d n))) ≡ desk.dimensions
+module _ (d : ℕ) (radius : Float) (low : d ≤ 4) where
+  point_long : (n : ℕ) → length (pad plus_zero 4 (cube_point radius (digits d n))) ≡ 4
   unfolding cube_point
-  point_long n = length_padded plus_zero desk.dimensions (cube_point radius (digits d n)) (let a = length-map (digits d n) (coordinate_at radius) in let b = digits_length d n in omega (arith, a, b))
+  point_long n = length_padded plus_zero 4 (cube_point radius (digits d n)) (let a = length-map (digits d n) (coordinate_at radius) in let b = digits_length d n in omega (arith, a, b))
 
-  pub corner_put : (e v : ℕ) (ps p ps' : List Float) → e < 3 ^ d → is_vertex (digits d e) ≡ true → v ≡ length (chosen is_vertex d e)
-      → p ≡ pad plus_zero desk.dimensions (cube_point radius (digits d e)) → ps' ≡ sets ps (v * desk.dimensions) (four p) → CornerPut d radius e ps (v + 1) ps'
+  pub corner_put : (e v : ℕ) (ps p ps' : List Float) → e < 3 ^ d → is_vertex (digits d e) ≡ true → v ≡ length (chosen is_vertex d e) → p ≡ pad plus_zero 4 (cube_point radius (digits d e)) → ps' ≡ sets ps (v * 4) (four p)
+      → CornerPut d radius e ps (v + 1) ps'
   corner_put e v ps p ps' l c q r s = record {
     count = let m = ap length (chosen_more is_vertex d e c) ∙ length-append (chosen is_vertex d e) (e ∷ []) in omega (arith, m, q);
     points = λ before. s
-        ∙ ap₂ (λ (a : List Float) (n : ℕ). sets a (n * desk.dimensions) (four p)) before q
-        ∙ sym (put_behind plus_zero desk.dimensions point_slice (pad plus_zero desk.dimensions) (λ n. cube_point radius (digits d n)) point_long (chosen is_vertex d e) e (four p)
-        (four_is p (ap length r ∙ point_long e) ∙ r) (let m = corner_room d e low l c in omega (arith, m)))
-        ∙ ap (λ (a : List ℕ). laid plus_zero point_slice (pad plus_zero desk.dimensions) (map (λ n. cube_point radius (digits d n)) a)) (sym (chosen_more is_vertex d e c));
+        ∙ ap₂ (λ (a : List Float) (n : ℕ). sets a (n * 4) (four p)) before q
+        ∙ sym (put_behind plus_zero 4 1024 (pad plus_zero 4) (λ n. cube_point radius (digits d n)) point_long (chosen is_vertex d e) e (four p) (four_is p (ap length r ∙ point_long e) ∙ r) (let m = corner_room d e low l c in omega (arith, m)))
+        ∙ ap (λ (a : List ℕ). laid plus_zero 1024 (pad plus_zero 4) (map (λ n. cube_point radius (digits d n)) a)) (sym (chosen_more is_vertex d e c));
   }
 
   pub corner_none : (e v : ℕ) (ps : List Float) → is_vertex (digits d e) ≡ false → v ≡ length (chosen is_vertex d e) → CornerPut d radius e ps v ps
   corner_none e v ps c q = record {
     count = q ∙ ap length (sym (chosen_kept is_vertex d e c));
-    points = λ before. before ∙ ap (λ (a : List ℕ). laid plus_zero point_slice (pad plus_zero desk.dimensions) (map (λ n. cube_point radius (digits d n)) a)) (sym (chosen_kept is_vertex d e c));
+    points = λ before. before ∙ ap (λ (a : List ℕ). laid plus_zero 1024 (pad plus_zero 4) (map (λ n. cube_point radius (digits d n)) a)) (sym (chosen_kept is_vertex d e c));
   }
 
   -- ---- hyperplanes
 
-  normal_long : (n : ℕ) → length (pad plus_zero desk.dimensions (facet_normal (digits d n))) ≡ desk.dimensions
+  normal_long : (n : ℕ) → length (pad plus_zero 4 (facet_normal (digits d n))) ≡ 4
   unfolding facet_normal
-  normal_long n = length_padded plus_zero desk.dimensions (facet_normal (digits d n)) (let a = length-map (digits d n) component_at in let b = digits_length d n in omega (arith, a, b))
+  normal_long n = length_padded plus_zero 4 (facet_normal (digits d n)) (let a = length-map (digits d n) component_at in let b = digits_length d n in omega (arith, a, b))
 
-  plane_long : (n : ℕ) → length (plane_row desk (facet_plane radius (digits d n))) ≡ plane_width desk
+  plane_long : (n : ℕ) → length (plane_row desk (facet_plane radius (digits d n))) ≡ 5
   unfolding plane_row facet_plane
-  plane_long n = let a = length-append (pad plus_zero desk.dimensions (facet_normal (digits d n))) (radius ∷ []) in let b = normal_long n in omega (arith, a, b)
+  plane_long n = let a = length-append (pad plus_zero 4 (facet_normal (digits d n))) (radius ∷ []) in let b = normal_long n in omega (arith, a, b)
 
-  row_is : (n : ℕ) (normal : List Float) → normal ≡ pad plus_zero desk.dimensions (facet_normal (digits d n)) → row_of (record { normal = normal; distance = radius }) ≡ plane_row desk (facet_plane radius (digits d n))
+  row_is : (n : ℕ) (normal : List Float) → normal ≡ pad plus_zero 4 (facet_normal (digits d n)) → row_of (record { normal = normal; distance = radius }) ≡ plane_row desk (facet_plane radius (digits d n))
   unfolding plane_row facet_plane
   row_is n normal q = ap (λ (l : List Float). l ++ radius ∷ []) (four_is normal (ap length q ∙ normal_long n) ∙ q)
 
-  pub facet_put : (e k : ℕ) (hs normal row hs' : List Float) → e < 3 ^ d → is_facet (digits d e) ≡ true → k ≡ length (chosen is_facet d e) → normal ≡ pad plus_zero desk.dimensions (facet_normal (digits d e))
-      → row ≡ row_of (record { normal = normal; distance = radius }) → hs' ≡ sets hs (k * plane_width desk) (five row) → FacetPut d radius e hs (k + 1) hs'
+  pub facet_put : (e k : ℕ) (hs normal row hs' : List Float) → e < 3 ^ d → is_facet (digits d e) ≡ true → k ≡ length (chosen is_facet d e) → normal ≡ pad plus_zero 4 (facet_normal (digits d e))
+      → row ≡ row_of (record { normal = normal; distance = radius }) → hs' ≡ sets hs (k * 5) (five row) → FacetPut d radius e hs (k + 1) hs'
   facet_put e k hs normal row hs' l c q r w s = record {
     count = let m = ap length (chosen_more is_facet d e c) ∙ length-append (chosen is_facet d e) (e ∷ []) in omega (arith, m, q);
     planes = λ before. s
-        ∙ ap₂ (λ (a : List Float) (n : ℕ). sets a (n * plane_width desk) (five row)) before q
-        ∙ sym (put_behind plus_zero (plane_width desk) plane_slice (plane_row desk) (λ n. facet_plane radius (digits d n)) plane_long (chosen is_facet d e) e (five row)
-        (ap five w ∙ row_is e normal r) (let m = facet_room d e low l c in omega (arith, m)))
-        ∙ ap (λ (a : List ℕ). laid plus_zero plane_slice (plane_row desk) (map (λ n. facet_plane radius (digits d n)) a)) (sym (chosen_more is_facet d e c));
+        ∙ ap₂ (λ (a : List Float) (n : ℕ). sets a (n * 5) (five row)) before q
+        ∙ sym (put_behind plus_zero 5 320 (plane_row desk) (λ n. facet_plane radius (digits d n)) plane_long (chosen is_facet d e) e (five row) (ap five w ∙ row_is e normal r) (let m = facet_room d e low l c in omega (arith, m)))
+        ∙ ap (λ (a : List ℕ). laid plus_zero 320 (plane_row desk) (map (λ n. facet_plane radius (digits d n)) a)) (sym (chosen_more is_facet d e c));
   }
 
   pub facet_none : (e k : ℕ) (hs : List Float) → is_facet (digits d e) ≡ false → k ≡ length (chosen is_facet d e) → FacetPut d radius e hs k hs
   facet_none e k hs c q = record {
     count = q ∙ ap length (sym (chosen_kept is_facet d e c));
-    planes = λ before. before ∙ ap (λ (a : List ℕ). laid plus_zero plane_slice (plane_row desk) (map (λ n. facet_plane radius (digits d n)) a)) (sym (chosen_kept is_facet d e c));
+    planes = λ before. before ∙ ap (λ (a : List ℕ). laid plus_zero 320 (plane_row desk) (map (λ n. facet_plane radius (digits d n)) a)) (sym (chosen_kept is_facet d e c));
   }
 
 -- ---- counts

@@ -10,7 +10,6 @@ use native.Mathlib.Omega.{arith}
 use lib.Dec.{eqb}
 use lib.ListN.{length, get_or, set, take, drop, replicate, length-append, length-drop, length-map, get_or-append}
 use lib.Seq.{take-suc, drop-cons, drop-length, length-take-le, take-length, split_at}
-use Rattle.rules.specs.Limits.{desk}
 use Rattle.rules.specs.Lists.{if◌then◌else◌, pad}
 use Rattle.rules.specs.Cube.{digits, of_digits, faces}
 use Rattle.rules.proofs.CubeDigits.{digits_length, of_digits_lem}
@@ -25,20 +24,20 @@ use Rattle.space.proofs.Laid.{map_append}
 
 -- the digits so far are in the front, and the remaining ones are those of what is left of the number
 pub record Reading (d e : ℕ) (axis : ℕ) (ks : List ℕ) (rest : ℕ) : Type 0 where
-  pub read : ks ≡ pad 0 desk.dimensions (take axis (digits d e))
+  pub read : ks ≡ pad 0 4 (take axis (digits d e))
   pub left : drop axis (digits d e) ≡ digits (d - axis) rest
 
 pub reading_start : (d e : ℕ) → Reading d e 0 (0 ∷ 0 ∷ 0 ∷ 0 ∷ []) e
 reading_start d e = record { read = refl; left = ap (λ (m : ℕ). digits m e) (let q : d ≡ d - 0 = omega arith in q) }
 
-pub reading_next : (d e axis : ℕ) (ks : List ℕ) (rest : ℕ) → d ≤ desk.dimensions → axis < d → Reading d e axis ks rest → Reading d e (axis + 1) (set ks axis (rest % 3)) (rest / 3)
+pub reading_next : (d e axis : ℕ) (ks : List ℕ) (rest : ℕ) → d ≤ 4 → axis < d → Reading d e axis ks rest → Reading d e (axis + 1) (set ks axis (rest % 3)) (rest / 3)
 reading_next d e axis ks rest low h r = record {
   read =
       ap (λ (l : List ℕ). set l axis (rest % 3)) r.read
-      ∙ ap (λ (i : ℕ). set (pad 0 desk.dimensions (take axis ds)) i (rest % 3)) (sym here)
-      ∙ fill_next 0 desk.dimensions (take axis ds) (rest % 3) (omega (arith, here))
-      ∙ ap (λ (k : ℕ). pad 0 desk.dimensions (take axis ds ++ k ∷ [])) (sym digit)
-      ∙ ap (pad 0 desk.dimensions) (sym (take-suc ds axis 0 in_use_lem) ∙ ap (λ (k : ℕ). take k ds) (sym (add-one axis)));
+      ∙ ap (λ (i : ℕ). set (pad 0 4 (take axis ds)) i (rest % 3)) (sym here)
+      ∙ fill_next 0 4 (take axis ds) (rest % 3) (omega (arith, here))
+      ∙ ap (λ (k : ℕ). pad 0 4 (take axis ds ++ k ∷ [])) (sym digit)
+      ∙ ap (pad 0 4) (sym (take-suc ds axis 0 in_use_lem) ∙ ap (λ (k : ℕ). take k ds) (sym (add-one axis)));
   left = ap (λ (k : ℕ). drop k ds) (add-one axis) ∙ ap tail_of (sym (drop-cons ds axis 0 in_use_lem) ∙ parts) ∙ ap (λ (m : ℕ). digits m (rest / 3)) (let q : d - suc axis ≡ d - (axis + 1) = omega arith in q);
 }
   where
@@ -68,15 +67,15 @@ reading_next d e axis ks rest low h r = record {
     digit : get_or ds axis 0 ≡ rest % 3
     digit = ap head_of (sym (drop-cons ds axis 0 in_use_lem) ∙ parts)
 
-pub reading_end : (d e axis : ℕ) (ks : List ℕ) (rest : ℕ) → axis ≡ d → Reading d e axis ks rest → ks ≡ pad 0 desk.dimensions (digits d e)
+pub reading_end : (d e axis : ℕ) (ks : List ℕ) (rest : ℕ) → axis ≡ d → Reading d e axis ks rest → ks ≡ pad 0 4 (digits d e)
 reading_end d e axis ks rest h r =
     r.read
-    ∙ ap (λ (k : ℕ). pad 0 desk.dimensions (take k (digits d e))) (h ∙ sym (digits_length d e))
-    ∙ ap (pad 0 desk.dimensions) (take-length (digits d e))
+    ∙ ap (λ (k : ℕ). pad 0 4 (take k (digits d e))) (h ∙ sym (digits_length d e))
+    ∙ ap (pad 0 4) (take-length (digits d e))
 
 -- ---- powers of 3
 
-pub power_low : (i : ℕ) → i ≤ desk.dimensions → 3 ^ i ≤ 3 ^ desk.dimensions
+pub power_low : (i : ℕ) → i ≤ 4 → 3 ^ i ≤ 81
 power_low i h = pow-le-pow_right (let q : 0 < 3 = omega arith in q) h
 
 -- ---- faces, from the highest axis down
@@ -146,7 +145,7 @@ pub across_none : (f : Faces) (k e step : ℕ) → eqb k 2 ≡ false → FacesMo
 across_none f k e step q = record { of = λ xs g. subst (FacesSoFar f) (sym (ap (λ (l : List ℕ). xs ++ l) (ap (λ (b : Bool). if b then (e - 2 * step) ∷ (e - step) ∷ [] else []) q) ∙ append-nil xs)) g }
 
 -- a spanned one adds two
-pub across_two : (f : Faces) (k e step : ℕ) → f.n < desk.boundary - 1 → eqb k 2 ≡ true → FacesMore f k e step (record { list = set (set f.list f.n (e - 2 * step)) (f.n + 1) (e - step); n = f.n + 2 })
+pub across_two : (f : Faces) (k e step : ℕ) → f.n < 31 → eqb k 2 ≡ true → FacesMore f k e step (record { list = set (set f.list f.n (e - 2 * step)) (f.n + 1) (e - step); n = f.n + 2 })
 across_two f k e step low q = record { of = λ xs g. subst (FacesSoFar _) (sym (ap (λ (l : List ℕ). xs ++ l) (ap (λ (b : Bool). if b then (e - 2 * step) ∷ (e - step) ∷ [] else []) q))) (made xs g) }
   where
     made : (xs : List ℕ) → FacesSoFar f xs → FacesSoFar (record { list = set (set f.list f.n (e - 2 * step)) (f.n + 1) (e - step); n = f.n + 2 }) (xs ++ (e - 2 * step) ∷ (e - step) ∷ [])
@@ -157,10 +156,10 @@ across_two f k e step low q = record { of = λ xs g. subst (FacesSoFar _) (sym (
           size = let z = length-append xs ((e - 2 * step) ∷ (e - step) ∷ []) in omega (arith, s, z);
           list =
               ap₂ (λ (l : List ℕ) (n : ℕ). set (set l n (e - 2 * step)) (n + 1) (e - step)) g.list s
-              ∙ ap (λ (l : List ℕ). set l (length xs + 1) (e - step)) (fill_next 0 (desk.boundary + 2) xs (e - 2 * step) (omega (arith, s, low)))
-              ∙ ap (λ (n : ℕ). set (pad 0 (desk.boundary + 2) (xs ++ (e - 2 * step) ∷ [])) n (e - step)) (add-one (length xs) ∙ sym one)
-              ∙ fill_next 0 (desk.boundary + 2) (xs ++ (e - 2 * step) ∷ []) (e - step) (omega (arith, s, low, one))
-              ∙ ap (pad 0 (desk.boundary + 2)) (append_assoc xs ((e - 2 * step) ∷ []) ((e - step) ∷ []));
+              ∙ ap (λ (l : List ℕ). set l (length xs + 1) (e - step)) (fill_next 0 34 xs (e - 2 * step) (omega (arith, s, low)))
+              ∙ ap (λ (n : ℕ). set (pad 0 34 (xs ++ (e - 2 * step) ∷ [])) n (e - step)) (add-one (length xs) ∙ sym one)
+              ∙ fill_next 0 34 (xs ++ (e - 2 * step) ∷ []) (e - step) (omega (arith, s, low, one))
+              ∙ ap (pad 0 34) (append_assoc xs ((e - 2 * step) ∷ []) ((e - step) ∷ []));
         }
 
 faces_short : (ks : List ℕ) → length (faces ks) ≤ 2 * length ks
@@ -178,12 +177,12 @@ faces_short (k ∷ ks) =
 
 -- the digits are read, the faces across the axes from one on are gathered, and that axis has its step
 pub record Descending (d e : ℕ) (ks : List ℕ) (f : Faces) (step axis : ℕ) : Type 0 where
-  pub read : ks ≡ pad 0 desk.dimensions (digits d e)
+  pub read : ks ≡ pad 0 4 (digits d e)
   pub number : of_digits (digits d e) ≡ e
   pub power : step ≡ 3 ^ axis
   pub gathered : FacesSoFar f (faces_from (digits d e) axis)
 
-pub descend_start : (d e : ℕ) (ks : List ℕ) (step : ℕ) → e < 3 ^ d → ks ≡ pad 0 desk.dimensions (digits d e) → step ≡ 3 ^ d → Descending d e ks (record { list = replicate (desk.boundary + 2) 0; n = 0 }) step d
+pub descend_start : (d e : ℕ) (ks : List ℕ) (step : ℕ) → e < 3 ^ d → ks ≡ pad 0 4 (digits d e) → step ≡ 3 ^ d → Descending d e ks (record { list = replicate 34 0; n = 0 }) step d
 descend_start d e ks step low read power = record {
   read = read;
   number = of_digits_lem d e low;
@@ -191,7 +190,7 @@ descend_start d e ks step low read power = record {
   gathered = subst (FacesSoFar _) (sym (faces_start (digits d e) d (sym (digits_length d e)))) (record { size = refl; list = refl });
 }
 
-module _ (d e : ℕ) (ks : List ℕ) (f : Faces) (step axis : ℕ) (low : d ≤ desk.dimensions) (in_use_lem : axis ≤ d) (more : 0 < axis) (g : Descending d e ks f step axis) where
+module _ (d e : ℕ) (ks : List ℕ) (f : Faces) (step axis : ℕ) (low : d ≤ 4) (in_use_lem : axis ≤ d) (more : 0 < axis) (g : Descending d e ks f step axis) where
   next_axis : axis ≡ suc (axis - 1)
   next_axis = omega arith
 
@@ -204,7 +203,7 @@ module _ (d e : ℕ) (ks : List ℕ) (f : Faces) (step axis : ℕ) (low : d ≤ 
       omega (arith, p)
 
   next_digit : get_or ks (axis - 1) 0 ≡ get_or (digits d e) (axis - 1) 0
-  next_digit = ap (λ (l : List ℕ). get_or l (axis - 1) 0) g.read ∙ get_or-append (digits d e) (replicate (desk.dimensions - length (digits d e)) 0) 0 (axis - 1) known
+  next_digit = ap (λ (l : List ℕ). get_or l (axis - 1) 0) g.read ∙ get_or-append (digits d e) (replicate (4 - length (digits d e)) 0) 0 (axis - 1) known
 
   pub descend_ready : AcrossReady f (get_or ks (axis - 1) 0) e (step / 3)
   descend_ready = record {
@@ -213,7 +212,7 @@ module _ (d e : ℕ) (ks : List ℕ) (f : Faces) (step axis : ℕ) (low : d ≤ 
     spanned = spanned;
   }
     where
-      place : f.n < desk.boundary - 1
+      place : f.n < 31
       place =
           let s = g.gathered.size in
           let m = length-map (faces (drop axis (digits d e))) (λ (h : List ℕ). of_digits (take axis (digits d e) ++ h)) in
@@ -222,7 +221,7 @@ module _ (d e : ℕ) (ks : List ℕ) (f : Faces) (step axis : ℕ) (low : d ≤ 
           let z = digits_length d e in
           omega (arith, s, m, h, l, z)
 
-      near : step / 3 < 3 ^ desk.dimensions + 1
+      near : step / 3 < 82
       near =
           let p = next_power in
           let l = power_low (axis - 1) (omega arith) in

@@ -6,14 +6,13 @@ use mathlib.Core.Path.{◌≡◌, refl, ap, ◌∙◌}
 use native.Mathlib.Omega.{arith}
 use lib.Ieee.{Float}
 use lib.ListN.{length}
-use Rattle.rules.specs.Limits.{desk}
 use Rattle.rules.specs.Cube.{chosen}
 use Rattle.cube.specs.Cubes.{CubeSize, InCube}
 
 -- before element e: n of the chosen ones were written, and `slice e` is what they make of the slice
 pub record Written (choice : List ℕ → Bool) (slice : ℕ → List Float) (long d size : ℕ) (old new : List Float) (n e : ℕ) : Type 0 where
   pub so_far : e ≤ size
-  pub axes : d ≤ desk.dimensions
+  pub axes : d ≤ 4
   pub all : CubeSize d size
   pub room : length old ≡ long
   pub kept : length new ≡ long
@@ -21,7 +20,7 @@ pub record Written (choice : List ℕ → Bool) (slice : ℕ → List Float) (lo
   pub there : new ≡ slice e
 
 module _ {choice : List ℕ → Bool} {slice : ℕ → List Float} {long d size : ℕ} {old : List Float} where
-  pub begun : CubeSize d size → d ≤ desk.dimensions → length old ≡ long → old ≡ slice 0 → Written choice slice long d size old old 0 0
+  pub begun : CubeSize d size → d ≤ 4 → length old ≡ long → old ≡ slice 0 → Written choice slice long d size old old 0 0
   begun s a l q = record { so_far = omega arith; axes = a; all = s; room = l; kept = l; count = refl; there = q }
 
   -- the next element is the cube's

@@ -6,19 +6,18 @@ use Rattle.rules.specs.Floats.{plus_zero}
 use Rattle.rules.specs.Memory.{plane_row, encode}
 use Rattle.rules.specs.Cube.{digits, is_vertex, is_facet, chosen, cube_element, cube_point, facet_plane, cube}
 use Rattle.rules.specs.Held.{laid, element_words, memory_of}
-use Rattle.space.specs.Numbers.{point_slice, plane_slice, element_slice}
 use Rattle.cube.specs.Cubes.{InCube}
 
 -- ---- the slices of the cube's first n elements
 
 abbrev pub cube_elements : ℕ → ℕ → List ℕ
-cube_elements d n = laid 0 element_slice (element_words desk) (map (cube_element d) (up_to n))
+cube_elements d n = laid 0 18432 (element_words desk) (map (cube_element d) (up_to n))
 
 abbrev pub cube_points : ℕ → Float → ℕ → List Float
-cube_points d radius n = laid plus_zero point_slice (pad plus_zero desk.dimensions) (map (λ e. cube_point radius (digits d e)) (chosen is_vertex d n))
+cube_points d radius n = laid plus_zero 1024 (pad plus_zero 4) (map (λ e. cube_point radius (digits d e)) (chosen is_vertex d n))
 
 abbrev pub cube_planes : ℕ → Float → ℕ → List Float
-cube_planes d radius n = laid plus_zero plane_slice (plane_row desk) (map (λ e. facet_plane radius (digits d e)) (chosen is_facet d n))
+cube_planes d radius n = laid plus_zero 320 (plane_row desk) (map (λ e. facet_plane radius (digits d e)) (chosen is_facet d n))
 
 -- ---- what is there before
 
@@ -30,26 +29,26 @@ pub record RowReady (d e v h : ℕ) : Type 0 where
 
 pub record CornerReady (d e : ℕ) (ps : List Float) (v : ℕ) : Type 0 where
   pub in_cube : InCube d e
-  pub long : length ps ≡ point_slice
+  pub long : length ps ≡ 1024
   pub count : v ≡ length (chosen is_vertex d e)
 
 pub record FacetReady (d e : ℕ) (hs : List Float) (h : ℕ) : Type 0 where
   pub in_cube : InCube d e
-  pub long : length hs ≡ plane_slice
+  pub long : length hs ≡ 320
   pub count : h ≡ length (chosen is_facet d e)
 
 -- a slice has its length
 pub record PointsRoom (d : ℕ) (ps : List Float) : Type 0 where
-  pub axes : d ≤ desk.dimensions
-  pub long : length ps ≡ point_slice
+  pub axes : d ≤ 4
+  pub long : length ps ≡ 1024
 
 pub record PlanesRoom (d : ℕ) (hs : List Float) : Type 0 where
-  pub axes : d ≤ desk.dimensions
-  pub long : length hs ≡ plane_slice
+  pub axes : d ≤ 4
+  pub long : length hs ≡ 320
 
 pub record ElementsRoom (d : ℕ) (es : List ℕ) : Type 0 where
-  pub axes : d ≤ desk.dimensions
-  pub long : length es ≡ element_slice
+  pub axes : d ≤ 4
+  pub long : length es ≡ 18432
 
 -- and is cleared
 pub record PointsReady (d : ℕ) (radius : Float) (ps : List Float) : Type 0 where
@@ -66,11 +65,11 @@ pub record ElementsReady (d : ℕ) (es : List ℕ) : Type 0 where
 
 -- the four slices have their lengths
 pub record RoomReady (d : ℕ) (cs : List ℕ) (ps hs : List Float) (es : List ℕ) : Type 0 where
-  pub axes : d ≤ desk.dimensions
+  pub axes : d ≤ 4
   pub counts : length cs ≡ 4
-  pub points : length ps ≡ point_slice
-  pub planes : length hs ≡ plane_slice
-  pub elements : length es ≡ element_slice
+  pub points : length ps ≡ 1024
+  pub planes : length hs ≡ 320
+  pub elements : length es ≡ 18432
 
 -- ---- what is there after
 

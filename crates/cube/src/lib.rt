@@ -24,7 +24,7 @@ struct Faces {
 
 // How many elements a cube has.
 fn cube_size(d: usize) -> u16
-    requires { d ≤ desk.dimensions }
+    requires { d ≤ 4 }
     ensures { CubeSize d result }
 {
     let mut size = 1u16;
@@ -35,11 +35,11 @@ fn cube_size(d: usize) -> u16
 }
 
 // The digits of an element of the cube, axis 0 the lowest, and 0 past the dimension.
-fn digits_of(d: usize, e: u16) -> [u16; AXES]
-    requires { d ≤ desk.dimensions }
-    ensures { result ≡ pad 0 desk.dimensions (digits d e) }
+fn digits_of(d: usize, e: u16) -> [u16; 4]
+    requires { d ≤ 4 }
+    ensures { result ≡ pad 0 4 (digits d e) }
 {
-    let mut ks = [0u16; AXES];
+    let mut ks = [0u16; 4];
     let mut rest = e;
     for axis in 0..d {
         ks[axis] = rest % 3;
@@ -114,7 +114,7 @@ fn is_facet(d: usize, e: u16) -> bool
 }
 
 // The row of an element; its vertex, or its hyperplane, has as number how many come before.
-fn cube_row(d: usize, e: ElementId, v: VertexId, h: HyperplaneId) -> [u16; WIDTH]
+fn cube_row(d: usize, e: ElementId, v: VertexId, h: HyperplaneId) -> [u16; 36]
     requires { RowReady d e.0 v.0 h.0 }
     ensures { result ≡ element_words desk (cube_element d e.0) }
 {
@@ -141,12 +141,12 @@ fn coordinate_at(k: u16, radius: f64) -> f64
     radius
 }
 
-fn corner_point(d: usize, radius: f64, e: u16) -> [f64; AXES]
-    requires { d ≤ desk.dimensions }
-    ensures { result ≡ pad plus_zero desk.dimensions (cube_point radius (digits d e)) }
+fn corner_point(d: usize, radius: f64, e: u16) -> [f64; 4]
+    requires { d ≤ 4 }
+    ensures { result ≡ pad plus_zero 4 (cube_point radius (digits d e)) }
 {
     let ks = digits_of(d, e);
-    let mut p = [0.0; AXES];
+    let mut p = [0.0; 4];
     for axis in 0..d {
         p[axis] = coordinate_at(ks[axis], radius);
     }
@@ -166,12 +166,12 @@ fn component_at(k: u16) -> f64
     1.0
 }
 
-fn facet_normal(d: usize, e: u16) -> [f64; AXES]
-    requires { d ≤ desk.dimensions }
-    ensures { result ≡ pad plus_zero desk.dimensions (facet_normal (digits d e)) }
+fn facet_normal(d: usize, e: u16) -> [f64; 4]
+    requires { d ≤ 4 }
+    ensures { result ≡ pad plus_zero 4 (facet_normal (digits d e)) }
 {
     let ks = digits_of(d, e);
-    let mut normal = [0.0; AXES];
+    let mut normal = [0.0; 4];
     for axis in 0..d {
         normal[axis] = component_at(ks[axis]);
     }
@@ -346,7 +346,7 @@ pub fn with_primordial_cube_radius(
     if dimension < 1 {
         return 1;
     }
-    if (AXES as u64) < dimension {
+    if 4 < dimension {
         return 1;
     }
     if !radius_fits(radius) {

@@ -1,6 +1,6 @@
 -- Three numbers within the room fit into one, beside the warning's bit.
 use Prim.Native.Nat.{ℕ, ◌+◌, ◌*◌, ◌<◌}
-use mathlib.Core.Bool.{Bool}
+use mathlib.Core.Bool.{Bool, true, false}
 use mathlib.Core.Path.{◌≡◌, sym, ap, subst, ◌∙◌}
 use native.Mathlib.Omega.{arith}
 use lib.Dec.{lit≤}
@@ -24,6 +24,12 @@ word_some e id q h = record {
   value = sym (ap element_word q);
   bound = (let l : id.0 < desk.elements = subst (OneBelow desk.elements) q h in let z : id.0 < 65536 = omega (arith, l) in z);
 }
+
+pub warning_on : (w : Bool) → w ≡ true → NumberBelow 0x200 (warning_word w) 0x201
+warning_on w q = record { value = sym (ap warning_word q); bound = lit≤ tt }
+
+pub warning_off : (w : Bool) → w ≡ false → NumberBelow 0 (warning_word w) 0x201
+warning_off w q = record { value = sym (ap warning_word q); bound = lit≤ tt }
 
 -- ---- three numbers
 

@@ -38,7 +38,7 @@ pub record Filled (w : Bool) (r e : ℕ) (k : Cutter) (t : Table) (s : List (Lis
 -- so it does whatever such table the memory holds
 pub record KnownGathered (es ms : List ℕ) (s : List (List ℕ)) (e : ℕ) (s' : List (List ℕ)) : Type 0 where
   pub of : (cs : List ℕ) (ps hs : List Float) (r : ℕ) (k : Cutter) (t : Table) → HigherFit cs ps hs es ms (warning_in s) r e k t → Filled (warning_in s) r e k t s'
-  pub sized : Sized s' desk.boundary
+  pub sized : Sized s' 32
   pub warning : warning_in s' ≡ warning_in s
 
 -- there is such a table, the index is of its rows, and the room is there

@@ -79,19 +79,19 @@ asked_by (reply.Answered a) = 0
 
 -- what writing the fields of element e asks
 pub record FieldsReady (e a b c : ℕ) : Type 0 where
-  pub low : e < desk.elements
+  pub low : e < 512
   pub first : a < field_size
   pub second : b < field_size
   pub third : c < field_size
 
 -- what keeping an answer asks
 pub record AnswerReady (e : ℕ) (a : ElementCutOutput) : Type 0 where
-  pub low : e < desk.elements
+  pub low : e < 512
   pub room : OutputInRoom a
 
 -- what keeping a reply to element e asks
 pub record KeepReady (e : ℕ) (x : ElementReply) : Type 0 where
-  pub low : e < desk.elements
+  pub low : e < 512
   pub room : ReplyInRoom x
 
 -- and what it does: how asking ended, and the words after it
@@ -110,8 +110,8 @@ pub record Repeats (k : Cutter) (t : Table) (x : ElementCutOutput) (w : Bool) (e
 
 -- all that is known is repeated by the table as it is now
 pub record Knows (k : Cutter) (ms : List ℕ) (w : Bool) (t : Table) : Type 0 where
-  pub long : length ms ≡ desk.elements
-  pub of : (e : ℕ) → e < desk.elements → known_at ms e ≡ true → Repeats k t (output_at ms e) w e
+  pub long : length ms ≡ 512
+  pub of : (e : ℕ) → e < 512 → known_at ms e ≡ true → Repeats k t (output_at ms e) w e
 
 -- ---- what is known stays so
 

@@ -1,6 +1,5 @@
 // What a cut has answered so far, one word of three fields an element. The word of an element that was not asked is 0; the fields of flush are 1, 0, 0.
 ghost use Rattle.std.specs.Prelude.{◌<◌, ◌≡◌};
-ghost use Rattle.rules.specs.Limits.{desk};
 ghost use Rattle.gathered.specs.Sets.{InRoom};
 ghost use Rattle.space.specs.Numbers.{NumberBelow};
 ghost use Rattle.cut.specs.Known.{field_size, field_of, some_of, known_at, output_at, fields_at, with_answer, FieldsReady, AnswerReady, KeepReady, ReplyKept};
@@ -38,7 +37,7 @@ fn some_of(field: u32) -> ElementOrNone
 
 // Whether an element was asked before.
 pub fn is_known(known: &[u32; KNOWN], e: ElementId) -> bool
-    requires { e.0 < desk.elements }
+    requires { e.0 < 512 }
     ensures { result ≡ known_at known.now e.0 }
 {
     let at = e.0;
@@ -47,7 +46,7 @@ pub fn is_known(known: &[u32; KNOWN], e: ElementId) -> bool
 
 // What the word of an element that was asked says.
 pub fn output_at(known: &[u32; KNOWN], e: ElementId) -> ElementCutOutput
-    requires { e.0 < desk.elements }
+    requires { e.0 < 512 }
     ensures { result ≡ output_at known.now e.0 }
 {
     let at = e.0;

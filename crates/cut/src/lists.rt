@@ -38,8 +38,7 @@ fn list_fits(dividers: &[f64], kept: &[u8], roots: &[u16]) -> bool
     false
 }
 
-// What becomes of a side that is kept, or not.
-pub fn fate_of(keep: bool) -> PolytopeFate
+fn fate_of(keep: bool) -> PolytopeFate
     ensures { result ≡ fate_of keep }
 {
     if keep {

@@ -8,7 +8,7 @@ use soundness::asked::{Asking, sound_asked};
 use space::chains::INDEX;
 
 // Rule 1: the root is given on one side, and no corner is tested.
-fn untested(inside: ElementOrNone, outside: ElementOrNone) -> CutReply
+fn all_on(inside: ElementOrNone, outside: ElementOrNone) -> CutReply
     ensures { result ≡ CutReply.Answered (ElementCutOutput.NonFlush inside outside ElementOrNone.None) false }
 {
     let intersection = ElementOrNone::None;
@@ -39,8 +39,8 @@ pub fn cut_sound(
     let asked = sound_asked(counts, params.divider, root);
     match asked {
         Asking::Refused(n) => CutReply::Refused(n),
-        Asking::AllInside => untested(ElementOrNone::Some(root), ElementOrNone::None),
-        Asking::AllOutside => untested(ElementOrNone::None, ElementOrNone::Some(root)),
+        Asking::AllInside => all_on(ElementOrNone::Some(root), ElementOrNone::None),
+        Asking::AllOutside => all_on(ElementOrNone::None, ElementOrNone::Some(root)),
         Asking::Finite => cut_finite(counts, points, planes, elements, index, params, root),
     }
 }

@@ -10,7 +10,7 @@ use lib.Count.{count_trailing_zeros}
 use lib.Dec.{eqb, ltb}
 use lib.ListN.{length, get_or}
 use Rattle.rules.specs.Limits.{desk}
-use Rattle.rules.specs.Lists.{all, member, up_to}
+use Rattle.rules.specs.Lists.{all, any, member, up_to}
 use Rattle.rules.specs.Table.{Table, element_count, rank, boundary}
 use Rattle.rules.specs.Questions.{is_below}
 use Rattle.rules.specs.Asking.{Reaches, itself, lower, border}
@@ -61,7 +61,7 @@ marked_under es ws (y ∷ ys) x l ready =
 
 -- the numbers that are left of it are to come
 pub record Passing (es : List ℕ) (word base : ℕ) (ws₀ ws : List ℕ) (x left : ℕ) : Type 0 where
-  pub low : base + 64 ≤ desk.elements
+  pub low : base ≤ 448
   pub leaving : Leaving base x left
   pub each : (y : ℕ) → member y (numbers_left base x left) ≡ true → BoundaryReady es y
   pub same : marking_under es ws₀ (bits_from 64 word base) ≡ marking_under es ws (numbers_left base x left)

@@ -1,6 +1,6 @@
 -- A mark is one digit of one word: setting it leaves every other digit, and a set of both has the digits of both. The zeros at the top of a shifted word are digits with no mark.
 use Prim.Native.Nat.{ℕ, zero, suc, ◌+◌, ◌*◌, ◌-◌, ◌/◌, ◌%◌, ◌^◌, ◌<◌, ◌≤◌}
-use mathlib.Core.Bool.{Bool, true, false, ◌||◌}
+use mathlib.Core.Bool.{Bool, true, false, ◌||◌, false≢true}
 use mathlib.Core.List.{List, [], ◌∷◌}
 use mathlib.Core.Logic.{inl, inr}
 use mathlib.Core.Path.{◌≡◌, refl, sym, ap, ap₂, subst, ◌∙◌}
@@ -234,3 +234,16 @@ module _ (ws : List ℕ) (i z : ℕ) (q : z ≡ count_leading_zeros 64 (topped (
         none = passed (i - i % 64) (omega arith) (omega (arith, l));
         stops = λ s. absurd (omega (arith, o, s));
       }
+
+-- there is one such number
+pub down_to_one : (ws : List ℕ) (i r s : ℕ) → DownTo ws i r → DownTo ws i s → r ≡ s
+down_to_one ws i r s d e = elim (eq-zero-or-pos (s - r)) [
+  | inr l ↦ absurd (apart r s d e (omega (arith, l)))
+  | inl m ↦ elim (eq-zero-or-pos (r - s)) [
+    | inr l ↦ absurd (apart s r e d (omega (arith, l)))
+    | inl n ↦ omega (arith, m, n)
+  ]
+]
+  where
+    apart : (x y : ℕ) → DownTo ws i x → DownTo ws i y → x < y → ⊥
+    apart x y f g l = let w = f.within in false≢true (sym (f.none y l g.low) ∙ g.stops (omega (arith, w, l)))

@@ -7,8 +7,7 @@ use Rattle.rules.specs.Sound.{sound}
 use Rattle.rules.specs.Held.{Fits, elements_of}
 use Rattle.rules.specs.Questions.{is_below}
 use Rattle.rules.specs.Asking.{Reaches, border}
-use Rattle.space.specs.Numbers.{row_width, element_slice}
-use Rattle.elements.specs.Marks.{set_words, is_marked}
+use Rattle.elements.specs.Marks.{is_marked}
 
 -- ---- what is lent
 
@@ -28,24 +27,24 @@ pub record Used (es : List ℕ) (e : ℕ) : Type 0 where
 
 -- the number at a place of the boundary
 abbrev pub boundary_word : List ℕ → ℕ → ℕ → ℕ
-boundary_word es e i = get_or es (e * row_width + (4 + i)) 0
+boundary_word es e i = get_or es (e * 36 + (4 + i)) 0
 
 -- all of them
 unfoldable pub boundary_numbers : List ℕ → ℕ → List ℕ
-boundary_numbers es e = map (boundary_word es e) (up_to (get_or es (e * row_width + 3) 0))
+boundary_numbers es e = map (boundary_word es e) (up_to (get_or es (e * 36 + 3) 0))
 
 -- they are no more than the room has, and each is an element's number
 pub record BoundaryReady (es : List ℕ) (e : ℕ) : Type 0 where
-  pub long : length es ≡ element_slice
-  pub in_room : e < desk.elements
-  pub few : get_or es (e * row_width + 3) 0 ≤ desk.boundary
-  pub low : (i : ℕ) → i < get_or es (e * row_width + 3) 0 → boundary_word es e i < desk.elements
+  pub long : length es ≡ 18432
+  pub in_room : e < 512
+  pub few : get_or es (e * 36 + 3) 0 ≤ 32
+  pub low : (i : ℕ) → i < get_or es (e * 36 + 3) 0 → boundary_word es e i < 512
 
 -- ---- the pass
 
 -- the root is marked; what is marked is reached from it; and from y on, with each its boundary is marked
 pub record PassedFrom (t : Table) (root y : ℕ) (ws : List ℕ) : Type 0 where
-  pub long : length ws ≡ set_words
+  pub long : length ws ≡ 8
   pub top : is_marked ws root ≡ true
   pub reached : (x : ℕ) → is_marked ws x ≡ true → Reaches t root x
   pub closed : (x n : ℕ) → y ≤ x → is_marked ws x ≡ true → n < length (boundary t x) → is_marked ws (border t x n) ≡ true

@@ -1,6 +1,5 @@
 -- The elements of one rank below a root, from rank to rank. Definitions only.
-use Rattle.std.specs.Prelude.{ℕ, ◌+◌, ◌<◌, ◌≤◌, Bool, true, ◌&&◌, ◌≡◌, List, [], ◌∷◌, eqb}
-use Rattle.rules.specs.Limits.{desk}
+use Rattle.std.specs.Prelude.{ℕ, ◌<◌, ◌≤◌, Bool, true, ◌&&◌, ◌≡◌, List, [], ◌∷◌, eqb}
 use Rattle.rules.specs.Lists.{any, member}
 use Rattle.rules.specs.Table.{Table, element_count, rank}
 use Rattle.rules.specs.Questions.{is_below}
@@ -20,7 +19,7 @@ is_under es ys x = any (λ y. member x (boundary_numbers es y)) ys
 
 -- each number of a word has one
 pub record WordReady (es : List ℕ) (word base : ℕ) : Type 0 where
-  pub low : base + 64 ≤ desk.elements
+  pub low : base ≤ 448
   pub each : (y : ℕ) → member y (bits_from 64 word base) ≡ true → BoundaryReady es y
 
 -- each of a set has

@@ -1,13 +1,8 @@
--- A set of elements' numbers as words of 64 marks. Definitions only.
+-- A set of numbers below 512 as eight words of 64 marks. Definitions only.
 use Rattle.std.specs.Prelude.{ℕ, zero, suc, ◌+◌, ◌*◌, ◌/◌, ◌%◌, ◌^◌, ◌<◌, ◌≤◌, Bool, true, false, ◌&&◌, ◌≡◌, List, [], ◌∷◌, ◌++◌, eqb, length, get_or, set}
 use Rattle.std.specs.Int.Bits.{bit_or}
 use Rattle.std.specs.Int.Count.{count_leading_zeros, count_trailing_zeros}
 use Rattle.std.proofs.lemmas.List.Edits.{sets}
-use Rattle.rules.specs.Limits.{desk}
-
--- how many words a set has, so that each element of the room has its mark
-abbrev pub set_words : ℕ
-set_words = desk.elements / 64
 
 -- the digit of w at b
 abbrev pub bit : ℕ → ℕ → ℕ
@@ -58,9 +53,9 @@ unfoldable pub words_from : ℕ → ℕ → List ℕ → List ℕ
 words_from zero j ws = []
 words_from (suc n) j ws = bits_from 64 (get_or ws j 0) (j * 64) ++ words_from n (j + 1) ws
 
--- those of all words
+-- those of all eight
 unfoldable pub marked_numbers : List ℕ → List ℕ
-marked_numbers ws = words_from set_words 0 ws
+marked_numbers ws = words_from 8 0 ws
 
 -- how many numbers a word has, wherever it stands
 pub record CountOf (w n : ℕ) : Type 0 where
@@ -80,7 +75,7 @@ pub record ZerosAbove (w r : ℕ) : Type 0 where
 
 -- from a place on there is room for them
 pub record WordFits (list : List ℕ) (from word base : ℕ) : Type 0 where
-  pub low : base + 64 ≤ desk.elements
+  pub low : base ≤ 448
   pub room : from + length (bits_from 64 word base) ≤ length list
 
 -- they stand there, and r is the place behind them

@@ -1,10 +1,8 @@
 -- Marks by rank, marks common to all of some roots, and the vertices that are named. Definitions only.
 use Rattle.std.specs.Prelude.{ℕ, ◌*◌, ◌<◌, ◌≤◌, Bool, true, ◌&&◌, ◌≡◌, List, eqb, ltb, length, get_or, take}
-use Rattle.rules.specs.Limits.{desk}
 use Rattle.rules.specs.Lists.{if◌then◌else◌, all}
 use Rattle.rules.specs.Table.{Table, element_count}
 use Rattle.rules.specs.Questions.{is_below, greatest_from}
-use Rattle.space.specs.Numbers.{row_width, element_slice}
 use Rattle.elements.specs.Marks.{is_marked, marking, marked_numbers}
 use Rattle.elements.specs.Below.{Lent, boundary_word}
 
@@ -12,7 +10,7 @@ use Rattle.elements.specs.Below.{Lent, boundary_word}
 
 -- x is marked and its row has the rank
 abbrev pub is_of_rank : List ℕ → List ℕ → ℕ → ℕ → Bool
-is_of_rank es ws rank x = is_marked ws x && eqb (get_or es (x * row_width) 0) rank
+is_of_rank es ws rank x = is_marked ws x && eqb (get_or es (x * 36) 0) rank
 
 -- e more, if it is so
 unfoldable pub one_more : List ℕ → List ℕ → ℕ → ℕ → List ℕ → List ℕ
@@ -30,9 +28,9 @@ vertex_word es x = boundary_word es x 0
 
 -- the first n numbers of a list are elements' numbers
 pub record VerticesAsked (es list : List ℕ) (n : ℕ) : Type 0 where
-  pub long : length es ≡ element_slice
+  pub long : length es ≡ 18432
   pub few : n ≤ length list
-  pub low : all (λ x. ltb x desk.elements) (take n list) ≡ true
+  pub low : all (λ x. ltb x 512) (take n list) ≡ true
 
 -- ---- common to all roots
 

@@ -13,7 +13,6 @@ use Rattle.rules.specs.declared.Side.{Side}
 use Rattle.rules.specs.declared.Side.TheVariants.{Inside, On, Outside}
 use Rattle.rules.specs.declared.TouchReply.{TouchReply}
 use Rattle.hypermath.specs.Answers.{distance_to}
-use Rattle.space.specs.Numbers.{point_slice, element_slice}
 use Rattle.space.specs.Shared.{stored_point}
 use Rattle.elements.specs.Marks.{is_marked, bits_from}
 use Rattle.elements.specs.Ranks.{vertex_word}
@@ -27,10 +26,10 @@ corner_side d h ps es x = side_of (distance_to d h (stored_point ps (vertex_word
 
 -- its row and its point are there
 pub record CornerReady (ps : List Float) (es : List ℕ) (x : ℕ) : Type 0 where
-  pub points : length ps ≡ point_slice
-  pub elements : length es ≡ element_slice
-  pub in_room : x < desk.elements
-  pub vertex : vertex_word es x < desk.vertices
+  pub points : length ps ≡ 1024
+  pub elements : length es ≡ 18432
+  pub in_room : x < 512
+  pub vertex : vertex_word es x < 256
 
 -- ---- what the corners tested so far have told
 
@@ -51,10 +50,10 @@ tested_to s (x ∷ xs) = if s.inside && s.outside then s else tested_to (with_si
 
 -- each number of a word names a point, and no more were tested than numbers before them
 pub record WordTestable (ps : List Float) (es : List ℕ) (word base : ℕ) (s : Tested) : Type 0 where
-  pub points : length ps ≡ point_slice
-  pub elements : length es ≡ element_slice
-  pub low : base + 64 ≤ desk.elements
-  pub vertex : (x : ℕ) → member x (bits_from 64 word base) ≡ true → vertex_word es x < desk.vertices
+  pub points : length ps ≡ 1024
+  pub elements : length es ≡ 18432
+  pub low : base ≤ 448
+  pub vertex : (x : ℕ) → member x (bits_from 64 word base) ≡ true → vertex_word es x < 256
   pub few : s.corners ≤ base
 
 -- they are tested after those before them
@@ -64,9 +63,9 @@ pub record WordTested (d : ℕ) (h : Hyperplane) (ps : List Float) (es : List �
 
 -- each number of a set names a point
 pub record CornersReady (ps : List Float) (es ws : List ℕ) : Type 0 where
-  pub points : length ps ≡ point_slice
-  pub elements : length es ≡ element_slice
-  pub vertex : (x : ℕ) → is_marked ws x ≡ true → vertex_word es x < desk.vertices
+  pub points : length ps ≡ 1024
+  pub elements : length es ≡ 18432
+  pub vertex : (x : ℕ) → is_marked ws x ≡ true → vertex_word es x < 256
 
 -- ---- the root of a sound table
 

@@ -3,12 +3,12 @@ ghost use Rattle.std.specs.Prelude.{◌≡◌};
 ghost use Rattle.elements.specs.Marks.{marking_all};
 ghost use Rattle.elements.specs.Below.{boundary_numbers, BoundaryReady, Used, Onward, Below};
 
-use crate::marks::{Marks, WORDS, down_to, mark, marked};
+use crate::marks::{Marks, down_to, mark, marked};
 use rules::ElementId;
 use space::rows::{boundary_at, rank_of, size_of};
 use space::words::wide;
 
-pub fn mark_boundary(elements: &[u16], e: ElementId, words: &mut [u64; WORDS])
+pub fn mark_boundary(elements: &[u16], e: ElementId, words: &mut [u64; 8])
     requires { BoundaryReady elements.now e.0 }
     ensures { words.new ≡ marking_all words.old (boundary_numbers elements.now e.0) }
 {
@@ -20,7 +20,7 @@ pub fn mark_boundary(elements: &[u16], e: ElementId, words: &mut [u64; WORDS])
 }
 
 // A vertex has no boundary: its row has its vertex's number there, which is no element's.
-fn onward(elements: &[u16], e: ElementId, words: &mut [u64; WORDS])
+fn onward(elements: &[u16], e: ElementId, words: &mut [u64; 8])
     requires { Used elements.now e.0 }
     ensures { Onward elements.now e.0 words.old words.new }
 {
@@ -38,7 +38,7 @@ pub fn below(elements: &[u16], root: ElementId) -> Marks
     requires { Used elements.now root.0 }
     ensures { Below elements.now root.0 result.words }
 {
-    let mut words = [0u64; WORDS];
+    let mut words = [0u64; 8];
     mark(&mut words, root.0);
     let mut left = root.0 + 1;
     while 0 < left {

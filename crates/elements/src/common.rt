@@ -1,7 +1,6 @@
 // What is below every one of some roots.
 ghost use Rattle.std.specs.Prelude.{◌*◌, ◌≡◌, eqb, get_or};
 ghost use Rattle.rules.specs.Lists.{all};
-ghost use Rattle.space.specs.Numbers.{row_width};
 ghost use Rattle.elements.specs.Ranks.{AllUsed, SomeUsed, Common};
 
 use crate::below::below;
@@ -12,7 +11,7 @@ use space::words::wide;
 
 pub fn all_of_rank(elements: &[u16], roots: &[u16], rank: usize) -> bool
     requires { AllUsed elements.now roots.now }
-    ensures { result ≡ all (λ e. eqb (get_or elements.now (e * row_width) 0) rank) roots.now }
+    ensures { result ≡ all (λ e. eqb (get_or elements.now (e * 36) 0) rank) roots.now }
 {
     for i in 0..roots.len() {
         if rank_of(elements, ElementId(wide(roots[i]))) != rank {

@@ -10,7 +10,7 @@ use rules::ElementId;
 use space::rows::rank_of;
 
 // The boundaries of the elements of a word's marks.
-fn mark_under_word(elements: &[u16], word: u64, base: usize, words: &mut [u64; WORDS])
+fn mark_under_word(elements: &[u16], word: u64, base: usize, words: &mut [u64; 8])
     requires { WordReady elements.now word base }
     ensures { words.new ≡ marking_under elements.now words.old (bits_from 64 word base) }
 {
@@ -30,7 +30,7 @@ fn one_under(elements: &[u16], s: Marks) -> Marks
     ensures { Under elements.now s.words result.words }
 {
     let set = s.words;
-    let mut words = [0u64; WORDS];
+    let mut words = [0u64; 8];
     for w in 0..WORDS {
         mark_under_word(elements, set[w], w * BITS, &mut words);
     }
@@ -46,7 +46,7 @@ pub fn level(elements: &[u16], root: ElementId, rank: usize) -> Marks
     if top < rank {
         return no_marks();
     }
-    let mut words = [0u64; WORDS];
+    let mut words = [0u64; 8];
     mark(&mut words, root.0);
     let mut s = Marks { words };
     for i in rank..top {

@@ -3,7 +3,6 @@ ghost use Rattle.std.specs.Prelude.{map, ◌≡◌, length, take};
 ghost use Rattle.std.proofs.lemmas.List.Edits.{sets};
 ghost use Rattle.rules.specs.Questions.{answer};
 ghost use Rattle.rules.specs.Replies.{listed};
-ghost use Rattle.space.specs.Numbers.{element_slice};
 ghost use Rattle.elements.specs.Marks.{marked_numbers};
 ghost use Rattle.elements.specs.Ranks.{vertex_word, VerticesAsked};
 
@@ -36,7 +35,7 @@ fn name_vertices(elements: &[u16], list: &mut [u16], n: usize)
 
 // The vertices that the elements of a set name, in the elements' order, or 12.
 pub fn list_vertices(elements: &[u16], s: Marks, list: &mut [u16]) -> ListReply
-    requires { length elements.now ≡ element_slice }
+    requires { length elements.now ≡ 18432 }
     ensures { (result, list.new) ≡ listed (answer (map (vertex_word elements.now) (marked_numbers s.words))) list.old }
 {
     let n = size(s);

@@ -1,32 +1,29 @@
-// Sets of elements' numbers as marks in words: the size is the number of marks set, and what is not marked is passed over.
+// Sets of numbers below 512 as marks in eight words: the size is the number of marks set, and what is not marked is passed over.
 ghost use Rattle.std.specs.Prelude.{◌<◌, ◌≤◌, ◌≡◌, length};
 ghost use Rattle.std.proofs.lemmas.List.Edits.{sets};
-ghost use Rattle.rules.specs.Limits.{desk};
 ghost use Rattle.elements.specs.Marks.{is_marked, marking, marked_numbers, CountOf, NoneMarked, Both, DownTo, ZerosBelow, ZerosAbove, WordFits, WordListed};
 
-use space::words::ELEMENTS;
-
-// How many words a set has, so that each element has its mark, and how many marks a word.
-pub const WORDS: usize = ELEMENTS / BITS;
+// How many words a set has, and how many marks a word.
+pub const WORDS: usize = 8;
 
 pub const BITS: usize = 64;
 
-// A set of elements' numbers.
+// A set of numbers below 512.
 #[derive(Drop)]
 pub struct Marks {
-    pub words: [u64; WORDS],
+    pub words: [u64; 8],
 }
 
 pub fn no_marks() -> Marks
     ensures { NoneMarked result.words }
 {
-    let words = [0u64; WORDS];
+    let words = [0u64; 8];
     Marks { words }
 }
 
 // The words are lent, so that a mark writes one of them and copies none.
-pub fn mark(words: &mut [u64; WORDS], i: usize)
-    requires { i < desk.elements }
+pub fn mark(words: &mut [u64; 8], i: usize)
+    requires { i < 512 }
     ensures { words.new ≡ marking words.old i }
 {
     let w = i / BITS;
@@ -34,8 +31,8 @@ pub fn mark(words: &mut [u64; WORDS], i: usize)
     words[w] = words[w] | (1u64 << b);
 }
 
-pub fn marked(words: &[u64; WORDS], i: usize) -> bool
-    requires { i < desk.elements }
+pub fn marked(words: &[u64; 8], i: usize) -> bool
+    requires { i < 512 }
     ensures { result ≡ is_marked words.now i }
 {
     let w = i / BITS;
@@ -74,8 +71,8 @@ fn zeros_above(x: u64) -> usize
 }
 
 // From a number down to the highest mark of its word, or to the word's first number where there is none.
-pub fn down_to(words: &[u64; WORDS], i: usize) -> usize
-    requires { i < desk.elements }
+pub fn down_to(words: &[u64; 8], i: usize) -> usize
+    requires { i < 512 }
     ensures { DownTo words.now i result }
 {
     let b = i % BITS;

@@ -1,21 +1,14 @@
 // The marks of one rank.
 ghost use Rattle.std.specs.Prelude.{◌≡◌, length};
-ghost use Rattle.space.specs.Numbers.{element_slice};
 ghost use Rattle.space.specs.Ready.{ElementReady};
 ghost use Rattle.elements.specs.Ranks.{one_more, OfRank, Greatest};
 
-use crate::marks::{Marks, WORDS, down_to, mark, marked, no_marks, size};
+use crate::marks::{Marks, down_to, mark, marked, no_marks, size};
 use rules::ElementId;
 use space::rows::rank_of;
 use space::words::ELEMENTS;
 
-fn add_ranked(
-    elements: &[u16],
-    set: &[u64; WORDS],
-    rank: usize,
-    e: ElementId,
-    out: &mut [u64; WORDS],
-)
+fn add_ranked(elements: &[u16], set: &[u64; 8], rank: usize, e: ElementId, out: &mut [u64; 8])
     requires { ElementReady elements.now e.0 }
     ensures { out.new ≡ one_more elements.now set.now rank e.0 out.old }
 {
@@ -29,11 +22,11 @@ fn add_ranked(
 }
 
 fn with_rank(elements: &[u16], s: Marks, rank: usize) -> Marks
-    requires { length elements.now ≡ element_slice }
+    requires { length elements.now ≡ 18432 }
     ensures { OfRank elements.now s.words rank result.words }
 {
     let set = s.words;
-    let mut words = [0u64; WORDS];
+    let mut words = [0u64; 8];
     let mut left = ELEMENTS;
     while 0 < left {
         let e = down_to(&set, left - 1);
@@ -45,7 +38,7 @@ fn with_rank(elements: &[u16], s: Marks, rank: usize) -> Marks
 
 // Down rank by rank until some are marked; rank 0 is never looked at.
 pub fn greatest(elements: &[u16], s: Marks, rank: usize) -> Marks
-    requires { length elements.now ≡ element_slice }
+    requires { length elements.now ≡ 18432 }
     ensures { Greatest elements.now s.words rank result.words }
 {
     for i in 0..rank {

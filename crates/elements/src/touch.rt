@@ -11,6 +11,7 @@ use crate::marks::{BITS, WORDS, zeros_below};
 use hypermath::{side_of, signed_distance};
 use rules::{ElementId, Hyperplane, Side, Touch, TouchReply, VertexId};
 use soundness::asked::{Asking, divider_asked};
+use space::chains::INDEX;
 use space::memo::read_point;
 use space::rows::boundary_at;
 use space::words::wide;
@@ -46,7 +47,7 @@ fn both_met(s: Tested) -> bool
 
 // One corner more.
 fn with_side(s: Tested, side: Side) -> Tested
-    requires { s.corners < desk.elements }
+    requires { s.corners < 512 }
     ensures { result ≡ with_side s side }
 {
     let corners = s.corners + 1;
@@ -102,7 +103,7 @@ fn test_word(
 fn test_corners(
     points: &[f64],
     elements: &[u16],
-    words: &[u64; WORDS],
+    words: &[u64; 8],
     d: usize,
     h: Hyperplane,
 ) -> Tested
@@ -159,7 +160,7 @@ fn touch_finite(
 }
 
 // Rule 1: all on one side, and no corner is tested.
-fn untested(answer: Touch) -> TouchReply
+fn all_on(answer: Touch) -> TouchReply
     ensures { result ≡ TouchReply.Touched answer 0 }
 {
     let tested = 0;
@@ -177,11 +178,12 @@ pub fn touch(
 ) -> TouchReply
     ensures { result ≡ touch_reply desk h root.0 (memory_of counts.now points.now planes.now elements.now) }
 {
-    let asked = divider_asked(counts, points, planes, elements, h, root);
+    let mut index = [0u16; INDEX];
+    let asked = divider_asked(counts, points, planes, elements, &mut index, h, root);
     match asked {
         Asking::Refused(n) => TouchReply::Refused(n),
-        Asking::AllInside => untested(Touch::InsideOrOn),
-        Asking::AllOutside => untested(Touch::OutsideOrOn),
+        Asking::AllInside => all_on(Touch::InsideOrOn),
+        Asking::AllOutside => all_on(Touch::OutsideOrOn),
         Asking::Finite => touch_finite(counts, points, elements, h, root),
     }
 }

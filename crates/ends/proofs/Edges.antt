@@ -3,7 +3,7 @@ use Prim.Native.Nat.{ℕ, ◌+◌, ◌*◌, ◌≤◌, ◌<◌}
 use mathlib.Core.Bool.{Bool, ◌||◌}
 use mathlib.Core.Path.{◌≡◌, refl, sym, ap, ap₂, ◌∙◌, subst}
 use mathlib.Core.List.{List, [], ◌∷◌}
-use native.Mathlib.Nat.{le_trans}
+use native.Mathlib.Nat.{le_trans, le_of_eq}
 use native.Mathlib.Omega.{arith}
 use lib.Dec.{lit≤}
 use lib.ListN.{length, get_or, take}
@@ -28,7 +28,6 @@ use Rattle.rules.proofs.Stays.{Kept, Stays}
 use Rattle.rules.proofs.StaysCut.{Facts, facts, ranked_get, crossing_sound, cross_stays}
 use Rattle.rules.proofs.Warned.{Done, Warns, gathering_warns, after_gathered, crossed_warns}
 use Rattle.hypermath.specs.Answers.{distance_to}
-use Rattle.space.specs.Numbers.{row_width}
 use Rattle.space.specs.Found.{placed_at}
 use Rattle.space.specs.Chains.{Indexed}
 use Rattle.space.specs.Ready.{BoundaryAtReady, VertexReady}
@@ -38,7 +37,7 @@ use Rattle.space.specs.declared.rows.Placed.TheVariants as placed
 use Rattle.space.proofs.Room.{list_of, list_bound, list_word_lem}
 use Rattle.space.proofs.VertexMemo.{dimension_is}
 use Rattle.space.proofs.Slices.{slices}
-use Rattle.gathered.specs.Sets.{warning_in, Shaped, Noted}
+use Rattle.gathered.specs.Sets.{warning_in, Gathers, Shaped, Sized, Noted}
 use Rattle.gathered.specs.Cutting.{Fit, cut_of, answered_by, Rule6Fit, Rule6Ready, Rule6Done}
 use Rattle.rules.specs.declared.Cutter.{Cutter}
 use Rattle.gathered.proofs.Steps.{told_by}
@@ -108,7 +107,7 @@ module _ {cs : List ℕ} {ps : List Float} {es : List ℕ} {e : ℕ} {k : Cutter
 
     module _ (i : ℕ) (Q : Left i) where
       -- it is in use, so its number is within the room
-      left_low : i < desk.elements
+      left_low : i < 512
       left_low = le_trans Q.kept.value.flush.0.0 Q.holds.fits.element_room
 
       -- rule 6 may go on from its table
@@ -117,7 +116,7 @@ module _ {cs : List ℕ} {ps : List Float} {es : List ℕ} {e : ℕ} {k : Cutter
         fit = fit_later X.fit Q.kept.extends Q.kept.good Q.holds;
         some = lit≤ tt;
         gathers = C.of g X.gathers;
-        sized = sized_more 2 desk.boundary (lit≤ tt) (C.sized 2 (lit≤ tt) X.sized);
+        sized = sized_more 2 32 (lit≤ tt) (C.sized 2 (lit≤ tt) X.sized);
         sets = Q.kept.value;
       }
 
@@ -151,7 +150,7 @@ module _ {cs : List ℕ} {ps : List Float} {es : List ℕ} {e : ℕ} {k : Cutter
 
   module _ (v : ElementId) (h : w ≡ placed.At v) where
     -- the number fits a word
-    pub crossed_low : CrossedReady cs ps es e k s x → v.0 < desk.elements
+    pub crossed_low : CrossedReady cs ps es e k s x → v.0 < 512
     crossed_low R = left_low R.fit v.0 (left R.fit v.0 h)
 
     module _ {s' : List (List ℕ)} (C : Crossed s v.0 s') where
@@ -175,15 +174,15 @@ module _ {cs : List ℕ} {ps hs : List Float} {es : List ℕ} {e : ℕ} {k : Cut
   own : Facts t 0 (element t e)
   own = facts desk t e 0 (sound_good desk t F.sound) F.used F.ranked
 
-  module _ (i x : ℕ) (l : i < 2) (h : x ≡ get_or es (e * row_width + (4 + i)) 0) where
+  module _ (i x : ℕ) (l : i < 2) (h : x ≡ get_or es (e * 36 + (4 + i)) 0) where
     there : i < length (boundary t e)
     there = le_trans l own.two
 
     end_is : x ≡ get_or (boundary t e) i 0
     end_is =
         let b : list_of (element t e) ≡ boundary t e = list_bound (element t e) 0 F.ranked in
-        h ∙ ap (λ (m : List ℕ). get_or m (e * row_width + (4 + i)) 0) F.holds.elements
-        ∙ list_word_lem desk t F.holds.fits e F.used i (subst (λ (m : List ℕ). i < length m) (sym b) there) (let z : 4 + i < row_width = omega (arith, l) in z)
+        h ∙ ap (λ (m : List ℕ). get_or m (e * 36 + (4 + i)) 0) F.holds.elements
+        ∙ list_word_lem desk t F.holds.fits e F.used i (subst (λ (m : List ℕ). i < length m) (sym b) there) (let z : 4 + i < 36 = omega (arith, l) in z)
         ∙ ap (λ (m : List ℕ). get_or m i 0) b
 
     end_ranked : Ranked t 1 x
@@ -209,7 +208,7 @@ module _ {ps : List Float} {es : List ℕ} {e : ℕ} (R : EndsReady ps es e) whe
     place = (let z : i < desk.boundary = omega (arith, l) in z);
   }
 
-  pub end_asked : (i x : ℕ) → i < 2 → x ≡ get_or es (e * row_width + (4 + i)) 0 → PointAsked ps es x
+  pub end_asked : (i x : ℕ) → i < 2 → x ≡ get_or es (e * 36 + (4 + i)) 0 → PointAsked ps es x
   end_asked i x l h = vertex.point_asked (end_fit R.fit i x l h)
 
   -- both numbers are within the room
@@ -291,7 +290,7 @@ module _ (k : Cutter) (d : ℕ) (r : EdgeEnds) (sa sb : Float) where
 
       -- no crossing
       missed_fit : {hs : List Float} {t : Table} → Fit cs ps hs es 1 e k t → Rule6Fit cs ps hs es 1 e k s₂ t answered
-      missed_fit F = record { fit = F; some = lit≤ tt; gathers = G.of; sized = sized_more 2 desk.boundary (lit≤ tt) G.sized; sets = ends_sets F }
+      missed_fit F = record { fit = F; some = lit≤ tt; gathers = G.of; sized = sized_more 2 32 (lit≤ tt) G.sized; sets = ends_sets F }
 
       pub missed_ready : {ix : List ℕ} → LowAsked cs ps es ix 1 e k s → Rule6Ready cs es ix 1 e k s₂
       missed_ready A = record {
@@ -317,12 +316,12 @@ module _ (k : Cutter) (d : ℕ) (r : EdgeEnds) (sa sb : Float) where
       }
 
       -- a crossing at parameter f
-      module _ (f : Float) (x : List Float) (hx : x ≡ pad plus_zero desk.dimensions (crossing_point f (take d r.p) (take d r.q))) where
+      module _ (f : Float) (x : List Float) (hx : x ≡ pad plus_zero 4 (crossing_point f (take d r.p) (take d r.q))) where
         crossing_fit : {hs : List Float} {t : Table} → Fit cs ps hs es 1 e k t → CrossedFit cs ps hs es e k s₂ x t (point_at t a) (point_at t b) f answered
         crossing_fit {t = t} F = record {
           fit = F;
-          point = hx ∙ ap (λ (n : ℕ). pad plus_zero desk.dimensions (crossing_point f (take n r.p) (take n r.q))) (dimension_is d hd F.holds)
-              ∙ ap₂ (λ (i j : List Float). pad plus_zero desk.dimensions (crossing_point f i j)) (vertex.taken_is (fa F) r.p E.first_point) (vertex.taken_is (fb F) r.q E.second_point);
+          point = hx ∙ ap (λ (n : ℕ). pad plus_zero 4 (crossing_point f (take n r.p) (take n r.q))) (dimension_is d hd F.holds)
+              ∙ ap₂ (λ (i j : List Float). pad plus_zero 4 (crossing_point f i j)) (vertex.taken_is (fa F) r.p E.first_point) (vertex.taken_is (fb F) r.q E.second_point);
           first = vertex.point_sound (fa F);
           second = vertex.point_sound (fb F);
           gathers = G.of;

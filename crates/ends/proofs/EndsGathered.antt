@@ -4,7 +4,6 @@ use mathlib.Core.Path.{◌≡◌, refl, sym, ◌∙◌, subst}
 use mathlib.Core.List.{List, [], ◌∷◌}
 use native.Mathlib.Nat.{le_trans, le_of_eq}
 use lib.Ieee.{Float}
-use Rattle.rules.specs.Limits.{desk}
 use Rattle.rules.specs.Floats.{side_of}
 use Rattle.rules.specs.Cut.{Gathered, corner_output}
 use Rattle.rules.specs.declared.Side.{Side}
@@ -25,13 +24,13 @@ sized_more i m h z = record {
 }
 
 -- an end answers with itself or with nothing
-corner_room : (a : ℕ) (side : Side) → a < desk.elements → OutputInRoom (corner_output a side)
+corner_room : (a : ℕ) (side : Side) → a < 512 → OutputInRoom (corner_output a side)
 corner_room a Inside h = record { inside = h; outside = tt; intersection = tt }
 corner_room a On h = tt
 corner_room a Outside h = record { inside = tt; outside = h; intersection = tt }
 
 -- so does the code
-pub end_room : {y : ElementCutOutput} (a : ℕ) (s : Float) → a < desk.elements → y ≡ corner_output a (side_of s) → OutputInRoom y
+pub end_room : {y : ElementCutOutput} (a : ℕ) (s : Float) → a < 512 → y ≡ corner_output a (side_of s) → OutputInRoom y
 end_room a s h q = subst OutputInRoom (sym q) (corner_room a (side_of s) h)
 
 -- the two ends in turn, in a room that was cleared

@@ -23,7 +23,6 @@ use Rattle.rules.proofs.Good.{Good, sound_good, above_zero}
 use Rattle.rules.proofs.Laws.{le_test}
 use Rattle.rules.proofs.RoundTrip.{point_back, point_long}
 use Rattle.rules.proofs.StaysCut.{point_at_sound}
-use Rattle.space.specs.Numbers.{row_width}
 use Rattle.space.specs.Chains.{Indexed}
 use Rattle.space.specs.Shared.{stored_point}
 use Rattle.space.proofs.Room.{list_of, list_word_lem, point_word_or}
@@ -50,10 +49,10 @@ module _ {cs : List ℕ} {ps hs : List Float} {es : List ℕ} {e : ℕ} {k : Cut
   used : found.0 < length t.points
   used = corner_named_lem desk t good e found.0 F.used found.1
 
-  number_is : get_or es (e * row_width + 4) 0 ≡ found.0
+  number_is : get_or es (e * 36 + 4) 0 ≡ found.0
   number_is =
       let x : list_of (element t e) ≡ found.0 ∷ [] = ap list_of found.1 in
-      ap (λ (l : List ℕ). get_or l (e * row_width + 4) 0) F.holds.elements
+      ap (λ (l : List ℕ). get_or l (e * 36 + 4) 0) F.holds.elements
       ∙ list_word_lem desk t F.holds.fits e F.used 0 (subst (λ (l : List ℕ). 0 < length l) (sym x) (lit≤ tt)) (lit≤ tt)
       ∙ ap (λ (l : List ℕ). get_or l 0 0) x
 
@@ -69,29 +68,29 @@ module _ {cs : List ℕ} {ps hs : List Float} {es : List ℕ} {e : ℕ} {k : Cut
   pub point_sound : sound_point t.dimension (point_at t e) ≡ true
   point_sound = point_at_sound desk t e good (F.used, ap suc F.ranked)
 
-  float_is : (j : ℕ) → j < desk.dimensions → get_or (points_of desk t) (found.0 * desk.dimensions + j) nan ≡ get_or (pad plus_zero desk.dimensions (point_at t e)) j nan
+  float_is : (j : ℕ) → j < 4 → get_or (points_of desk t) (found.0 * 4 + j) nan ≡ get_or (pad plus_zero 4 (point_at t e)) j nan
   float_is j l =
       point_word_or desk t F.holds.fits found.0 j nan used l
-      ∙ ap (λ (y : Element). get_or (pad plus_zero desk.dimensions (point_of t.points y)) j nan) (sym found.1)
+      ∙ ap (λ (y : Element). get_or (pad plus_zero 4 (point_of t.points y)) j nan) (sym found.1)
 
-  stored_is : stored_point ps (get_or es (e * row_width + 4) 0) ≡ pad plus_zero desk.dimensions (point_at t e)
+  stored_is : stored_point ps (get_or es (e * 36 + 4) 0) ≡ pad plus_zero 4 (point_at t e)
   stored_is =
-      let first = ap (λ (j : ℕ). get_or (points_of desk t) j nan) (sym (add-zero (found.0 * desk.dimensions))) ∙ float_is 0 (lit≤ tt) in
+      let first = ap (λ (j : ℕ). get_or (points_of desk t) j nan) (sym (add-zero (found.0 * 4))) ∙ float_is 0 (lit≤ tt) in
       ap₂ stored_point F.holds.points number_is
       ∙ (λ i. first i ∷ float_is 1 (lit≤ tt) i ∷ float_is 2 (lit≤ tt) i ∷ float_is 3 (lit≤ tt) i ∷ [])
-      ∙ four_is (pad plus_zero desk.dimensions (point_at t e)) (point_long desk readable_desk t.dimension (le_test t.dimension desk.dimensions good.high) (point_at t e) point_sound)
+      ∙ four_is (pad plus_zero 4 (point_at t e)) (point_long desk readable_desk t.dimension (le_test t.dimension 4 good.high) (point_at t e) point_sound)
 
-  pub taken_is : (p : List Float) → p ≡ stored_point ps (get_or es (e * row_width + 4) 0) → take t.dimension p ≡ point_at t e
+  pub taken_is : (p : List Float) → p ≡ stored_point ps (get_or es (e * 36 + 4) 0) → take t.dimension p ≡ point_at t e
   taken_is p h = ap (take t.dimension) (h ∙ stored_is) ∙ point_back desk readable_desk t.dimension (point_at t e) point_sound
 
-  pub distance_is : (d : ℕ) (p : List Float) → d ≡ get_or cs 0 0 → p ≡ stored_point ps (get_or es (e * row_width + 4) 0)
+  pub distance_is : (d : ℕ) (p : List Float) → d ≡ get_or cs 0 0 → p ≡ stored_point ps (get_or es (e * 36 + 4) 0)
       → distance_to d k.params.divider p ≡ distance_of (cut_of t.dimension k) (point_at t e)
   distance_is d p hd hp =
       ap (λ (n : ℕ). distance_to n k.params.divider p) (dimension_is d hd F.holds)
       ∙ ap (signed_distance (take t.dimension k.params.divider.normal) k.params.divider.distance) (taken_is p hp)
 
 pub corner_cut : {cs : List ℕ} {ps : List Float} {es : List ℕ} {e : ℕ} {k : Cutter} {s₀ s₁ : List (List ℕ)} {r : ElementCutOutput} (d : ℕ) (p : List Float) (s : Float) (test : SideTest) → d ≡ get_or cs 0 0
-    → p ≡ stored_point ps (get_or es (e * row_width + 4) 0) → s ≡ distance_to d k.params.divider p → test ≡ side_test s → Noted s₀ test.warning s₁ → r ≡ corner_output e test.side
+    → p ≡ stored_point ps (get_or es (e * 36 + 4) 0) → s ≡ distance_to d k.params.divider p → test ≡ side_test s → Noted s₀ test.warning s₁ → r ≡ corner_output e test.side
     → CornerCut cs ps es e k s₀ r s₁
 corner_cut {cs} {ps} {es} {e} {k} {s₀} d p s test hd hp hs ht N hr = record {
   of = λ planes t F. hr ∙ ap (λ (x : SideTest). corner_output e x.side) (tested F);

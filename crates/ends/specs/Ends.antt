@@ -12,7 +12,6 @@ use Rattle.rules.specs.declared.ElementCutOutput.{ElementCutOutput}
 use Rattle.rules.specs.declared.ElementAnswer.{ElementAnswer}
 use Rattle.gathered.specs.declared.answer.ElementReply.{ElementReply}
 use Rattle.gathered.specs.declared.answer.ElementReply.TheVariants as reply
-use Rattle.space.specs.Numbers.{row_width, point_slice, element_slice}
 use Rattle.space.specs.Chains.{Indexed}
 use Rattle.space.specs.Shared.{stored_point}
 use Rattle.gathered.specs.Sets.{Gathers, Shaped, Sized, Used, warning_in}
@@ -25,10 +24,10 @@ use Rattle.ends.specs.Elements.{Ready}
 
 -- element e, and the vertex that its row names, are within the room
 pub record PointAsked (ps : List Float) (es : List ℕ) (e : ℕ) : Type 0 where
-  pub points : length ps ≡ point_slice
-  pub elements : length es ≡ element_slice
-  pub low : e < desk.elements
-  pub vertex : get_or es (e * row_width + 4) 0 < desk.vertices
+  pub points : length ps ≡ 1024
+  pub elements : length es ≡ 18432
+  pub low : e < 512
+  pub vertex : get_or es (e * 36 + 4) 0 < 256
 
 -- there is a table that may be cut, in which element e is a vertex, and the room
 pub record CornerReady (cs : List ℕ) (ps : List Float) (es : List ℕ) (e : ℕ) (k : Cutter) (s : List (List ℕ)) : Type 0 where
@@ -57,15 +56,15 @@ pub record EndsReady (ps : List Float) (es : List ℕ) (e : ℕ) : Type 0 where
 
 -- the two numbers of its row, and the point of each
 pub record EndsRead (ps : List Float) (es : List ℕ) (e : ℕ) (r : EdgeEnds) : Type 0 where
-  pub first : r.a.0 ≡ get_or es (e * row_width + 4) 0
-  pub second : r.b.0 ≡ get_or es (e * row_width + 5) 0
-  pub first_point : r.p ≡ stored_point ps (get_or es (r.a.0 * row_width + 4) 0)
-  pub second_point : r.q ≡ stored_point ps (get_or es (r.b.0 * row_width + 4) 0)
+  pub first : r.a.0 ≡ get_or es (e * 36 + 4) 0
+  pub second : r.b.0 ≡ get_or es (e * 36 + 5) 0
+  pub first_point : r.p ≡ stored_point ps (get_or es (r.a.0 * 36 + 4) 0)
+  pub second_point : r.q ≡ stored_point ps (get_or es (r.b.0 * 36 + 4) 0)
 
 -- both ends fit a word, and the room is there, whatever it holds
 pub record EndsAsked (a b : ℕ) (s : List (List ℕ)) : Type 0 where
-  pub first : a < desk.elements
-  pub second : b < desk.elements
+  pub first : a < 512
+  pub second : b < 512
   pub shaped : Shaped s
 
 -- what the ends a and b answer, gathered
@@ -92,7 +91,7 @@ after_ends c y o = next o (λ g. rule6 desk c y g g.flush)
 pub record CrossedFit (cs : List ℕ) (ps hs : List Float) (es : List ℕ) (e : ℕ) (k : Cutter) (s : List (List ℕ)) (x : List Float) (t : Table)
     (p q : List Float) (f : Float) (g : Gathered) : Type 0 where
   pub fit : Fit cs ps hs es 1 e k t
-  pub point : x ≡ pad plus_zero desk.dimensions (crossing_point f p q)
+  pub point : x ≡ pad plus_zero 4 (crossing_point f p q)
   pub first : sound_point t.dimension p ≡ true
   pub second : sound_point t.dimension q ≡ true
   pub gathers : Gathers s g

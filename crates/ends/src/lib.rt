@@ -2,7 +2,6 @@
 ghost use Rattle.std.specs.Prelude.{◌+◌, ◌*◌, ◌≡◌, get_or};
 ghost use Rattle.rules.specs.Floats.{side_of};
 ghost use Rattle.rules.specs.Cut.{corner_output};
-ghost use Rattle.space.specs.Numbers.{row_width};
 ghost use Rattle.space.specs.Shared.{stored_point};
 ghost use Rattle.ends.specs.Ends.{PointAsked, CornerReady, CornerCut, EndsReady, EndsRead, EndsAsked, EndsGathered, CrossedAsked, CrossedLeft};
 ghost use Rattle.ends.specs.Elements.{LowAsked, LowLeft};
@@ -12,7 +11,7 @@ use gathered::sets::{FLUSH, FLUSHES, ROOM, TALLY};
 use gathered::{answer, sets};
 use rules::{Crossing, Cutter, ElementCutOutput, ElementId, ElementOrNone, Side, VertexId};
 use space::rows::Placed;
-use space::words::{AXES, SET, wide};
+use space::words::{SET, wide};
 use space::{memo, rows};
 
 // The ends a and b of an edge, a the lower-numbered, at p and q.
@@ -20,14 +19,14 @@ use space::{memo, rows};
 struct EdgeEnds {
     a: ElementId,
     b: ElementId,
-    p: [f64; AXES],
-    q: [f64; AXES],
+    p: [f64; 4],
+    q: [f64; 4],
 }
 
 // The point of a vertex element, by its vertex number.
-fn corner_point(points: &[f64], elements: &[u16], e: ElementId) -> [f64; AXES]
+fn corner_point(points: &[f64], elements: &[u16], e: ElementId) -> [f64; 4]
     requires { PointAsked points.now elements.now e.0 }
-    ensures { result ≡ stored_point points.now (get_or elements.now (e.0 * row_width + 4) 0) }
+    ensures { result ≡ stored_point points.now (get_or elements.now (e.0 * 36 + 4) 0) }
 {
     let v = VertexId(wide(rows::boundary_at(elements, e, 0)));
     memo::read_point(points, v)
@@ -117,7 +116,7 @@ fn cut_crossed(
     e: ElementId,
     k: Cutter,
     room: &mut [[u16; SET]; ROOM],
-    x: [f64; AXES],
+    x: [f64; 4],
 ) -> ElementReply
     requires { CrossedAsked counts.old points.old elements.old index.old e.0 k room.old x }
     ensures { CrossedLeft counts.old points.old elements.old e.0 k room.old x result

@@ -4,14 +4,11 @@ use Prim.Native.Nat.{ℕ, zero, suc, ◌+◌, ◌*◌, ◌≤◌, ◌<◌}
 use mathlib.Core.Bool.{Bool, true, false}
 use mathlib.Core.List.{List, [], ◌∷◌, ◌++◌}
 use mathlib.Core.Path.{◌≡◌, refl, sym, ap, ap₂, ◌∙◌}
-use native.Mathlib.Nat.{not-suc-le-zero, le_of_suc-le-suc}
 use native.Mathlib.Numerals.{add-one}
 use native.Mathlib.Omega.{arith}
 use lib.Dec.{leb, ltb}
-use lib.ListN.{length, get_or, set, take, drop, replicate}
-use lib.Seq.{take_all}
+use lib.ListN.{length, set, drop, replicate}
 use lib.Ieee.{Float, binary64, of_bits}
-use borrow.Author.Tests.{ltb-true}
 use Rattle.rules.specs.Lists.{if◌then◌else◌, pad}
 use Rattle.rules.specs.Floats.{plus_zero}
 use Rattle.rules.specs.Bytes.{number_at, float_at, floats_at}
@@ -22,7 +19,7 @@ use Rattle.rules.specs.declared.Hyperplane.{Hyperplane}
 use Rattle.rules.proofs.ByteLaws.{got_value, got_rest, never, and_then_lem, chosen}
 use Rattle.rules.proofs.FileRecords.{row_only}
 use Rattle.rules.proofs.Laws.{le_test, not_le}
-use Rattle.hypermath.proofs.Filling.{fill_next, fill_front}
+use Rattle.hypermath.proofs.Filling.{fill_next}
 use Rattle.files.specs.Runs.{Read}
 use Rattle.files.specs.Passed.{begins}
 use Rattle.files.specs.Entries.{plane_at, numbers_at, count_at, row_front, row_at}
@@ -222,33 +219,3 @@ row_next bs at j {row} {x} p q h =
     ∙ ap (λ (y : ℕ). pad 0 36 (row_front j at bs ++ y ∷ [])) q
     ∙ ap (λ (b : List ℕ). pad 0 36 (number_at 1 (at + 2) bs ∷ number_at 1 (at + 3) bs ∷ number_at 2 (at + 4) bs ∷ count_at at bs ∷ b)) (sym (numbers_more bs j (at + 8)))
     ∙ ap (λ (i : ℕ). pad 0 36 (row_front i at bs)) (sym (add-one j))
-
--- ---- a row read whole: all of its room, and zeros chosen past its count
-
-abbrev head_at : ℕ → List ℕ → List ℕ
-head_at at bs = row_front 0 at bs
-
-abbrev pub row_so_far : ℕ → List ℕ → ℕ → List ℕ
-row_so_far at bs j = pad 0 36 (head_at at bs ++ take j (numbers_at (count_at at bs) (at + 8) bs))
-
-number_at_lem : (bs : List ℕ) (n at j : ℕ) → j < n → get_or (numbers_at n at bs) j 0 ≡ number_at 2 (at + 2 * j) bs
-number_at_lem bs zero at j h = absurd (not-suc-le-zero h)
-number_at_lem bs (suc n) at zero h = ap (λ (i : ℕ). number_at 2 i bs) (let z : at ≡ at + 2 * 0 = omega arith in z)
-number_at_lem bs (suc n) at (suc j) h = number_at_lem bs n (2 + at) j (le_of_suc-le-suc h) ∙ ap (λ (i : ℕ). number_at 2 i bs) (let z : 2 + at + 2 * j ≡ at + 2 * suc j = omega arith in z)
-
-pub whole_next : (bs : List ℕ) (at j n : ℕ) {row : List ℕ} {x word : ℕ} → n ≡ count_at at bs → row ≡ row_so_far at bs j → word ≡ number_at 2 (at + 8 + 2 * j) bs
-    → x ≡ (if ltb j n then word else 0) → j < 32 → set row (4 + j) x ≡ row_so_far at bs (j + 1)
-whole_next bs at j n {row} {x} {word} c e w q h =
-    ap (λ (l : List ℕ). set l (4 + j) x) e ∙ fill_front 0 36 (head_at at bs) (numbers_at (count_at at bs) (at + 8) bs) j x (q ∙ go (ltb j n) refl ∙ same) (omega (arith, h))
-  where
-    go : (b : Bool) → ltb j n ≡ b → (if b then word else 0) ≡ (if b then get_or (numbers_at (count_at at bs) (at + 8) bs) j 0 else 0)
-    go true t = w ∙ sym (number_at_lem bs (count_at at bs) (at + 8) j (let l = ltb-true j n t in omega (arith, l, c)))
-    go false t = refl
-
-    same : (if ltb j n then get_or (numbers_at (count_at at bs) (at + 8) bs) j 0 else 0)
-        ≡ (if ltb j (length (numbers_at (count_at at bs) (at + 8) bs)) then get_or (numbers_at (count_at at bs) (at + 8) bs) j 0 else 0)
-    same = ap (λ (k : ℕ). if ltb j k then get_or (numbers_at (count_at at bs) (at + 8) bs) j 0 else 0) (c ∙ sym (numbers_long bs (count_at at bs) (at + 8)))
-
-pub whole_end : (bs : List ℕ) (at j : ℕ) → count_at at bs ≤ j → row_so_far at bs j ≡ pad 0 36 (row_at at bs)
-whole_end bs at j h =
-    ap (λ (l : List ℕ). pad 0 36 (head_at at bs ++ l)) (take_all j (numbers_at (count_at at bs) (at + 8) bs) (let l = numbers_long bs (count_at at bs) (at + 8) in omega (arith, l, h)))

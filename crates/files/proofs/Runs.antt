@@ -6,7 +6,7 @@ use native.Mathlib.Nat.{le_of_suc-le-suc, not-suc-le-zero}
 use native.Mathlib.Omega.{arith}
 use lib.ListN.{length, get_or, take, drop, length-drop}
 use Rattle.rules.specs.Files.{Reading, broken, got, and_then, many}
-use Rattle.rules.proofs.ByteLaws.{got_rest, and_then_lem}
+use Rattle.rules.proofs.ByteLaws.{got_value, got_rest, and_then_lem}
 use Rattle.files.specs.Runs.{Read, Run}
 
 -- two ends within the bytes that leave the same bytes are one
@@ -23,6 +23,9 @@ broken_then r g e = ap (λ q. and_then q g) e
 module _ {A : Type 0} (f : List ℕ → Reading A) (bs : List ℕ) where
   -- ---- one record: what it says, and where it ends
 
+  pub read_value : (at : ℕ) (x y : A) (i j : ℕ) → Read f bs at x i → Read f bs at y j → x ≡ y
+  read_value at x y i j r s = got_value x y (drop i bs) (drop j bs) (sym r.says ∙ s.says)
+
   pub read_end : (at : ℕ) (x y : A) (i j : ℕ) → Read f bs at x i → Read f bs at y j → i ≡ j
   read_end at x y i j r s = same_end bs i j r.within s.within (got_rest x y (drop i bs) (drop j bs) (sym r.says ∙ s.says))
 
@@ -37,6 +40,12 @@ module _ {A : Type 0} (f : List ℕ → Reading A) (bs : List ℕ) where
   run_many at (x ∷ xs) end r =
       and_then_lem (f (drop at bs)) _ x (drop r.0 bs) r.1.says
       ∙ and_then_lem (many (length xs) f (drop r.0 bs)) _ xs (drop end bs) (run_many r.0 xs end r.2)
+
+  -- it has one end
+  pub run_end : (at : ℕ) (xs : List A) (i j : ℕ) → Run f bs at xs i → Run f bs at xs j → i ≡ j
+  run_end at xs i j r s =
+      same_end bs i j (run_within at xs i r) (run_within at xs j s)
+      (got_rest xs xs (drop i bs) (drop j bs) (sym (run_many at xs i r) ∙ run_many at xs j s))
 
   -- one run after another
   pub run_append : (at : ℕ) (xs : List A) (mid : ℕ) (ys : List A) (end : ℕ) → Run f bs at xs mid → Run f bs mid ys end → Run f bs at (xs ++ ys) end

@@ -43,8 +43,3 @@ row_at at bs = row_front (count_at at bs) at bs
 pub record RowReady (bs : List ℕ) (at : ℕ) : Type 0 where
   pub boundary : count_at at bs ≤ desk.boundary
   pub within : at + 8 + 2 * count_at at bs ≤ length bs
-
--- and so does a row with a boundary of any size
-pub record WholeRowReady (bs : List ℕ) (at : ℕ) : Type 0 where
-  pub row : RowReady bs at
-  pub whole : at + 8 + 2 * desk.boundary ≤ length bs

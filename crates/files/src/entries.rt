@@ -5,12 +5,11 @@ ghost use Rattle.rules.specs.Lists.{if◌then◌else◌, pad};
 ghost use Rattle.rules.specs.Floats.{plus_zero};
 ghost use Rattle.rules.specs.Bytes.{float_at, floats_at};
 ghost use Rattle.space.specs.Numbers.{row_width};
-ghost use Rattle.files.specs.Entries.{PointReady, PlaneReady, plane_at, RowReady, WholeRowReady, row_front, row_at};
+ghost use Rattle.files.specs.Entries.{PointReady, PlaneReady, plane_at, RowReady, row_at};
 
 use lent_bytes::read;
 use rules::Hyperplane;
-use space::rows::within;
-use space::words::{AXES, BOUNDARY, WIDTH};
+use space::words::{AXES, WIDTH};
 
 // A float of a record: zero past the dimension.
 fn component(bytes: &[u8], from: usize, d: usize, axis: usize) -> f64
@@ -45,53 +44,19 @@ pub fn plane_at(bytes: &[u8], at: usize, d: usize) -> Hyperplane
     Hyperplane { normal, distance }
 }
 
-// The words before a boundary, and zeros: rank and mark have a byte each, hyperplane and count two.
-fn head_at(bytes: &[u8], at: usize) -> [u16; WIDTH]
-    requires { RowReady bytes.now at }
-    ensures { result ≡ pad 0 row_width (row_front 0 at bytes.now) }
-{
-    let mut row = [0u16; WIDTH];
-    row[0] = read::one(bytes, at + 2) as u16;
-    row[1] = read::one(bytes, at + 3) as u16;
-    row[2] = read::two(bytes, at + 4) as u16;
-    row[3] = read::two(bytes, at + 6) as u16;
-    row
-}
-
-// Near the file's end: only as many numbers are read as the record has.
-fn last_row_at(bytes: &[u8], at: usize) -> [u16; WIDTH]
-    requires { RowReady bytes.now at }
-    ensures { result ≡ pad 0 row_width (row_at at bytes.now) }
-{
-    let mut row = head_at(bytes, at);
-    let n = read::two(bytes, at + 6) as usize;
-    for j in 0..n {
-        row[4 + j] = read::two(bytes, at + 8 + 2 * j) as u16;
-    }
-    row
-}
-
-// Where a whole row of bytes is there, all of it is read, so that many words are read at once, and the row is read as it was written.
-fn whole_row_at(bytes: &[u8], at: usize) -> [u16; WIDTH]
-    requires { WholeRowReady bytes.now at }
-    ensures { result ≡ pad 0 row_width (row_at at bytes.now) }
-{
-    let mut row = head_at(bytes, at);
-    let n = read::two(bytes, at + 6) as u16;
-    for j in 0..BOUNDARY {
-        let word = read::two(bytes, at + 8 + 2 * j) as u16;
-        row[4 + j] = within(word, j as u16, n);
-    }
-    row
-}
-
-// A record as a row.
+// Rank and mark have a byte each, all else two.
 pub fn row_at(bytes: &[u8], at: usize) -> [u16; WIDTH]
     requires { RowReady bytes.now at }
     ensures { result ≡ pad 0 row_width (row_at at bytes.now) }
 {
-    if bytes.len() - at < 8 + 2 * BOUNDARY {
-        return last_row_at(bytes, at);
+    let n = read::two(bytes, at + 6) as usize;
+    let mut row = [0u16; WIDTH];
+    row[0] = read::one(bytes, at + 2) as u16;
+    row[1] = read::one(bytes, at + 3) as u16;
+    row[2] = read::two(bytes, at + 4) as u16;
+    row[3] = n as u16;
+    for j in 0..n {
+        row[4 + j] = read::two(bytes, at + 8 + 2 * j) as u16;
     }
-    whole_row_at(bytes, at)
+    row
 }

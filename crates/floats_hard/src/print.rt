@@ -1,7 +1,7 @@
 // Words of the output, each after a space.
 use hypermath::narrow::narrowed_bits;
 use hypermath::{DistanceKind, FoundHyperplane, FoundVertex};
-use rules::{Crossing, EdgeTest, Hyperplane, Side};
+use rules::{Crossing, EdgeTest, Hyperplane, HyperplaneId, Side, VertexId};
 
 // What starts a line.
 pub fn name(text: &[u8]) {

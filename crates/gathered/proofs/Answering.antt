@@ -21,11 +21,12 @@ use Rattle.rules.proofs.Laws.{test_le}
 use Rattle.rules.proofs.Ranked.{set_later, some_later}
 use Rattle.rules.proofs.Stays.{Kept, Stays}
 use Rattle.rules.proofs.StaysCut.{new_intersection_stays, side_stays}
+use Rattle.space.specs.Chains.{Indexed}
 use Rattle.space.specs.declared.memo.Added.{Added}
 use Rattle.space.specs.declared.memo.Added.TheVariants as added
 use Rattle.gathered.specs.declared.answer.ElementReply.{ElementReply}
 use Rattle.gathered.specs.declared.answer.ElementReply.TheVariants as reply
-use Rattle.gathered.specs.Sets.{set_words, numbers_in, tally_in, inside_in, outside_in, intersections_in, SizedSet, Shaped, Used}
+use Rattle.gathered.specs.Sets.{numbers_in, tally_in, inside_in, outside_in, intersections_in, SizedSet, Shaped, Used}
 use Rattle.gathered.specs.Cutting.{cut_of, answered_by, Fit, IntersectionFit, IntersectionReady, IntersectionMade, SideFit, SideReady, SideMade, Rule6Fit, Rule6Ready, Rule6Done, SideSet, Rule7Fit, Rule7Ready, Rule7Done}
 use Rattle.rules.specs.declared.Cutter.{Cutter}
 use Rattle.gathered.proofs.Fitting.{rank_before, owner_of, rank_low}
@@ -105,13 +106,13 @@ module _ {cs es : List ℕ} {r e : ℕ} {k : Cutter} {ps hs : List Float} {t : T
 
 -- the room after one of its sides, and after both
 module _ (s : List (List ℕ)) (i : List ℕ) where
-  one_used : Shaped s → length i ≡ set_words → Used s (set s 1 i)
+  one_used : Shaped s → length i ≡ 34 → Used s (set s 1 i)
   one_used S l = by_four (λ (r : List (List ℕ)). Shaped r → Used r (set r 1 i)) go s S.four S
     where
       go : (f ri ro rx : List ℕ) → Shaped (f ∷ ri ∷ ro ∷ rx ∷ []) → Used (f ∷ ri ∷ ro ∷ rx ∷ []) (f ∷ i ∷ ro ∷ rx ∷ [])
       go f ri ro rx T = record { shaped = record { four = refl; tally = T.tally; inside = l; outside = T.outside; intersections = T.intersections }; warning = refl }
 
-  both_used : (o : List ℕ) → Shaped s → length i ≡ set_words → length o ≡ set_words → Used s (set (set s 1 i) 2 o)
+  both_used : (o : List ℕ) → Shaped s → length i ≡ 34 → length o ≡ 34 → Used s (set (set s 1 i) 2 o)
   both_used o S l m = by_four (λ (r : List (List ℕ)). Shaped r → Used r (set (set r 1 i) 2 o)) go s S.four S
     where
       go : (f ri ro rx : List ℕ) → Shaped (f ∷ ri ∷ ro ∷ rx ∷ []) → Used (f ∷ ri ∷ ro ∷ rx ∷ []) (f ∷ i ∷ o ∷ rx ∷ [])
@@ -207,7 +208,7 @@ intersected k e t g = new_intersection desk (cut_of t.dimension k) (rank_of (ele
 
 -- from what rule 6 has: its sets for rule 7, and its intersection
 module _ {cs es : List ℕ} {r e : ℕ} {k : Cutter} {s : List (List ℕ)} {ps hs : List Float} {t : Table} {g : Gathered} (F : Rule6Fit cs ps hs es r e k s t g) where
-  side_set : {set xs : List ℕ} → numbers_in set ≡ xs → SizedSet set desk.boundary → SetOf t (suc (r - 1)) xs → SideSet r t set xs
+  side_set : {set xs : List ℕ} → numbers_in set ≡ xs → SizedSet set 32 → SetOf t (suc (r - 1)) xs → SideSet r t set xs
   side_set {xs = xs} h z q = record { held = h; sized = z; sets = subst (λ (n : ℕ). SetOf t n xs) (sym (rank_before r F.some)) q }
 
   rule7_fit : {cs₁ es₁ : List ℕ} {u : Table} (U : Later cs₁ ps hs es₁ t u) (x : ElementOrNone) → SomeOf r x u → Rule7Fit cs₁ ps hs es₁ r e k s x u g

@@ -22,21 +22,20 @@ use Rattle.rules.proofs.Good.{Good, all_below_lem, sound_at, whole}
 use Rattle.rules.proofs.Laws.{le_test, eq_test, or_case}
 use Rattle.rules.proofs.Ranked.{set_under}
 use Rattle.rules.proofs.StaysCut.{Owner, facts}
-use Rattle.space.specs.Numbers.{row_width}
 use Rattle.space.specs.Closed.{Low, LowEnds, EndsLow, EachEdge, Edges, Untwinned}
 use Rattle.space.proofs.Room.{list_of, list_word_lem}
 use Rattle.gathered.specs.Sets.{size_in, numbers_in, InRoom}
 
 -- what is in use is within the room
-pub some_fits : (t : Table) → element_count t ≤ desk.elements → (q : ℕ) (x : ElementOrNone) → SomeOf q x t → InRoom x
+pub some_fits : (t : Table) → element_count t ≤ 512 → (q : ℕ) (x : ElementOrNone) → SomeOf q x t → InRoom x
 some_fits t c q None h = tt
 some_fits t c q (Some e) h = le_trans h.0 c
 
-pub low_of : (t : Table) → element_count t ≤ desk.elements → (q : ℕ) (s : List ℕ) → AllOf (Ranked t q) (numbers_in s) → Low s (size_in s)
+pub low_of : (t : Table) → element_count t ≤ 512 → (q : ℕ) (s : List ℕ) → AllOf (Ranked t q) (numbers_in s) → Low s (size_in s)
 low_of t c q s a = record {
   at = λ k h.
-      subst (λ (y : ℕ). y < desk.elements) (get_or-take (size_in s) s k 0 h)
-      (below_get desk.elements (numbers_in s) k (lit≤ tt) (below_more (numbers_in s) c (all_below_lem (element_count t) (numbers_in s) (set_under t q (numbers_in s) a))));
+      subst (λ (y : ℕ). y < 512) (get_or-take (size_in s) s k 0 h)
+      (below_get 512 (numbers_in s) k (lit≤ tt) (below_more (numbers_in s) c (all_below_lem (element_count t) (numbers_in s) (set_under t q (numbers_in s) a))));
 }
 
 -- an element of rank 1 in a sound table has two ends, the lower first
@@ -69,28 +68,28 @@ edges_of t g xs up h = (up, each xs h, alone)
 
 -- those ends are within the room, as the memory has them
 module _ (t : Table) (F : Fits desk t) (g : Good desk t) where
-  end_low : (x j : ℕ) → Ranked t 2 x → j < 2 → get_or (elements_of desk t) (x * row_width + (4 + j)) 0 < desk.elements
+  end_low : (x j : ℕ) → Ranked t 2 x → j < 2 → get_or (elements_of desk t) (x * 36 + (4 + j)) 0 < 512
   end_low x j h l =
       let f = go (element t x) h.1 (sound_at desk t x g h.0) in
       let two = f.0 in
-      subst (λ (y : ℕ). y < desk.elements)
-      (sym (list_word_lem desk t F x h.0 j (let q : j < length (list_of (element t x)) = omega (arith, two, l) in q) (let q : 4 + j < row_width = omega (arith, l) in q)))
-      (below_get desk.elements (list_of (element t x)) j (lit≤ tt) f.1)
+      subst (λ (y : ℕ). y < 512)
+      (sym (list_word_lem desk t F x h.0 j (let q : j < length (list_of (element t x)) = omega (arith, two, l) in q) (let q : 4 + j < 36 = omega (arith, l) in q)))
+      (below_get 512 (list_of (element t x)) j (lit≤ tt) f.1)
     where
-      go : (y : Element) → suc (rank_of y) ≡ 2 → sound_element t x y ≡ true → (length (list_of y) ≡ 2) × Below desk.elements (list_of y)
+      go : (y : Element) → suc (rank_of y) ≡ 2 → sound_element t x y ≡ true → (length (list_of y) ≡ 2) × Below 512 (list_of y)
       go (corner v) e s = absurd (let z : ⊥ = omega (arith, e) in z)
       go (polytope r b k m) e s =
           let w = (whole t x r b k m s).bound in
           let u = h.0 in
           let c = F.element_room in (
             eq_test (length b) 2 (subst (λ (n : ℕ). closed t n b ≡ true) (let q : r ≡ 1 = omega (arith, e) in q) w.tight),
-            below_more b (let q : x ≤ desk.elements = omega (arith, u, c) in q) (all_below_lem x b w.under),
+            below_more b (let q : x ≤ 512 = omega (arith, u, c) in q) (all_below_lem x b w.under),
           )
 
-  end_apart : (x : ℕ) → Ranked t 2 x → get_or (elements_of desk t) (x * row_width + 4) 0 < get_or (elements_of desk t) (x * row_width + 5) 0
+  end_apart : (x : ℕ) → Ranked t 2 x → get_or (elements_of desk t) (x * 36 + 4) 0 < get_or (elements_of desk t) (x * 36 + 5) 0
   end_apart x h = go (element t x) refl (edge_whole t g x h)
     where
-      go : (y : Element) → element t x ≡ y → (length (boundary_of y) ≡ 2) × (rises (boundary_of y) ≡ true) → get_or (elements_of desk t) (x * row_width + 4) 0 < get_or (elements_of desk t) (x * row_width + 5) 0
+      go : (y : Element) → element t x ≡ y → (length (boundary_of y) ≡ 2) × (rises (boundary_of y) ≡ true) → get_or (elements_of desk t) (x * 36 + 4) 0 < get_or (elements_of desk t) (x * 36 + 5) 0
       go (corner v) e w = absurd (let two = w.0 in let z : ⊥ = omega (arith, two) in z)
       go (polytope r b k m) e w =
           let two = w.0 in

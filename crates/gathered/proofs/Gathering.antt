@@ -1,5 +1,5 @@
 -- The room of a cut: it is cleared, a warning is noted, and an answer is gathered. A flush answer is counted and is now the last, and the three parts of another go to their sets.
-use Prim.Native.Nat.{ℕ, ◌+◌, ◌-◌, ◌≤◌, ◌<◌}
+use Prim.Native.Nat.{ℕ, ◌+◌, ◌≤◌, ◌<◌}
 use mathlib.Core.Bool.{Bool, ◌||◌}
 use mathlib.Core.List.{List, [], ◌∷◌}
 use mathlib.Core.Path.{◌≡◌, refl, sym, ap, ◌∙◌, subst}
@@ -7,16 +7,15 @@ use native.Mathlib.Nat.{le_trans, le_of_eq}
 use native.Mathlib.Numerals.{add-one}
 use native.Mathlib.Omega.{arith}
 use lib.Dec.{ltb, lit≤}
-use lib.ListN.{length, get_or, take, set, length-set}
+use lib.ListN.{length, get_or, take, set, replicate, length-set}
 use lib.Seq.{get_or-set_same, get_or-set_other}
-use Rattle.rules.specs.Limits.{desk}
 use Rattle.rules.specs.Cut.{including}
 use Rattle.rules.specs.declared.ElementId.{ElementId}
 use Rattle.rules.specs.declared.ElementOrNone.{ElementOrNone}
 use Rattle.rules.specs.declared.ElementOrNone.TheVariants.{Some}
 use Rattle.rules.specs.declared.ElementCutOutput.{ElementCutOutput}
 use Rattle.rules.specs.declared.ElementCutOutput.TheVariants.{Flush, NonFlush}
-use Rattle.gathered.specs.Sets.{size_place, set_words, size_in, numbers_in, tally_in, inside_in, outside_in, intersections_in, warning_in, SizedSet, Shaped, Sized, Cleared, Noted}
+use Rattle.gathered.specs.Sets.{size_in, numbers_in, tally_in, inside_in, outside_in, intersections_in, warning_in, SizedSet, Shaped, Sized, Cleared, Noted}
 use Rattle.gathered.specs.Sets.{InRoom, IncludeReady, Included, SidesInRoom, OutputInRoom, OutputGathered}
 
 pub at_most : {s : List ℕ} (i m : ℕ) → i ≤ m → SizedSet s i → SizedSet s m
@@ -58,7 +57,7 @@ module _ (s : List (List ℕ)) (c : List ℕ) where
 -- ---- the words of a tally, and of a set's size
 
 -- the first two words, once they say n and b
-module _ (f : List ℕ) (n b : ℕ) (long : length f ≡ set_words) where
+module _ (f : List ℕ) (n b : ℕ) (long : length f ≡ 34) where
   pub said_count : get_or (set (set f 0 n) 1 b) 0 0 ≡ n
   said_count = get_or-set_other (set f 0 n) 1 0 b 0 (λ e. (let z : ⊥ = omega (arith, e) in z)) ∙ get_or-set_same f 0 n 0 (let q : 0 < length f = omega (arith, long) in q)
 
@@ -70,27 +69,27 @@ module _ (f : List ℕ) (n b : ℕ) (long : length f ≡ set_words) where
   said_warning =
       ap (ltb 0) (get_or-set_other (set f 0 n) 1 2 b 0 (λ e. (let z : ⊥ = omega (arith, e) in z)) ∙ get_or-set_other f 0 2 n 0 (λ e. (let z : ⊥ = omega (arith, e) in z)))
 
-  pub said_long : length (set (set f 0 n) 1 b) ≡ set_words
+  pub said_long : length (set (set f 0 n) 1 b) ≡ 34
   said_long = length-set (set f 0 n) 1 b ∙ length-set f 0 n ∙ long
 
-module _ (i : List ℕ) (long : length i ≡ set_words) where
-  emptied : size_in (set i size_place 0) ≡ 0
-  emptied = get_or-set_same i size_place 0 0 (let q : size_place < length i = omega (arith, long) in q)
+module _ (i : List ℕ) (long : length i ≡ 34) where
+  emptied : size_in (set i 33 0) ≡ 0
+  emptied = get_or-set_same i 33 0 0 (let q : 33 < length i = omega (arith, long) in q)
 
-  no_numbers : numbers_in (set i size_place 0) ≡ []
-  no_numbers = ap (λ (n : ℕ). take n (set i size_place 0)) emptied
+  no_numbers : numbers_in (set i 33 0) ≡ []
+  no_numbers = ap (λ (n : ℕ). take n (set i 33 0)) emptied
 
-  no_size : size_in (set i size_place 0) ≤ 0
+  no_size : size_in (set i 33 0) ≤ 0
   no_size = le_of_eq emptied
 
-  empty_long : length (set i size_place 0) ≡ set_words
-  empty_long = length-set i size_place 0 ∙ long
+  empty_long : length (set i 33 0) ≡ 34
+  empty_long = length-set i 33 0 ∙ long
 
 -- ---- the room is cleared, or a warning is noted
 
 -- the count of flush answers and the last one, and the size of each set
 abbrev pub blank : List (List ℕ) → List (List ℕ)
-blank s = wrote (wrote (wrote (wrote (wrote s 0 0 0) 0 1 0) 1 size_place 0) 2 size_place 0) 3 size_place 0
+blank s = wrote (wrote (wrote (wrote (wrote s 0 0 0) 0 1 0) 1 33 0) 2 33 0) 3 33 0
 
 pub cleared : (s : List (List ℕ)) → Shaped s → Cleared s (blank s)
 cleared s S = by_four (λ (r : List (List ℕ)). Shaped r → Cleared r (blank r)) go s S.four S
@@ -202,15 +201,15 @@ module _ (b : ℕ) (a : ElementCutOutput) where
 
 -- ---- elements within the room
 
-pub some_room : {p : ElementOrNone} (e : ElementId) → p ≡ Some e → InRoom p → e.0 < desk.elements
+pub some_room : {p : ElementOrNone} (e : ElementId) → p ≡ Some e → InRoom p → e.0 < 512
 some_room e q h = subst InRoom q h
 
 pub sides_room : {a : ElementCutOutput} (i o x : ElementOrNone) → a ≡ NonFlush i o x → OutputInRoom a → SidesInRoom i o x
 sides_room i o x q h = subst OutputInRoom q h
 
-pub include_ready : {s : List ℕ} {p : ElementOrNone} → SizedSet s (desk.boundary - 1) → InRoom p → IncludeReady s p
-include_ready z h = record { sized = at_most (desk.boundary - 1) desk.boundary (lit≤ tt) z; room = h }
+pub include_ready : {s : List ℕ} {p : ElementOrNone} → SizedSet s 31 → InRoom p → IncludeReady s p
+include_ready z h = record { sized = at_most 31 32 (lit≤ tt) z; room = h }
 
 -- of a set that is read where another was changed
-pub include_ready_as : {s s' : List ℕ} {p : ElementOrNone} → s' ≡ s → SizedSet s (desk.boundary - 1) → InRoom p → IncludeReady s' p
+pub include_ready_as : {s s' : List ℕ} {p : ElementOrNone} → s' ≡ s → SizedSet s 31 → InRoom p → IncludeReady s' p
 include_ready_as {p = p} q z h = subst (λ (l : List ℕ). IncludeReady l p) (sym q) (include_ready z h)

@@ -12,12 +12,11 @@ use lib.Dec.{eqb}
 use lib.ListN.{length, get_or, take, drop, set, length-append, length-drop, length-set, take-append-drop}
 use lib.Seq.{sets, sets-eq, length-sets, drop-cons, take-suc, take_at, get_or-take, get_or-drop, length-take-le, take-take, take_all, append_snoc}
 use lib.Seq.{get_or-set_same, get_or-set_other, set-set, set-get_or, take-set-le}
-use Rattle.rules.specs.Limits.{desk}
 use Rattle.rules.specs.Lists.{if◌then◌else◌, with_member}
 use Rattle.rules.specs.declared.ElementOrNone.{ElementOrNone}
 use Rattle.rules.specs.declared.ElementOrNone.TheVariants.{None, Some}
 use Rattle.space.proofs.RowWords.{sets_more}
-use Rattle.gathered.specs.Sets.{size_place, size_in, numbers_in, SizedSet, Included, Passed, Place, shifted, put_at}
+use Rattle.gathered.specs.Sets.{size_in, numbers_in, SizedSet, Included, Passed, Place, shifted, put_at}
 
 -- ---- in a list
 
@@ -77,7 +76,7 @@ pub record Moving (s : List ℕ) (x at j : ℕ) (words : List ℕ) (next : ℕ) 
   pub stored : words ≡ shifted s x at j
   pub at_hand : next ≡ get_or s (at + j) 0
 
-module _ (s : List ℕ) (x : ℕ) (Z : SizedSet s desk.boundary) where
+module _ (s : List ℕ) (x : ℕ) (Z : SizedSet s 32) where
   abbrev xs : List ℕ
   xs = numbers_in s
 
@@ -144,9 +143,9 @@ module _ (s : List ℕ) (x : ℕ) (Z : SizedSet s desk.boundary) where
           at_hand = ap (λ (l : List ℕ). get_or l (at + 1 + j) 0) N.stored ∙ not_moved j h ∙ ap (λ (n : ℕ). get_or s n 0) (let q : at + 1 + j ≡ at + (j + 1) = omega arith in q);
         })
 
-    pub moving_end : {w : List ℕ} {v : ℕ} (j n : ℕ) → j ≡ size_in s - at → n ≡ size_in s → Moving was x at j w v → set w size_place (n + 1) ≡ put_at s x at
+    pub moving_end : {w : List ℕ} {v : ℕ} (j n : ℕ) → j ≡ size_in s - at → n ≡ size_in s → Moving was x at j w v → set w 33 (n + 1) ≡ put_at s x at
     moving_end {w} j n e k M =
-        ap₂ (λ (l : List ℕ) (i : ℕ). set l size_place (i + 1)) (M.stored ∙ ap₂ (λ (o : List ℕ) (i : ℕ). shifted o x at i) was_so e) k
+        ap₂ (λ (l : List ℕ) (i : ℕ). set l 33 (i + 1)) (M.stored ∙ ap₂ (λ (o : List ℕ) (i : ℕ). shifted o x at i) was_so e) k
 
     moved_long : (j : ℕ) → length (moved j) ≡ length s
     moved_long j = length-sets (set s at x) (at + 1) (take j (drop at xs)) ∙ length-set s at x
@@ -156,21 +155,21 @@ module _ (s : List ℕ) (x : ℕ) (Z : SizedSet s desk.boundary) where
     put_size =
         let a = moved_long (size_in s - at) in
         let b = Z.long in
-        get_or-set_same (moved (size_in s - at)) size_place (size_in s + 1) 0 (let q : size_place < length (moved (size_in s - at)) = omega (arith, a, b) in q)
+        get_or-set_same (moved (size_in s - at)) 33 (size_in s + 1) 0 (let q : 33 < length (moved (size_in s - at)) = omega (arith, a, b) in q)
 
     -- and the numbers stand in front of it
     put_numbers : numbers_in (put_at s x at) ≡ take (size_in s + 1) (moved (size_in s - at))
     put_numbers =
         let a = Z.most in
         ap (λ (n : ℕ). take n (put_at s x at)) put_size
-        ∙ take-set-le (size_in s + 1) (moved (size_in s - at)) size_place (size_in s + 1) (let q : size_in s + 1 ≤ size_place = omega (arith, a) in q)
+        ∙ take-set-le (size_in s + 1) (moved (size_in s - at)) 33 (size_in s + 1) (let q : size_in s + 1 ≤ 33 = omega (arith, a) in q)
 
     include_new : with_member x xs ≡ take at xs ++ x ∷ drop at xs → Included s (Some (record { 0 = x })) (put_at s x at)
     include_new e = record {
       of = put_numbers ∙ content ∙ sym e;
       sized = λ m z. record {
         most = (let q = z.most in let p = put_size in omega (arith, p, q));
-        long = length-set (moved (size_in s - at)) size_place (size_in s + 1) ∙ moved_long (size_in s - at) ∙ z.long;
+        long = length-set (moved (size_in s - at)) 33 (size_in s + 1) ∙ moved_long (size_in s - at) ∙ z.long;
       };
     }
       where

@@ -27,7 +27,7 @@ use Rattle.space.specs.declared.memo.Added.{Added}
 use Rattle.space.specs.declared.memo.Added.TheVariants as added
 use Rattle.space.proofs.VertexMemo.{dimension_is}
 use Rattle.space.proofs.Slices.{slices}
-use Rattle.gathered.specs.Sets.{size_place, size_in, numbers_in}
+use Rattle.gathered.specs.Sets.{size_in, numbers_in}
 use Rattle.gathered.specs.Cutting.{cut_of, PlaneReady, IntersectionFit, IntersectionReady, IntersectionMade}
 use Rattle.rules.specs.declared.Cutter.{Cutter}
 use Rattle.gathered.proofs.Fitting.{low_of, edges_of, ends_low}
@@ -56,7 +56,7 @@ module _ {cs es : List ℕ} {r : ℕ} {k : Cutter} {set : List ℕ} where
         elements = (slices F.holds).elements;
         room = (slices F.holds).elements_fit;
         words = F.sized.long;
-        size = (let q : n ≤ size_place = omega (arith, size, most) in q);
+        size = (let q : n ≤ 33 = omega (arith, size, most) in q);
         rank = (let q : r - 1 < 65536 = omega (arith, low, four) in q);
         low = subst (Low set) (sym size) (low_of t F.holds.fits.element_room (r - 1) set F.sets.ranked);
         edges = (λ two.

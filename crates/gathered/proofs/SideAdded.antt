@@ -25,7 +25,6 @@ use Rattle.rules.proofs.Laws.{le_test, and_left, and_right, mark_back}
 use Rattle.rules.proofs.Missed.{own_polytope}
 use Rattle.rules.proofs.Ranked.{set_including}
 use Rattle.rules.proofs.RoundTrip.{plane_back}
-use Rattle.space.specs.Numbers.{row_width}
 use Rattle.space.specs.Ready.{ElementReady, PolytopeReady}
 use Rattle.space.specs.Chains.{Indexed}
 use Rattle.space.specs.Closed.{Low, LowEnds, Edges}
@@ -35,19 +34,19 @@ use Rattle.space.specs.declared.memo.Added.TheVariants as added
 use Rattle.space.proofs.Room.{size_of, list_of, plane_word, mark_word, size_word_lem, list_word_lem}
 use Rattle.space.proofs.RowAdds.{readable_desk}
 use Rattle.space.proofs.Slices.{slices}
-use Rattle.gathered.specs.Sets.{size_place, size_in, numbers_in, IncludeReady, Included}
+use Rattle.gathered.specs.Sets.{size_in, numbers_in, IncludeReady, Included}
 use Rattle.gathered.specs.Cutting.{RowReadable, OwnBoundary, SideFit, SideReady, SideMade}
 use Rattle.gathered.proofs.Fitting.{some_fits, low_of, edges_of, ends_low, rank_low}
 
 -- a row that fits names its hyperplane, or none
 plane_named_lem : (z : Element) → fitting desk z ≡ true → plane_named (plane_number (plane_of z)) ≡ plane_of z
 plane_named_lem (corner v) f = refl
-plane_named_lem (polytope a b h c) f = plane_back desk readable_desk h (and_right (leb 1 a && leb (length b) desk.boundary) (not (eqb (plane_number h) no_plane && not (names_none h))) f)
+plane_named_lem (polytope a b h c) f = plane_back desk readable_desk h (and_right (leb 1 a && leb (length b) 32) (not (eqb (plane_number h) no_plane && not (names_none h))) f)
 
 -- and has no more numbers than a row has places
-row_short : (z : Element) → fitting desk z ≡ true → size_of z ≤ desk.boundary
+row_short : (z : Element) → fitting desk z ≡ true → size_of z ≤ 32
 row_short (corner v) f = lit≤ tt
-row_short (polytope a b h c) f = le_test (length b) desk.boundary (and_right (leb 1 a) (leb (length b) desk.boundary) (and_left (leb 1 a && leb (length b) desk.boundary) _ f))
+row_short (polytope a b h c) f = le_test (length b) 32 (and_right (leb 1 a) (leb (length b) 32) (and_left (leb 1 a && leb (length b) 32) _ f))
 
 list_size_lem : (z : Element) → length (list_of z) ≡ size_of z
 list_size_lem (corner v) = refl
@@ -69,7 +68,7 @@ module _ {cs es : List ℕ} {r e : ℕ} {set : List ℕ} {x : ElementOrNone} whe
   side_asks R all I n size =
       let F = R.fit in
       let t = R.table in
-      let z = I.sized desk.boundary F.sized in
+      let z = I.sized 32 F.sized in
       let most = z.most in
       let long = z.long in
       let g = sound_good desk t F.sound in
@@ -80,7 +79,7 @@ module _ {cs es : List ℕ} {r e : ℕ} {set : List ℕ} {x : ElementOrNone} whe
         elements = (slices F.holds).elements;
         room = (slices F.holds).elements_fit;
         words = z.long;
-        size = (let q : n ≤ size_place = omega (arith, size, most) in q);
+        size = (let q : n ≤ 33 = omega (arith, size, most) in q);
         rank = (let q : r < 65536 = omega (arith, low, four) in q);
         low = subst (Low all) (sym size) (low_of t F.holds.fits.element_room r all (subst (AllOf (Ranked t r)) (sym I.of) (set_with F).ranked));
         edges = (λ two.
@@ -101,17 +100,17 @@ module _ {cs es : List ℕ} {r e : ℕ} {set : List ℕ} {x : ElementOrNone} whe
     own_fits : fitting desk (element t e) ≡ true
     own_fits = all_get (fitting desk) t.elements e (corner 0) F.used F.holds.fits.kinds
 
-    own_size : get_or es (e * row_width + 3) 0 ≡ size_of (element t e)
-    own_size = ap (λ (l : List ℕ). get_or l (e * row_width + 3) 0) F.holds.elements ∙ size_word_lem desk t F.holds.fits e F.used
+    own_size : get_or es (e * 36 + 3) 0 ≡ size_of (element t e)
+    own_size = ap (λ (l : List ℕ). get_or l (e * 36 + 3) 0) F.holds.elements ∙ size_word_lem desk t F.holds.fits e F.used
 
-    own_plane : (plane : ℕ) → plane ≡ get_or es (e * row_width + 2) 0 → plane_named plane ≡ plane_of (element t e)
+    own_plane : (plane : ℕ) → plane ≡ get_or es (e * 36 + 2) 0 → plane_named plane ≡ plane_of (element t e)
     own_plane plane p =
-        ap plane_named (p ∙ ap (λ (l : List ℕ). get_or l (e * row_width + 2) 0) F.holds.elements ∙ plane_word desk t F.holds.fits e F.used)
+        ap plane_named (p ∙ ap (λ (l : List ℕ). get_or l (e * 36 + 2) 0) F.holds.elements ∙ plane_word desk t F.holds.fits e F.used)
         ∙ plane_named_lem (element t e) own_fits
 
-    own_mark : (mark : Bool) → mark ≡ eqb (get_or es (e * row_width + 1) 0) 1 → mark ≡ is_primordial (element t e)
+    own_mark : (mark : Bool) → mark ≡ eqb (get_or es (e * 36 + 1) 0) 1 → mark ≡ is_primordial (element t e)
     own_mark mark m =
-        m ∙ ap (λ (l : List ℕ). eqb (get_or l (e * row_width + 1) 0) 1) F.holds.elements ∙ ap (λ (n : ℕ). eqb n 1) (mark_word desk t F.holds.fits e F.used)
+        m ∙ ap (λ (l : List ℕ). eqb (get_or l (e * 36 + 1) 0) 1) F.holds.elements ∙ ap (λ (n : ℕ). eqb n 1) (mark_word desk t F.holds.fits e F.used)
         ∙ mark_back (is_primordial (element t e))
 
     side_edges : (b : List ℕ) → b ≡ including x (numbers_in set) → r ≡ 2 → Edges t b
@@ -123,8 +122,8 @@ module _ {cs es : List ℕ} {r e : ℕ} {set : List ℕ} {x : ElementOrNone} whe
     module _ (all : List ℕ) (n : ℕ) (size : n ≡ size_in all) (I : Included set x all) (O : OwnBoundary es e all n) where
       own_list : numbers_in all ≡ list_of (element t e)
       own_list =
-          let most = (I.sized desk.boundary F.sized).most in
-          let long = (I.sized desk.boundary F.sized).long in
+          let most = (I.sized 32 F.sized).most in
+          let long = (I.sized 32 F.sized).long in
           let taken = length-take-le (size_in all) all (let q : size_in all ≤ length all = omega (arith, most, long) in q) in
           let count = sym O.size ∙ own_size ∙ sym (list_size_lem (element t e)) in
           let short = row_short (element t e) own_fits in
@@ -133,10 +132,10 @@ module _ {cs es : List ℕ} {r e : ℕ} {set : List ℕ} {x : ElementOrNone} whe
           (λ i l.
           get_or-take (size_in all) all i 0 (let q : i < size_in all = omega (arith, l, taken) in q)
           ∙ O.same i (let q : i < n = omega (arith, l, taken, size) in q)
-          ∙ ap (λ (w : List ℕ). get_or w (e * row_width + (4 + i)) 0) F.holds.elements
+          ∙ ap (λ (w : List ℕ). get_or w (e * 36 + (4 + i)) 0) F.holds.elements
           ∙ list_word_lem desk t F.holds.fits e F.used i
           (let q : i < length (list_of (element t e)) = omega (arith, l, taken, size, count) in q)
-          (let q : 4 + i < row_width = omega (arith, l, taken, size, count, listed, short) in q))
+          (let q : 4 + i < 36 = omega (arith, l, taken, size, count, listed, short) in q))
 
       own_found : side_of_cut desk true (element t e) x (numbers_in set) t ≡ done (given e) t
       own_found = go (element t e) refl F.ranked
@@ -152,7 +151,7 @@ module _ {cs es : List ℕ} {r e : ℕ} {set : List ℕ} {x : ElementOrNone} whe
   own_asks R = record {
     long = (reads_ask R).elements;
     low = (reads_ask R).room;
-    short = subst (λ (n : ℕ). n ≤ desk.boundary) (sym (own_size R.fit)) (row_short (element R.table e) (own_fits R.fit));
+    short = subst (λ (n : ℕ). n ≤ 32) (sym (own_size R.fit)) (row_short (element R.table e) (own_fits R.fit));
   }
 
   pub side_own : {ix : List ℕ} {keep : Bool} → SideReady cs es ix r e set x → (all : List ℕ) (n : ℕ) → n ≡ size_in all → keep ≡ true → Included set x all → OwnBoundary es e all n
@@ -161,11 +160,11 @@ module _ {cs es : List ℕ} {r e : ℕ} {set : List ℕ} {x : ElementOrNone} whe
     of = λ ps hs t F.
         went (given e) t (ap (λ (b : Bool). side_of_cut desk b (element t e) x (numbers_in set) t) q ∙ own_found F all n size I O) refl F.holds;
     indexed = R.indexed;
-    long = (I.sized desk.boundary R.fit.sized).long;
+    long = (I.sized 32 R.fit.sized).long;
   }
 
   pub side_kept : {ix : List ℕ} {keep : Bool} {y : Added} {cs' es' ix' : List ℕ} → SideReady cs es ix r e set x → (plane : ℕ) (mark : Bool) (all : List ℕ) (n : ℕ) → n ≡ size_in all → keep ≡ true
-      → plane ≡ get_or es (e * row_width + 2) 0 → mark ≡ eqb (get_or es (e * row_width + 1) 0) 1 → Included set x all
+      → plane ≡ get_or es (e * 36 + 2) 0 → mark ≡ eqb (get_or es (e * 36 + 1) 0) 1 → Included set x all
       → PolytopeAdded cs es r (take n all) plane mark y cs' es' → Indexed es' (get_or cs' 1 0) ix' → SideMade cs es r e keep set x y cs' es' ix' all
   side_kept {ix} {keep} {y} {cs'} {es'} R plane mark all n size q p m I A indexed = record {
     of = λ ps hs t F.
@@ -173,5 +172,5 @@ module _ {cs es : List ℕ} {r e : ℕ} {set : List ℕ} {x : ElementOrNone} whe
         ((λ i. add_polytope desk (sym F.ranked i) (I.of i) (own_plane F plane p i) (own_mark F mark m i) t) ∙ sym (ap (λ (b : Bool). side_of_cut desk b (element t e) x (numbers_in set) t) q))
         ((subst (λ (j : ℕ). PolytopeAdded cs es r (take j all) plane mark y cs' es') size A).of ps hs t F.holds (λ l. F.some) (side_edges F (numbers_in all) I.of));
     indexed = indexed;
-    long = (I.sized desk.boundary R.fit.sized).long;
+    long = (I.sized 32 R.fit.sized).long;
   }

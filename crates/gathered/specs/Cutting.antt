@@ -8,13 +8,12 @@ use Rattle.rules.specs.Replies.{params_of}
 use Rattle.rules.specs.Held.{Extends, Holds, Came, Sets, SetOf, SomeOf}
 use Rattle.rules.specs.declared.ElementAnswer.{ElementAnswer}
 use Rattle.rules.specs.declared.ElementOrNone.{ElementOrNone}
-use Rattle.space.specs.Numbers.{row_width, element_slice}
 use Rattle.space.specs.Chains.{Indexed}
 use Rattle.space.specs.declared.memo.Added.{Added}
 use Rattle.space.specs.declared.memo.Added.TheVariants as added
 use Rattle.gathered.specs.declared.answer.ElementReply.{ElementReply}
 use Rattle.gathered.specs.declared.answer.ElementReply.TheVariants as reply
-use Rattle.gathered.specs.Sets.{set_words, inside_in, outside_in, numbers_in, SizedSet, Shaped, Sized, Gathers, Used}
+use Rattle.gathered.specs.Sets.{inside_in, outside_in, numbers_in, SizedSet, Shaped, Sized, Gathers, Used}
 use Rattle.rules.specs.declared.Cutter.{Cutter}
 
 -- ---- the cut of one element
@@ -40,7 +39,7 @@ pub record IntersectionFit (cs : List ℕ) (ps hs : List Float) (es : List ℕ) 
   pub plane : k.number.0 < length t.planes
   pub some : 1 ≤ r
   pub low : r ≤ t.dimension
-  pub sized : SizedSet set desk.boundary
+  pub sized : SizedSet set 32
   pub sets : SetOf t (r - 1) (numbers_in set)
 
 -- there is such a table, and the index leads to its rows
@@ -71,7 +70,7 @@ pub record SideFit (cs : List ℕ) (ps hs : List Float) (es : List ℕ) (r e : �
   pub used : e < element_count t
   pub ranked : rank t e ≡ r
   pub some : 1 ≤ r
-  pub sized : SizedSet set desk.boundary
+  pub sized : SizedSet set 32
   pub sets : SetOf t r (numbers_in set)
   pub intersection : SomeOf r x t
 
@@ -85,14 +84,14 @@ pub record SideReady (cs es ix : List ℕ) (r e : ℕ) (set : List ℕ) (x : Ele
 
 -- element e is within the room, and its boundary within its row
 pub record RowReadable (es : List ℕ) (e : ℕ) : Type 0 where
-  pub long : length es ≡ element_slice
-  pub low : e < desk.elements
-  pub short : get_or es (e * row_width + 3) 0 ≤ desk.boundary
+  pub long : length es ≡ 18432
+  pub low : e < 512
+  pub short : get_or es (e * 36 + 3) 0 ≤ 32
 
 -- the first n numbers of a list are the boundary that the row of element e has
 pub record OwnBoundary (es : List ℕ) (e : ℕ) (list : List ℕ) (n : ℕ) : Type 0 where
-  pub size : get_or es (e * row_width + 3) 0 ≡ n
-  pub same : (j : ℕ) → j < n → get_or list j 0 ≡ get_or es (e * row_width + (4 + j)) 0
+  pub size : get_or es (e * 36 + 3) 0 ≡ n
+  pub same : (j : ℕ) → j < n → get_or list j 0 ≡ get_or es (e * 36 + (4 + j)) 0
 
 -- whether they are: yes only where they are, and wherever they are
 pub record OwnTold (es : List ℕ) (e : ℕ) (list : List ℕ) (n : ℕ) (r : Bool) : Type 0 where
@@ -104,7 +103,7 @@ pub record SideMade (cs es : List ℕ) (r e : ℕ) (keep : Bool) (set : List ℕ
   pub of : (ps hs : List Float) (t : Table) → SideFit cs ps hs es r e set x t
       → Came added.Made added.Refused (Holds desk cs' ps hs es') t (side_of_cut desk keep (element t e) x (numbers_in set) t) y
   pub indexed : Indexed es' (get_or cs' 1 0) ix'
-  pub long : length set' ≡ set_words
+  pub long : length set' ≡ 34
 
 -- ---- an answer of the rules, as code gives it
 
@@ -124,7 +123,7 @@ pub record Rule6Fit (cs : List ℕ) (ps hs : List Float) (es : List ℕ) (r e : 
   pub fit : Fit cs ps hs es r e k t
   pub some : 1 ≤ r
   pub gathers : Gathers s g
-  pub sized : Sized s desk.boundary
+  pub sized : Sized s 32
   pub sets : Sets (r - 1) g t
 
 -- there is such a table, and the index leads to its rows
@@ -148,7 +147,7 @@ pub record Rule6Done (cs es : List ℕ) (r e : ℕ) (k : Cutter) (s : List (List
 -- the words of a side's set, of elements in use and of the rank below r
 pub record SideSet (r : ℕ) (t : Table) (set xs : List ℕ) : Type 0 where
   pub held : numbers_in set ≡ xs
-  pub sized : SizedSet set desk.boundary
+  pub sized : SizedSet set 32
   pub sets : SetOf t r xs
 
 -- the boundary of element e has answered, the room holds the sides' sets, and the intersection is in use and of the rank below

@@ -11,17 +11,9 @@ use Rattle.rules.specs.declared.ElementCutOutput.TheVariants.{Flush, NonFlush}
 
 -- ---- what is held
 
--- where a set says how many numbers it has: behind places for one more than a boundary
-abbrev pub size_place : ℕ
-size_place = desk.boundary + 1
-
--- how many words a set has: that one is the last
-abbrev pub set_words : ℕ
-set_words = size_place + 1
-
--- how many numbers a set has
+-- the last word of a set says how many numbers it has
 abbrev pub size_in : List ℕ → ℕ
-size_in s = get_or s size_place 0
+size_in s = get_or s 33 0
 
 -- and they stand in front
 abbrev pub numbers_in : List ℕ → List ℕ
@@ -55,15 +47,15 @@ pub record Gathers (s : List (List ℕ)) (g : Gathered) : Type 0 where
 -- no more than m numbers, in words of its room
 pub record SizedSet (s : List ℕ) (m : ℕ) : Type 0 where
   pub most : size_in s ≤ m
-  pub long : length s ≡ set_words
+  pub long : length s ≡ 34
 
 -- a tally and three sets, whatever they hold
 pub record Shaped (s : List (List ℕ)) : Type 0 where
   pub four : length s ≡ 4
-  pub tally : length (tally_in s) ≡ set_words
-  pub inside : length (inside_in s) ≡ set_words
-  pub outside : length (outside_in s) ≡ set_words
-  pub intersections : length (intersections_in s) ≡ set_words
+  pub tally : length (tally_in s) ≡ 34
+  pub inside : length (inside_in s) ≡ 34
+  pub outside : length (outside_in s) ≡ 34
+  pub intersections : length (intersections_in s) ≡ 34
 
 -- no more than m answers, of any kind
 pub record Sized (s : List (List ℕ)) (m : ℕ) : Type 0 where
@@ -109,7 +101,7 @@ pub record Place (s : List ℕ) (x r : ℕ) : Type 0 where
 
 -- a set with room for one more, and a place in it
 pub record PutReady (s : List ℕ) (at : ℕ) : Type 0 where
-  pub sized : SizedSet s desk.boundary
+  pub sized : SizedSet s 32
   pub within : at ≤ size_in s
 
 -- the words with x stored at a place, and behind it j of the numbers that stood there
@@ -118,16 +110,16 @@ shifted s x at j = sets (set s at x) (at + 1) (take j (drop at (numbers_in s)))
 
 -- the set with x at a place
 abbrev pub put_at : List ℕ → ℕ → ℕ → List ℕ
-put_at s x at = set (shifted s x at (size_in s - at)) size_place (size_in s + 1)
+put_at s x at = set (shifted s x at (size_in s - at)) 33 (size_in s + 1)
 
 -- an element's number is within the room
 abbrev pub InRoom : ElementOrNone → Type 0
 InRoom None = Unit {0}
-InRoom (Some e) = e.0 < desk.elements
+InRoom (Some e) = e.0 < 512
 
 -- a set with room for one more, and the element that goes to it
 pub record IncludeReady (s : List ℕ) (p : ElementOrNone) : Type 0 where
-  pub sized : SizedSet s desk.boundary
+  pub sized : SizedSet s 32
   pub room : InRoom p
 
 -- the set with the element in it, if there is one
@@ -150,7 +142,7 @@ OutputInRoom (NonFlush i o x) = SidesInRoom i o x
 
 -- a room with place for one answer more, and the answer of boundary element b
 pub record OutputReady (s : List (List ℕ)) (b : ℕ) (a : ElementCutOutput) : Type 0 where
-  pub sized : Sized s (desk.boundary - 1)
+  pub sized : Sized s 31
   pub element : b < desk.elements
   pub answer : OutputInRoom a
 

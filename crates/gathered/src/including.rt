@@ -1,6 +1,5 @@
 // An element put into a set that lent words hold: in order of numbers, and never twice.
 ghost use Rattle.std.specs.Prelude.{◌≡◌};
-ghost use Rattle.rules.specs.Limits.{desk};
 ghost use Rattle.gathered.specs.Sets.{SizedSet, Place, PutReady, put_at, IncludeReady, Included};
 
 use rules::ElementOrNone;
@@ -8,7 +7,7 @@ use space::words::{SET, SIZE, wide};
 
 // The first place whose number is not below x, or the end.
 fn place(s: &[u16; SET], x: u16) -> usize
-    requires { SizedSet s.now desk.boundary }
+    requires { SizedSet s.now 32 }
     ensures { Place s.now x result }
 {
     let n = wide(s[SIZE]);
@@ -41,7 +40,7 @@ fn put_at(s: &mut [u16; SET], x: u16, at: usize)
 
 // A number that is there already is not put in again.
 fn insert(s: &mut [u16; SET], x: u16)
-    requires { SizedSet s.old desk.boundary }
+    requires { SizedSet s.old 32 }
     ensures { Included s.old (ElementOrNone.Some (record { 0 = x })) s.new }
 {
     let at = place(s, x);

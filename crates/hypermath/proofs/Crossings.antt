@@ -6,7 +6,7 @@ use mathlib.Core.List.{List, [], ◌∷◌, ◌++◌}
 use native.Mathlib.Nat.{le_trans, le_of_eq, not-suc-le-zero, le_of_suc-le-suc}
 use native.Mathlib.Numerals.{add-one}
 use native.Mathlib.Omega.{arith}
-use lib.ListN.{length, get_or, set, take}
+use lib.ListN.{length, get_or, set, take, replicate}
 use lib.Ieee.{Float, nan, fin, binary64, add, sub, mul, div, lt, ne}
 use Rattle.rules.specs.Lists.{if◌then◌else◌, pad}
 use Rattle.rules.specs.Floats.{plus_zero, within, side_of, side_test, opposite, crossing_of, edge_test, greater, lesser, clamp, crossing_point}
@@ -78,6 +78,10 @@ module _ (t : Float) (a b : List Float) (n : ℕ) where
   -- the axes below i worked out
   abbrev pub begun : ℕ → List Float
   begun i = pad plus_zero n (crossing_point t (take i a) (take i b))
+
+  pub begun_start : replicate n plus_zero ≡ begun 0
+  unfolding crossing_point
+  begun_start = ap (λ (m : ℕ). replicate m plus_zero) (let q : n ≡ n - 0 = omega arith in q)
 
   pub begun_go : {out : List Float} (i : ℕ) (y : Float) → out ≡ begun i → i < n → i < length a → i < length b
       → y ≡ along t (get_or a i nan) (get_or b i nan) → set out i y ≡ begun (i + 1)

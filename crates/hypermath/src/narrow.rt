@@ -1,5 +1,5 @@
 // A float narrowed to 32 bits, to the nearest and at a tie to the even one, by its bits: `as f32` is for floats that fit.
-ghost use Rattle.std.specs.Prelude.{◌+◌, ◌^◌, ◌<◌, false, ◌≡◌};
+ghost use Rattle.std.specs.Prelude.{◌+◌, ◌^◌, ◌<◌, ◌≤◌, false, ◌≡◌};
 ghost use Rattle.std.specs.Float.{binary32};
 ghost use Rattle.std.specs.Float.Ieee.{to_bits, is_nan};
 ghost use Rattle.std.specs.Float.Ieee.Nearest.{closest};

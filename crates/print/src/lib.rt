@@ -1,7 +1,7 @@
 // Document 02, order 11: a piece of three dimensions as binary STL. 3, 4, 6, 16, then 12; refused, the room is as it came.
 mod triangles;
 
-ghost use Rattle.std.specs.Prelude.{◌*◌, map, ◌≡◌};
+ghost use Rattle.std.specs.Prelude.{map, ◌≡◌};
 ghost use Rattle.rules.specs.Limits.{desk};
 ghost use Rattle.rules.specs.Lists.{joined};
 ghost use Rattle.rules.specs.Held.{memory_of};
@@ -30,7 +30,7 @@ const TRIANGLE: usize = 50;
 // Of each face two fewer than it has edges.
 fn triangle_count(elements: &[u16], root: ElementId) -> usize
     requires { FacesReady elements.now root.0 }
-    ensures { NumberBelow result (count_in elements.now root.0) (desk.boundary * desk.boundary) }
+    ensures { NumberBelow result (count_in elements.now root.0) 1024 }
 {
     let n = rows::size_of(elements, root);
     let mut count = 0usize;

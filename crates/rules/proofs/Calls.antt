@@ -13,7 +13,7 @@ use Rattle.rules.specs.Table.{Table, rank}
 use Rattle.rules.specs.Memory.{Memory, sound_memory, decode}
 use Rattle.rules.specs.Cut.{Params, cut, done, cut_at_distance, corner_output}
 use Rattle.rules.specs.Replies.{cut_reply, is_kept, cut_by, params_of, divider_fits, as_reply, written, cut_number, cut_values, cut_warning, output_values, element_value}
-use Rattle.rules.specs.Calls.{after, Call, asking, cutting, listing, cubing, opening, after_calls, LeavesTable, TableStays, Gives}
+use Rattle.rules.specs.Calls.{after, Call, asking, cutting, cubing, opening, after_calls, LeavesTable, TableStays, Gives}
 use Rattle.rules.specs.Promises.{Finite, AgainLater, OneSideLater, FlushLater, InfiniteDistance}
 use Rattle.rules.specs.Held.{Extends}
 use Rattle.rules.specs.declared.Side.TheVariants.{Inside, Outside}
@@ -26,7 +26,6 @@ use Rattle.rules.specs.declared.ElementAnswer.{ElementAnswer}
 use Rattle.rules.specs.declared.PolytopeFate.{PolytopeFate}
 use Rattle.rules.specs.declared.PolytopeFate.TheVariants.{Remove, Keep}
 use Rattle.rules.specs.declared.CutParams.{CutParams}
-use Rattle.rules.proofs.AfterList.{after_list}
 use Rattle.rules.proofs.Built.{built_extends}
 use Rattle.rules.proofs.Corners.{good_fine}
 use Rattle.rules.proofs.Extends.{extends_refl, extends_trans, count_more}
@@ -82,32 +81,28 @@ pub record Follows (L : Limits) (m m' : Memory) : Type 0 where
   pub extends : Extends (decode L m) (decode L m')
 
 module _ (L : Limits) (R : Readable L) where
-  pub follows_itself : (m : Memory) → sound_memory L m ≡ true → Follows L m m
-  follows_itself m s = record { sound_after = s; extends = extends_refl (decode L m) }
-
-  pub cut_follows : (p : CutParams) (root : ℕ) (m : Memory) → sound_memory L m ≡ true → Follows L m (cut_reply L p root m).1
-  cut_follows p root m s = go (cut_reply L p root m).0 (cut_reply L p root m).1 refl
+  pub call_follows : (c : Call) (m : Memory) → sound_memory L m ≡ true → LeavesTable L c m → Follows L m (after L c m)
+  call_follows asking m s n = record { sound_after = s; extends = extends_refl (decode L m) }
+  call_follows (cubing d radius) m s n =
+      subst (λ (x : Memory). Follows L m x) (sym (refused_cube_leaves L d radius m n)) (record { sound_after = s; extends = extends_refl (decode L m) })
+  call_follows (opening bs) m s n =
+      subst (λ (x : Memory). Follows L m x) (sym (refused_open_leaves L bs m n)) (record { sound_after = s; extends = extends_refl (decode L m) })
+  call_follows (cutting p root) m s n = go (cut_reply L p root m).0 (cut_reply L p root m).1 refl
     where
       go : (r : CutReply) (m' : Memory) → cut_reply L p root m ≡ (r, m') → Follows L m m'
-      go (Refused n) m' e = subst (λ (x : Memory). Follows L m x) (sym (refused_leaves L p root m m' n e)) (follows_itself m s)
+      go (Refused n) m' e =
+          subst (λ (x : Memory). Follows L m x) (sym (refused_leaves L p root m m' n e)) (record { sound_after = s; extends = extends_refl (decode L m) })
       go (Answered a w) m' e = record {
         sound_after = memory_sound L R p root m (record { output = a; warning = w }) m' e;
         extends = built_extends (memory_built L R p root m (record { output = a; warning = w }) m' e);
       }
 
-  pub follows_on : {a b c : Memory} → Follows L a b → Follows L b c → Follows L a c
-  follows_on f g = record { sound_after = g.sound_after; extends = extends_trans f.extends g.extends }
-
-  pub call_follows : (c : Call) (m : Memory) → sound_memory L m ≡ true → LeavesTable L c m → Follows L m (after L c m)
-  call_follows asking m s n = follows_itself m s
-  call_follows (cubing d radius) m s n = subst (λ (x : Memory). Follows L m x) (sym (refused_cube_leaves L d radius m n)) (follows_itself m s)
-  call_follows (opening bs) m s n = subst (λ (x : Memory). Follows L m x) (sym (refused_open_leaves L bs m n)) (follows_itself m s)
-  call_follows (cutting p root) m s n = cut_follows p root m s
-  call_follows (listing l room) m s n = after_list L (Follows L m) (λ p root x f. follows_on f (cut_follows p root x f.sound_after)) l room m (follows_itself m s)
-
   pub calls_follow : (cs : List Call) (m : Memory) → sound_memory L m ≡ true → TableStays L cs m → Follows L m (after_calls L cs m)
-  calls_follow [] m s n = follows_itself m s
-  calls_follow (c ∷ cs) m s n = let f = call_follows c m s n.0 in follows_on f (calls_follow cs (after L c m) f.sound_after n.1)
+  calls_follow [] m s n = record { sound_after = s; extends = extends_refl (decode L m) }
+  calls_follow (c ∷ cs) m s n =
+      let f = call_follows c m s n.0 in
+      let g = calls_follow cs (after L c m) f.sound_after n.1 in
+      record { sound_after = g.sound_after; extends = extends_trans f.extends g.extends }
 
   -- ---- an answer, replayed
 

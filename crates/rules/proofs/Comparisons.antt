@@ -142,6 +142,10 @@ not_below (fin s m e) (inf false) a b h = absurd (true≢false h)
 not_below (fin s m e) (fin t n d) a b h =
     test t s (n * up d * down e) (m * up e * down d) (turned s t (m * up e * down d) (n * up d * down e) h)
 
+pub below_at_most : (x y : Float) → lt x y ≡ true → le x y ≡ true
+unfolding le
+below_at_most x y h = ap (λ (b : Bool). b || eq x y) h
+
 pub le_self : (x : Float) → is_nan x ≡ false → le x x ≡ true
 unfolding le lt eq is_nan
 le_self nan a = absurd (true≢false a)

@@ -13,9 +13,8 @@ use Rattle.rules.specs.Memory.{Memory, encode, right_size, sound_memory, decode}
 use Rattle.rules.specs.Cube.{cube, radius_fits}
 use Rattle.rules.specs.Replies.{cube_reply}
 use Rattle.rules.specs.Files.{open_reply}
-use Rattle.rules.specs.Calls.{Call, cutting, listing, asking, cubing, opening, after, after_calls}
+use Rattle.rules.specs.Calls.{Call, cutting, asking, cubing, opening, after, after_calls}
 use Rattle.rules.specs.Promises.{CubeIsSound, OneCrossingOneCorner, Unmatched, OpensUnmatched, StaysSound, StaysUnmatched, EnoughBoundary}
-use Rattle.rules.proofs.AfterList.{after_list}
 use Rattle.rules.proofs.Borders.{sound_bordered}
 use Rattle.rules.proofs.Calls.{call_follows}
 use Rattle.rules.proofs.CubeCorners.{cube_unmatched}
@@ -82,7 +81,6 @@ module _ (L : Limits) (R : Readable L) (H : HasCubes L) where
 
   call_sound : (c : Call) (m : Memory) → sound_memory L m ≡ true → sound_memory L (after L c m) ≡ true
   call_sound (cutting p root) m s = (call_follows L R (cutting p root) m s tt).sound_after
-  call_sound (listing l room) m s = (call_follows L R (listing l room) m s tt).sound_after
   call_sound asking m s = s
   call_sound (cubing d radius) m s = after_cube (λ (x : Memory). sound_memory L x ≡ true) d radius m (cube_is_sound d radius m) s
   call_sound (opening bs) m s = after_file (λ (x : Memory). sound_memory L x ≡ true) bs m (open_is_sound L R bs m) s
@@ -96,7 +94,6 @@ module _ (L : Limits) (R : Readable L) (H : HasCubes L) where
 
   call_unmatched : (c : Call) (m : Memory) → Unmatched (decode L m) → OpensUnmatched L c m → Unmatched (decode L (after L c m))
   call_unmatched (cutting p root) m u f = cut_unmatched L R p root m u
-  call_unmatched (listing l room) m u f = after_list L (λ (x : Memory). Unmatched (decode L x)) (cut_unmatched L R) l room m u
   call_unmatched asking m u f = u
   call_unmatched (opening bs) m u f = after_file (λ (x : Memory). Unmatched (decode L x)) bs m f u
   call_unmatched (cubing d radius) m u f = after_cube (λ (x : Memory). Unmatched (decode L x)) d radius m (unmatched_cube d radius m) u

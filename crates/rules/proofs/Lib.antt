@@ -1,5 +1,4 @@
 pub mod WalkSteps
-pub mod AfterList
 pub mod Answers
 pub mod Apart
 pub mod AreaReplies
@@ -60,7 +59,6 @@ pub mod Selves
 pub mod Stays
 pub mod StaysCut
 pub mod TouchCuts
-pub mod TouchReplies
 pub mod Touched
 pub mod Uncrossed
 pub mod VertexSet

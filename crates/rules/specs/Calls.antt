@@ -7,7 +7,6 @@ use Rattle.rules.specs.Table.{ElementNumber}
 use Rattle.rules.specs.Memory.{Memory}
 use Rattle.rules.specs.Replies.{cut_number, cut_values, cut_warning, list_number, list_size, facet_number, facet_value, cube_reply, as_reply, cut_reply}
 use Rattle.rules.specs.Replies.{sub_elements_reply, with_rank_reply, vertex_set_reply, greatest_common_reply, edges_in_order_reply}
-use Rattle.rules.specs.CutLists.{CutList, cut_list_reply}
 use Rattle.rules.specs.Print.{print_reply}
 use Rattle.rules.specs.Files.{save_reply, open_reply}
 use Rattle.rules.specs.declared.CutParams.{CutParams}
@@ -18,18 +17,15 @@ use Rattle.rules.specs.declared.FacetReply.{FacetReply}
 
 -- ---- calls in turn
 
--- a cut; a list of cuts, with room for its answers; a question, which only reads; a cube or a file to open, which replaces the table unless it is refused
+-- a cut; a question, which only reads; a cube or a file to open, which replaces the table unless it is refused
 pub data Call : Type 0 where
   cutting : CutParams → ElementNumber → Call
-  listing : CutList → List ℕ → Call
   asking : Call
   cubing : ℕ → Float → Call
   opening : List ℕ → Call
 
--- the memory after a call
 abbrev pub after : Limits → Call → Memory → Memory
 after L (cutting p root) m = (cut_reply L p root m).1
-after L (listing l room) m = (cut_list_reply L l room m).2
 after L asking m = m
 after L (cubing d radius) m = (cube_reply L d radius m).1
 after L (opening bs) m = (open_reply L bs m).1
@@ -42,7 +38,6 @@ after_calls L (c ∷ cs) m = after_calls L cs (after L c m)
 -- the table at hand stays: if the call is a cube or a file, it is refused
 abbrev pub LeavesTable : Limits → Call → Memory → Type 0
 LeavesTable L (cutting p root) m = Unit {0}
-LeavesTable L (listing l room) m = Unit {0}
 LeavesTable L asking m = Unit {0}
 LeavesTable L (cubing d radius) m = 0 < (cube_reply L d radius m).0
 LeavesTable L (opening bs) m = 0 < (open_reply L bs m).0

@@ -1,14 +1,17 @@
--- Document 02, order 5: a list of cuts in one call: the cuts that it asks for, and the whole reply. Definitions only.
-use Rattle.std.specs.Prelude.{ℕ, suc, ◌*◌, ◌/◌, ◌%◌, Bool, not, ◌&&◌, List, [], ◌∷◌, map, leb, ltb, eqb, length, get_or, set, take, drop, Float}
+-- Document 02, order 5: a list of cuts in one call: the cuts that it asks for, the whole reply, and what is promised of it. Definitions only.
+use Rattle.std.specs.Prelude.{ℕ, suc, ◌*◌, ◌/◌, ◌%◌, ◌≤◌, ◌<◌, ◌≡◌, Bool, true, not, ◌&&◌, List, [], ◌∷◌, map, leb, ltb, eqb, length, get_or, set, take, drop, Float}
+use Rattle.std.proofs.Math.Option.{Option, none, some}
 use Rattle.rules.specs.Limits.{Limits}
-use Rattle.rules.specs.Lists.{if◌then◌else◌, up_to}
+use Rattle.rules.specs.Lists.{if◌then◌else◌, member, up_to}
 use Rattle.rules.specs.Floats.{plus_zero}
 use Rattle.rules.specs.Table.{ElementNumber}
 use Rattle.rules.specs.Memory.{Memory, plane_width, sound_memory}
-use Rattle.rules.specs.Replies.{output_word, fate_of, cut_by, cut_reply}
+use Rattle.rules.specs.Replies.{output_word, fate_of, cut_by, as_reply, cut_reply}
+use Rattle.rules.specs.Calls.{Call, cutting, after_calls, TableStays, Filled}
 use Rattle.rules.specs.declared.Hyperplane.{Hyperplane}
 use Rattle.rules.specs.declared.PolytopeFate.{PolytopeFate}
 use Rattle.rules.specs.declared.CutParams.{CutParams}
+use Rattle.rules.specs.declared.ElementAnswer.{ElementAnswer}
 use Rattle.rules.specs.declared.CutReply.{CutReply}
 use Rattle.rules.specs.declared.CutReply.TheVariants as one
 use Rattle.rules.specs.declared.CutListReply.{CutListReply}
@@ -36,15 +39,13 @@ abbrev pub divider_at : Limits → List Float → ℕ → Hyperplane
 divider_at L rows i =
     let row = take (plane_width L) (drop (i * plane_width L) rows) in record { normal = take L.dimensions row; distance = get_or row L.dimensions plus_zero }
 
--- bit 0 of a byte keeps the inside
+-- bit 0 of a byte keeps the inside, bit 1 the outside; the others say nothing
 abbrev pub inside_by : ℕ → PolytopeFate
 inside_by b = fate_of (eqb (b % 2) 1)
 
--- bit 1 keeps the outside; the others say nothing
 abbrev pub outside_by : ℕ → PolytopeFate
 outside_by b = fate_of (eqb (b / 2 % 2) 1)
 
--- one of its cuts
 pub record ListedCut : Type 0 where
   pub params : CutParams
   pub root : ElementNumber
@@ -54,23 +55,8 @@ abbrev pub cut_at : Limits → CutList → ℕ → ListedCut
 cut_at L l i =
     let byte = get_or l.kept i 0 in record { params = cut_by (divider_at L l.dividers i) (inside_by byte) (outside_by byte); root = get_or l.roots i 0 }
 
--- all of them, in order
 unfoldable pub cuts_of : Limits → CutList → List ListedCut
 cuts_of L l = map (cut_at L l) (up_to (length l.roots))
-
--- ---- what a reply says
-
--- its number: a refusal's, of the list or of a cut, or 0
-abbrev pub cut_list_number : CutListReply → ℕ
-cut_list_number (Refused n) = n
-cut_list_number (Stopped n i) = n
-cut_list_number (Answered k) = 0
-
--- how many answers were written: where it stopped, the position of the refused cut
-abbrev pub answers_written : CutListReply → ℕ
-answers_written (Refused n) = 0
-answers_written (Stopped n i) = i
-answers_written (Answered k) = k
 
 -- ---- the reply, the room for answers and the memory after it
 
@@ -91,3 +77,74 @@ cut_list_reply L l room m =
     else if not (list_fits L l) then (Refused 26, room, m)
     else if ltb (length room) (length l.roots) then (Refused 12, room, m)
     else cuts_from L (cuts_of L l) 0 room m
+
+-- ---- the number and the values of each case
+
+abbrev pub cut_list_number : CutListReply → ℕ
+cut_list_number (Refused n) = n
+cut_list_number (Stopped n i) = n
+cut_list_number (Answered k) = 0
+
+abbrev pub answers_written : CutListReply → ℕ
+answers_written (Refused n) = 0
+answers_written (Stopped n i) = i
+answers_written (Answered k) = k
+
+-- a position is given only with the refusal of a cut
+abbrev pub refused_at : CutListReply → Option ℕ
+refused_at (Refused n) = none
+refused_at (Stopped n i) = some i
+refused_at (Answered k) = none
+
+-- ---- promises
+
+-- of n cuts: 3, 26 or 12 before any cut; a refusal of a cut and its position; or all are answered
+abbrev pub EndsAs : ℕ → CutListReply → Type 0
+EndsAs n (Refused k) = member k (3 ∷ 26 ∷ 12 ∷ []) ≡ true
+EndsAs n (Stopped k i) = (member k (4 ∷ 5 ∷ 7 ∷ 8 ∷ 9 ∷ 10 ∷ 11 ∷ []) ≡ true) × (i < n)
+EndsAs n (Answered k) = k ≡ n
+
+abbrev pub CutListNumbers : Limits → Type 0
+CutListNumbers L = (l : CutList) (room : List ℕ) (m : Memory) → EndsAs (length l.roots) (cut_list_reply L l room m).0
+
+-- refused before any cut, the memory and the room are as they came
+abbrev pub RefusedCutListLeaves : Limits → Type 0
+RefusedCutListLeaves L = (l : CutList) (room : List ℕ) (m : Memory) (n : ℕ) → (cut_list_reply L l room m).0 ≡ Refused n → cut_list_reply L l room m ≡ (Refused n, room, m)
+
+-- the list as calls of the single cut
+abbrev pub call_of : ListedCut → Call
+call_of c = cutting c.params c.root
+
+abbrev pub calls_of : Limits → CutList → List Call
+calls_of L l = map call_of (cuts_of L l)
+
+-- the memory after the first i of them
+abbrev pub after_first : Limits → CutList → ℕ → Memory → Memory
+after_first L l i m = after_calls L (take i (calls_of L l)) m
+
+-- the cut at position i, made singly after those before it
+abbrev pub singly : Limits → CutList → ℕ → Memory → CutReply × Memory
+singly L l i m = cut_reply L (cut_at L l i).params (cut_at L l i).root (after_first L l i m)
+
+-- a single cut that is answered, and this is its word
+pub record AnsweredAs (r : CutReply) (word : ℕ) : Type 0 where
+  pub answer : ElementAnswer
+  pub reply : r ≡ as_reply answer
+  pub told : word ≡ output_word answer.output answer.warning
+
+-- the first k cuts of a list, as they are made singly in that order: their answers, their memory, and the room behind the answers as it came
+pub record MadeSingly (L : Limits) (l : CutList) (k : ℕ) (room filled : List ℕ) (m after : Memory) : Type 0 where
+  pub few : k ≤ length l.roots
+  pub answers : (i : ℕ) → i < k → AnsweredAs (singly L l i m).0 (get_or filled i 0)
+  pub memory : after ≡ after_first L l k m
+  pub calls : TableStays L (take k (calls_of L l)) m
+  pub behind : Filled k room filled
+
+-- so what is promised after any calls of which no cube and no file is taken is promised after a list
+abbrev pub CutListIsCuts : Limits → Type 0
+CutListIsCuts L = (l : CutList) (room : List ℕ) (m : Memory) → let r = cut_list_reply L l room m in MadeSingly L l (answers_written r.0) room r.1 m r.2
+
+-- stopped at a cut: made singly there it is refused with the same number, and leaves the memory of those before it
+abbrev pub StoppedAtTheRefused : Limits → Type 0
+StoppedAtTheRefused L = (l : CutList) (room : List ℕ) (m : Memory) (n i : ℕ) → (cut_list_reply L l room m).0 ≡ Stopped n i
+    → singly L l i m ≡ (one.Refused n, (cut_list_reply L l room m).2)

@@ -24,10 +24,8 @@ pub mod Sessions
 pub mod FileExamples
 pub mod TouchExamples
 pub mod Asking
-pub mod CutLists
-pub mod ListExamples
 pub mod Calls
-pub mod Listing
+pub mod CutLists
 pub mod Areas
 pub mod AreaExamples
 pub mod Rooms

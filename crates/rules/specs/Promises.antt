@@ -15,12 +15,12 @@ use Rattle.rules.specs.Questions.{is_below}
 use Rattle.rules.specs.Asking.{border, SubElementsAreReached, SubElementsAreLeast, VertexSetIsTheUnion, VertexSetRises, CommonAreGreatest, WalkGoesRound, NoFacetInOneDimension}
 use Rattle.rules.specs.Rings.{RuleIsOneRing, FaceIsOneRing, FaceIsWalked}
 use Rattle.rules.specs.Replies.{cut_number, cut_values, cut_warning, list_number, list_size, is_sound_reply, cube_reply, divider_fits, divider_of, cut_by, cut_reply, primordial_facet_reply}
-use Rattle.rules.specs.Touch.{some_close_call, TouchNumbers, TouchInfinite, TouchIsRead, TouchIsCounted, TouchIsOfTheTable, AllOnIsFlush, OneSideIsMissed, OneSideAddsNoVertex, BothCutsAnEdge}
+use Rattle.rules.specs.Touch.{some_close_call, TouchNumbers, TouchInfinite, TouchIsRead, TouchIsCounted, AllOnIsFlush, OneSideIsMissed, OneSideAddsNoVertex, BothCutsAnEdge}
 use Rattle.rules.specs.Print.{PrintIsSized, FacesAreFanned}
 use Rattle.rules.specs.Files.{open_reply}
 use Rattle.rules.specs.Saving.{RefusedOpenLeaves, OpenNumbers, OpenIsSound, SavedOpens, OpenedSaves, OneFile, OpensRoomier, LayoutAlone}
-use Rattle.rules.specs.Calls.{Call, cutting, listing, asking, cubing, opening, after, after_calls, TableStays, ListQuestion, list_reply, list_refusals, Gives, CutNumbered, ListNumbered, FacetNumbered, Filled}
-use Rattle.rules.specs.Listing.{CutListNumbers, RefusedCutListLeaves, CutListIsCuts, StoppedAtTheRefused, CutListGoesOn, CutListAgain}
+use Rattle.rules.specs.Calls.{Call, cutting, asking, cubing, opening, after, after_calls, TableStays, ListQuestion, list_reply, list_refusals, Gives, CutNumbered, ListNumbered, FacetNumbered, Filled}
+use Rattle.rules.specs.CutLists.{CutListNumbers, RefusedCutListLeaves, CutListIsCuts, StoppedAtTheRefused}
 use Rattle.rules.specs.Areas.{AreasNumbers, RefusedAreasLeave, AreasFillFront, AreasFit}
 use Rattle.rules.specs.Rooms.{RoomierAlike}
 use Rattle.rules.specs.declared.Hyperplane.{Hyperplane}
@@ -83,7 +83,7 @@ pub record Keeps (L : Limits) (old new : Memory) : Type 0 where
   pub hyperplanes : (h : ℕ) → h < get_or old.counts 3 0 → row_at (plane_width L) new.planes h ≡ row_at (plane_width L) old.planes h
   pub no_fewer : (k : ℕ) → get_or old.counts k 0 ≤ get_or new.counts k 0
 
--- old entries keep number and content, after any calls of which no cube and no file is taken: cuts, lists of cuts, questions, and cubes and files that are refused
+-- old entries keep number and content, after any calls of which no cube and no file is taken: cuts, questions, and cubes and files that are refused
 abbrev pub OldEntriesStay : Limits → Type 0
 OldEntriesStay L = (cs : List Call) (m : Memory) → sound_memory L m ≡ true → TableStays L cs m → Keeps L m (after_calls L cs m)
 
@@ -142,7 +142,6 @@ Unmatched t = (i j : ℕ) → i < j → j < length t.points → point_matches (g
 -- nothing is asked of a call, but of a file that is taken that its table has no matching vertices
 abbrev pub OpensUnmatched : Limits → Call → Memory → Type 0
 OpensUnmatched L (cutting p root) m = Unit {0}
-OpensUnmatched L (listing l room) m = Unit {0}
 OpensUnmatched L asking m = Unit {0}
 OpensUnmatched L (cubing d radius) m = Unit {0}
 OpensUnmatched L (opening bs) m = (open_reply L bs m).0 ≡ 0 → Unmatched (decode L (open_reply L bs m).1)
@@ -299,7 +298,6 @@ pub record Promises (L : Limits) : Type 0 where
   pub touch_infinite : TouchInfinite L
   pub touch_is_read : TouchIsRead L
   pub touch_is_counted : TouchIsCounted L
-  pub touch_is_of_the_table : TouchIsOfTheTable L
   pub all_on_is_flush : AllOnIsFlush L
   pub one_side_is_missed : OneSideIsMissed L
   pub one_side_adds_no_vertex : OneSideAddsNoVertex L
@@ -308,8 +306,6 @@ pub record Promises (L : Limits) : Type 0 where
   pub refused_cut_list_leaves : RefusedCutListLeaves L
   pub cut_list_is_cuts : CutListIsCuts L
   pub stopped_at_the_refused : StoppedAtTheRefused L
-  pub cut_list_goes_on : CutListGoesOn L
-  pub cut_list_again : CutListAgain L
   pub areas_numbers : AreasNumbers L
   pub refused_areas_leave : RefusedAreasLeave L
   pub areas_fill_front : AreasFillFront L

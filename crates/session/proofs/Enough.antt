@@ -30,18 +30,18 @@ module _ (bs : List ℕ) where
   cube_part : is_cube (take 45 bs) ≡ is_cube bs
   cube_part = ap₂ (λ (xs : List ℕ) (b : Bool). alike eqb xs (0x43 ∷ 0x55 ∷ []) && b) (take-take 2 45 bs (lit≤ tt)) (long_part 11 45 bs (lit≤ tt))
 
-  module _ (d : ℕ) (h : d ≤ desk.dimensions) where
+  module _ (d : ℕ) (h : d ≤ 4) where
     cut_part : is_cut d (take 45 bs) ≡ is_cut d bs
     cut_part =
         (λ i. alike eqb (take-take 2 45 bs (lit≤ tt) i) (0x43 ∷ 0x54 ∷ []) && long_part (cut_length d) 45 bs (omega (arith, h)) i && leb (number_front 1 2 45 bs (lit≤ tt) i) 3)
 
     divider_part : divider_at desk d (take 45 bs) ≡ divider_at desk d bs
-    divider_part = λ i. record { normal = pad plus_zero desk.dimensions (floats_front d 5 45 bs (omega (arith, h)) i); distance = float_front (5 + 8 * d) 45 bs (omega (arith, h)) i }
+    divider_part = λ i. record { normal = pad plus_zero 4 (floats_front d 5 45 bs (omega (arith, h)) i); distance = float_front (5 + 8 * d) 45 bs (omega (arith, h)) i }
 
     params_part : params_at desk d (take 45 bs) ≡ params_at desk d bs
     params_part = λ i. cut_by (divider_part i) (fate_of (eqb (number_front 1 2 45 bs (lit≤ tt) i % 2) 1)) (fate_of (eqb (number_front 1 2 45 bs (lit≤ tt) i / 2) 1))
 
-pub enough : (stands : Bool) (m : Memory) (bs : List ℕ) → get_or m.counts 0 0 ≤ desk.dimensions → turn desk stands m (take 45 bs) ≡ turn desk stands m bs
+pub enough : (stands : Bool) (m : Memory) (bs : List ℕ) → get_or m.counts 0 0 ≤ 4 → turn desk stands m (take 45 bs) ≡ turn desk stands m bs
 unfolding turn
 enough stands m bs h =
     let d = get_or m.counts 0 0 in

@@ -49,7 +49,7 @@ spaced_short (n ∷ ns) h =
     let a = length-append (32 ∷ decimal n) (spaced ns) in
     omega (arith, d, r, a)
 
-place_short : (e : ElementOrNone) → OneBelow desk.elements e → length (place e) ≤ 6
+place_short : (e : ElementOrNone) → OneBelow 512 e → length (place e) ≤ 6
 place_short None h = lit≤ tt
 place_short (Some e) h = let d = five_digits e.0 (let q : e.0 < 0x10000 = omega (arith, h) in q) in omega (arith, d)
 
@@ -74,16 +74,16 @@ counts_low m s = subst (λ (x : Memory). Counts (table_counts x)) (memory_back d
     written : Counts (table_counts (encode desk (decode desk m)))
     written = unfold encode in (
         let g = sound_good desk (decode desk m) (sound_table desk m s) in
-        let a = le_test (element_count (decode desk m)) desk.elements g.element_room in
-        let b = le_test (length (decode desk m).points) desk.vertices g.vertex_room in
+        let a = le_test (element_count (decode desk m)) 512 g.element_room in
+        let b = le_test (length (decode desk m).points) 256 g.vertex_room in
         let c = le_test (length (decode desk m).planes) 64 g.plane_room in
         record { low = (omega (arith, a), (omega (arith, b), (omega (arith, c), tt))); three = refl })
 
-elements_low : (m : Memory) → sound_memory desk m ≡ true → get_or m.counts 1 0 ≤ desk.elements
-elements_low m s = subst (λ (x : Memory). get_or x.counts 1 0 ≤ desk.elements) (memory_back desk m s) written
+elements_low : (m : Memory) → sound_memory desk m ≡ true → get_or m.counts 1 0 ≤ 512
+elements_low m s = subst (λ (x : Memory). get_or x.counts 1 0 ≤ 512) (memory_back desk m s) written
   where
-    written : get_or (encode desk (decode desk m)).counts 1 0 ≤ desk.elements
-    written = unfold encode in le_test (element_count (decode desk m)) desk.elements (sound_good desk (decode desk m) (sound_table desk m s)).element_room
+    written : get_or (encode desk (decode desk m)).counts 1 0 ≤ 512
+    written = unfold encode in le_test (element_count (decode desk m)) 512 (sound_good desk (decode desk m) (sound_table desk m s)).element_room
 
 counts_short : (m : Memory) → sound_memory desk m ≡ true → length (spaced (table_counts m)) ≤ 18
 counts_short m s = let c = counts_low m s in let l = spaced_short (table_counts m) c.low in let t = c.three in omega (arith, l, t)
@@ -106,7 +106,7 @@ module _ (p : CutParams) (root : ℕ) (m : Memory) where
   pub cut_short : length (text (cut_text (cut_reply desk p root m).0 (table_counts (cut_reply desk p root m).1))) ≤ line_room
   cut_short = go (cut_reply desk p root m).0 (cut_reply desk p root m).1 refl
     where
-      one_low : (n : ℕ) (e : ElementOrNone) → n ≤ desk.elements → OneBelow n e → OneBelow desk.elements e
+      one_low : (n : ℕ) (e : ElementOrNone) → n ≤ 512 → OneBelow n e → OneBelow 512 e
       one_low n None l b = tt
       one_low n (Some e) l b = omega (arith, l, b)
 

@@ -46,7 +46,7 @@ made false false false m t m' n l e q = ap (λ (x : ℕ × Memory). length x.1.c
 
 pub cube_counts : (d : ℕ) (radius : Float) (m m' : Memory) (n : ℕ) → (n, m') ≡ cube_reply desk d radius m → n ≡ 0 → length m'.counts ≡ 4
 unfolding cube_reply encode
-cube_counts d radius m m' n e q = made (not (leb 1 d && leb d desk.dimensions)) (not (radius_fits radius)) (not (right_size desk m)) m (encode desk (cube d radius)) m' n refl e q
+cube_counts d radius m m' n e q = made (not (leb 1 d && leb d 4)) (not (radius_fits radius)) (not (right_size desk m)) m (encode desk (cube d radius)) m' n refl e q
 
 module _ (bs room room' : List ℕ) (stands : Bool) (m m' : Memory) (d n : ℕ) (radius : Float) (ed : d ≡ number_at 1 2 bs) (er : radius ≡ float_at 3 bs) (e : (n, m') ≡ cube_reply desk d radius m) where
   asked : (n, m') ≡ cube_asked desk m bs
@@ -77,32 +77,32 @@ line_fits p root m m' (Refused n) e = tt
 line_fits p root m m' (Answered a w) e = record { names = names_low p root m m' e a w refl; counts = four_counts p root m m' e a w refl }
 
 -- more than four dimensions are refused, whatever the divider
-unsound : (m : Memory) → desk.dimensions < get_or m.counts 0 0 → sound_memory desk m ≡ false
+unsound : (m : Memory) → 4 < get_or m.counts 0 0 → sound_memory desk m ≡ false
 unfolding decode
-unsound m h = refute (sound_memory desk m) (λ s. let z = le_test (get_or m.counts 0 0) desk.dimensions (sound_good desk (decode desk m) (sound_table desk m s)).high in omega (arith, z, h))
+unsound m h = refute (sound_memory desk m) (λ s. let z = le_test (get_or m.counts 0 0) 4 (sound_good desk (decode desk m) (sound_table desk m s)).high in omega (arith, z, h))
 
-too_many : (p : CutParams) (root : ℕ) (m : Memory) → desk.dimensions < get_or m.counts 0 0 → cut_reply desk p root m ≡ (Refused 3, m)
+too_many : (p : CutParams) (root : ℕ) (m : Memory) → 4 < get_or m.counts 0 0 → cut_reply desk p root m ≡ (Refused 3, m)
 unfolding cut_reply
 too_many p root m l = if_true _ _ _ (ap not (unsound m l))
 
-same_divider : (h g : Hyperplane) (i o : PolytopeFate) (root : ℕ) (m : Memory) (b : Bool) → leb (get_or m.counts 0 0) desk.dimensions ≡ b → (get_or m.counts 0 0 ≤ desk.dimensions → h ≡ g)
+same_divider : (h g : Hyperplane) (i o : PolytopeFate) (root : ℕ) (m : Memory) (b : Bool) → leb (get_or m.counts 0 0) 4 ≡ b → (get_or m.counts 0 0 ≤ 4 → h ≡ g)
     → cut_reply desk (cut_by h i o) root m ≡ cut_reply desk (cut_by g i o) root m
-same_divider h g i o root m true t f = ap (λ (x : Hyperplane). cut_reply desk (cut_by x i o) root m) (f (le_test (get_or m.counts 0 0) desk.dimensions t))
-same_divider h g i o root m false t f = let l = not_le (get_or m.counts 0 0) desk.dimensions t in too_many (cut_by h i o) root m l ∙ sym (too_many (cut_by g i o) root m l)
+same_divider h g i o root m true t f = ap (λ (x : Hyperplane). cut_reply desk (cut_by x i o) root m) (f (le_test (get_or m.counts 0 0) 4 t))
+same_divider h g i o root m false t f = let l = not_le (get_or m.counts 0 0) 4 t in too_many (cut_by h i o) root m l ∙ sym (too_many (cut_by g i o) root m l)
 
 module _ (bs room room' : List ℕ) (m m' : Memory) (r : CutReply) (h : Hyperplane) (i o : PolytopeFate) (d root kept line : ℕ) where
-  pub cut_taken : (r, m') ≡ cut_reply desk (cut_by h i o) root m → d ≡ get_or m.counts 0 0 → (d ≤ desk.dimensions → h ≡ divider_at desk d bs) → kept ≡ number_at 1 2 bs → i ≡ fate_of (eqb (kept % 2) 1)
+  pub cut_taken : (r, m') ≡ cut_reply desk (cut_by h i o) root m → d ≡ get_or m.counts 0 0 → (d ≤ 4 → h ≡ divider_at desk d bs) → kept ≡ number_at 1 2 bs → i ≡ fate_of (eqb (kept % 2) 1)
       → o ≡ fate_of (eqb (kept / 2) 1) → root ≡ number_at 2 3 bs → Put room 0 (text (cut_text r (drop 1 m'.counts))) line room'
       → (Taken (13 + 8 * d) line true, m', room') ≡ reply_of m room (cut_turn (get_or m.counts 0 0) (cut_asked desk m bs))
   cut_taken e ed eh ek ei eo er p =
       (λ j. (Taken (long j) (line_length p j) true, m', p.room j))
-      ∙ ap (λ (x : CutReply × Memory). reply_of m room (cut_turn (get_or m.counts 0 0) x)) (e ∙ same_divider h (divider_at desk (get_or m.counts 0 0) bs) i o root m (leb (get_or m.counts 0 0) desk.dimensions) refl divider ∙ sides)
+      ∙ ap (λ (x : CutReply × Memory). reply_of m room (cut_turn (get_or m.counts 0 0) x)) (e ∙ same_divider h (divider_at desk (get_or m.counts 0 0) bs) i o root m (leb (get_or m.counts 0 0) 4) refl divider ∙ sides)
     where
       long : 13 + 8 * d ≡ cut_length (get_or m.counts 0 0)
       long = let q : 13 + 8 * d ≡ cut_length d = omega arith in q ∙ ap cut_length ed
 
-      divider : get_or m.counts 0 0 ≤ desk.dimensions → h ≡ divider_at desk (get_or m.counts 0 0) bs
-      divider = subst (λ (k : ℕ). k ≤ desk.dimensions → h ≡ divider_at desk k bs) ed eh
+      divider : get_or m.counts 0 0 ≤ 4 → h ≡ divider_at desk (get_or m.counts 0 0) bs
+      divider = subst (λ (k : ℕ). k ≤ 4 → h ≡ divider_at desk k bs) ed eh
 
       sides : cut_reply desk (cut_by (divider_at desk (get_or m.counts 0 0) bs) i o) root m ≡ cut_asked desk m bs
       sides = λ j. cut_reply desk

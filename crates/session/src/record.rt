@@ -4,6 +4,7 @@ ghost use Rattle.rules.specs.Limits.{desk};
 ghost use Rattle.rules.specs.Lists.{if◌then◌else◌, alike};
 ghost use Rattle.rules.specs.Floats.{plus_zero};
 ghost use Rattle.rules.specs.Held.{memory_of};
+ghost use Rattle.rules.specs.Replies.{fate_of};
 ghost use Rattle.rules.specs.Bytes.{float_at};
 ghost use Rattle.rules.specs.Session.{text, is_cube, is_cut, cube_asked, divider_at, cut_asked, cube_turn, output_text, cut_text, cut_turn};
 ghost use Rattle.lent_bytes.specs.Lent.{Put};
@@ -12,9 +13,8 @@ ghost use Rattle.session.specs.Written.{reply_of};
 ghost use Rattle.session.specs.Ready.{ComponentReady, DividerReady, CubeTurnReady, AnswerLineReady, CutLineReady, CutTurnReady};
 
 use crate::{TurnReply, line};
-use cut::lists::fate_of;
 use lent_bytes::read;
-use rules::{CutParams, CutReply, ElementCutOutput, ElementId, Hyperplane};
+use rules::{CutParams, CutReply, ElementCutOutput, ElementId, Hyperplane, PolytopeFate};
 use space::words::wide;
 
 // Every mark's first byte is 43.
@@ -60,6 +60,15 @@ pub fn is_cut(counts: &[u16], input: &[u8]) -> bool
     is_marked(input, 0x54)
 }
 
+fn fate(kept: bool) -> PolytopeFate
+    ensures { result ≡ fate_of kept }
+{
+    if kept {
+        return PolytopeFate::Keep;
+    }
+    PolytopeFate::Remove
+}
+
 // A component of the divider's normal: zero past the dimension.
 fn component(input: &[u8], d: usize, axis: usize) -> f64
     requires { ComponentReady input.now d axis }
@@ -74,7 +83,7 @@ fn component(input: &[u8], d: usize, axis: usize) -> f64
 // A table of more than four dimensions is not sound, so no cut looks at its divider.
 fn divider_at(input: &[u8], d: usize) -> Hyperplane
     requires { DividerReady input.now d }
-    ensures { d ≤ desk.dimensions → result ≡ divider_at desk d input.now }
+    ensures { d ≤ 4 → result ≡ divider_at desk d input.now }
 {
     let n0 = component(input, d, 0);
     let n1 = component(input, d, 1);
@@ -159,8 +168,8 @@ pub fn cut_turn(
     let d = dimension_of(counts);
     let divider = divider_at(input, d);
     let kept = read::one(input, 2);
-    let inside = fate_of(kept % 2 == 1);
-    let outside = fate_of(kept / 2 == 1);
+    let inside = fate(kept % 2 == 1);
+    let outside = fate(kept / 2 == 1);
     let root = ElementId(read::two(input, 3) as usize);
     let params = CutParams {
         divider,

@@ -1,12 +1,14 @@
 -- What every entry point asks first: 3, 4 and 5 in the old order. Definitions only.
-use Rattle.std.specs.Prelude.{ℕ, true, false, not, List, ltb, Float}
+use Rattle.std.specs.Prelude.{ℕ, ◌≡◌, true, false, not, List, ltb, Float, get_or}
 use Rattle.std.specs.Float.{nan, inf, fin}
 use Rattle.rules.specs.Limits.{desk}
 use Rattle.rules.specs.Lists.{if◌then◌else◌, all}
 use Rattle.rules.specs.Table.{element_count}
 use Rattle.rules.specs.Memory.{Memory, decode, sound_memory}
+use Rattle.rules.specs.Held.{memory_of}
 use Rattle.rules.specs.Replies.{divider_fits}
 use Rattle.rules.specs.declared.Hyperplane.{Hyperplane}
+use Rattle.space.specs.Chains.{Indexed}
 use Rattle.soundness.specs.declared.asked.Asking.{Asking}
 use Rattle.soundness.specs.declared.asked.Asking.TheVariants.{Refused, AllInside, AllOutside, Finite}
 
@@ -29,6 +31,11 @@ asked_of d n h root =
 -- of a memory: 3 first
 unfoldable pub asked : Memory → Hyperplane → ℕ → Asking
 asked m h root = let t = decode desk m in if not (sound_memory desk m) then Refused 3 else asked_of t.dimension (element_count t) h root
+
+-- the answer, and the index of a sound memory
+pub record DividerAsked (cs : List ℕ) (ps hs : List Float) (es : List ℕ) (h : Hyperplane) (root : ℕ) (reply : Asking) (index' : List ℕ) : Type 0 where
+  pub told : reply ≡ asked (memory_of cs ps hs es) h root
+  pub indexed : sound_memory desk (memory_of cs ps hs es) ≡ true → Indexed es (get_or cs 1 0) index'
 
 -- ---- some roots
 

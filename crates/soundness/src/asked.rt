@@ -2,9 +2,10 @@
 ghost use Rattle.std.specs.Prelude.{◌≡◌, [], ◌∷◌, ltb, length, get_or};
 ghost use Rattle.rules.specs.Lists.{all};
 ghost use Rattle.rules.specs.Held.{memory_of};
-ghost use Rattle.soundness.specs.Asked.{refusal, asked_of, asked};
+ghost use Rattle.space.specs.Chains.{Indexed};
+ghost use Rattle.soundness.specs.Asked.{refusal, asked_of, DividerAsked};
 
-use crate::sound::memory_sound;
+use crate::sound::{memory_indexed, memory_sound};
 use hypermath::{DistanceKind, distance_kind, is_unit};
 use rules::{ElementId, Hyperplane};
 use space::words::wide;
@@ -47,18 +48,20 @@ pub fn sound_asked(counts: &[u16], divider: Hyperplane, root: ElementId) -> Aski
     }
 }
 
-// 3, then 4, then 5.
+// 3, then 4, then 5. From an empty index to that of the memory, where it is sound.
 pub fn divider_asked(
     counts: &[u16],
     points: &[f64],
     planes: &[f64],
     elements: &[u16],
+    index: &mut [u16],
     divider: Hyperplane,
     root: ElementId,
 ) -> Asking
-    ensures { result ≡ asked (memory_of counts.now points.now planes.now elements.now) divider root.0 }
+    requires { Indexed elements.now 0 index.old }
+    ensures { DividerAsked counts.now points.now planes.now elements.now divider root.0 result index.new }
 {
-    if !memory_sound(counts, points, planes, elements) {
+    if !memory_indexed(counts, points, planes, elements, index) {
         return Asking::Refused(3);
     }
     sound_asked(counts, divider, root)
@@ -83,8 +86,7 @@ pub fn root_refusal(
     0
 }
 
-// 4, of some numbers: whether each of them is an element's, where there are n.
-pub fn all_used(roots: &[u16], n: u16) -> bool
+fn all_used(roots: &[u16], n: u16) -> bool
     ensures { result ≡ all (λ e. ltb e n) roots.now }
 {
     for i in 0..roots.len() {

@@ -37,7 +37,7 @@ module _ {A : Type 0} where
   wide_left w [] vs g = tt
   wide_left w (u ∷ us) vs g = (g.0, wide_left w us vs g.1)
 
-  drop_replicate : (k n : ℕ) (z : A) → drop k (replicate n z) ≡ replicate (n - k) z
+  pub drop_replicate : (k n : ℕ) (z : A) → drop k (replicate n z) ≡ replicate (n - k) z
   drop_replicate zero n z = ap (λ (m : ℕ). replicate m z) (let q : n ≡ n - zero = omega arith in q)
   drop_replicate (suc k) zero z = ap (λ (m : ℕ). replicate m z) (let q : 0 ≡ 0 - suc k = omega arith in q)
   drop_replicate (suc k) (suc n) z = drop_replicate k n z ∙ ap (λ (m : ℕ). replicate m z) (let q : n - k ≡ suc n - suc k = omega arith in q)

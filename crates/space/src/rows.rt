@@ -1,15 +1,14 @@
 // Rows of elements in the lent memory: read, written, and made.
-ghost use Rattle.std.specs.Prelude.{◌+◌, ◌*◌, cond, ◌≡◌, eqb, ltb, get_or, take};
+ghost use Rattle.std.specs.Prelude.{◌+◌, ◌*◌, cond, ◌≡◌, eqb, get_or, take};
 ghost use Rattle.std.proofs.lemmas.List.Edits.{sets};
 ghost use Rattle.rules.specs.Limits.{desk};
-ghost use Rattle.rules.specs.Lists.{if◌then◌else◌};
 ghost use Rattle.rules.specs.Table.{polytope};
 ghost use Rattle.rules.specs.Memory.{plane_named};
 ghost use Rattle.rules.specs.Held.{element_words};
 ghost use Rattle.space.specs.Numbers.{row_width};
 ghost use Rattle.space.specs.Ready.{ElementReady, BoundaryAtReady, PutRowReady, PolytopeRowReady};
 
-use crate::words::{BOUNDARY, SET, WIDTH, wide};
+use crate::words::{SET, WIDTH, wide};
 use rules::ElementId;
 
 // What adding an element gives.
@@ -76,13 +75,6 @@ fn bit(mark: bool) -> u16
     if mark { 1 } else { 0 }
 }
 
-// A word of a list that has n of them; past them 0, whatever stands there. Numbers of 16 bits, so that as many are compared at once.
-pub fn within(word: u16, j: u16, n: u16) -> u16
-    ensures { result ≡ (if ltb j n then word else 0) }
-{
-    if j < n { word } else { 0 }
-}
-
 // The boundary is the front of a set's words, which have place for one more than a row: rule 8 refuses a full set before.
 pub fn polytope_row(
     rank: usize,
@@ -98,11 +90,9 @@ pub fn polytope_row(
     row[0] = rank as u16;
     row[1] = bit(mark);
     row[2] = plane;
-    let count = n as u16;
-    row[3] = count;
-    // all of the room is written, so that many words are copied at once, and the row is read as it was written
-    for j in 0..BOUNDARY {
-        row[4 + j] = within(list[j], j as u16, count);
+    row[3] = n as u16;
+    for j in 0..n {
+        row[4 + j] = list[j];
     }
     row
 }

@@ -1,19 +1,17 @@
 -- The walk round a face over the words of the lent memory: the rules' own for a face that is one ring, with the ends of an edge read from its row. Definitions only.
 use Rattle.std.specs.Prelude.{ℕ, zero, suc, ◌+◌, ◌*◌, ◌<◌, ◌≤◌, Bool, not, ◌&&◌, ◌||◌, ◌≡◌, List, [], ◌∷◌, ltb, eqb, length, get_or}
-use Rattle.rules.specs.Limits.{desk}
 use Rattle.rules.specs.Lists.{if◌then◌else◌, keep}
 use Rattle.rules.specs.Held.{AllOf}
-use Rattle.space.specs.Numbers.{row_width}
 use Rattle.space.specs.Ready.{ElementReady}
 use Rattle.walk.specs.Boundaries.{row_boundary, BoundaryFits}
 
 -- ---- an edge's two ends
 
 abbrev pub low_end : List ℕ → ℕ → ℕ
-low_end es x = get_or es (x * row_width + 4) 0
+low_end es x = get_or es (x * 36 + 4) 0
 
 abbrev pub high_end : List ℕ → ℕ → ℕ
-high_end es x = get_or es (x * row_width + 5) 0
+high_end es x = get_or es (x * 36 + 5) 0
 
 abbrev pub has_end : List ℕ → ℕ → ℕ → Bool
 has_end es v x = eqb v (low_end es x) || eqb v (high_end es x)
@@ -54,7 +52,7 @@ unfoldable pub numbers_from : ℕ → List ℕ → List ℕ → ℕ → ℕ → 
 numbers_from zero es xs v e = []
 numbers_from (suc n) es xs v e =
     let w = end_across es v e in
-    get_or es (v * row_width + 4) 0 ∷ get_or es (w * row_width + 4) 0 ∷ numbers_from n es xs w (edge_beside es e w xs)
+    get_or es (v * 36 + 4) 0 ∷ get_or es (w * 36 + 4) 0 ∷ numbers_from n es xs w (edge_beside es e w xs)
 
 -- round the face f: as many steps as it has edges, which lead round a ring, and no further
 abbrev pub numbers_round : List ℕ → ℕ → ℕ → ℕ → List ℕ
@@ -78,16 +76,16 @@ pub record VertexOf (es : List ℕ) (v r : ℕ) : Type 0 where
 
 -- an edge and its ends are numbers within the room
 pub record EdgeFits (es : List ℕ) (x : ℕ) : Type 0 where
-  pub used : x < desk.elements
-  pub first : low_end es x < desk.elements
-  pub second : high_end es x < desk.elements
+  pub used : x < 512
+  pub first : low_end es x < 512
+  pub second : high_end es x < 512
 
 -- so are those of a face; row 0 is read where a corner has no other edge
 pub record FaceFits (es : List ℕ) (f : ℕ) : Type 0 where
   pub bounds : BoundaryFits es f
   pub edges : AllOf (EdgeFits es) (row_boundary es f)
   pub none : EdgeFits es 0
-  pub start : lowest_end es no_edge (row_boundary es f) < desk.elements
+  pub start : lowest_end es no_edge (row_boundary es f) < 512
 
 -- and a list has room for all its numbers
 pub record ListFits (es : List ℕ) (f : ℕ) (room : List ℕ) : Type 0 where
@@ -97,6 +95,6 @@ pub record ListFits (es : List ℕ) (f : ℕ) (room : List ℕ) : Type 0 where
 -- and the corner and the edge that the walk begins with are numbers within the room
 pub record WalkFits (es : List ℕ) (f start first : ℕ) (room : List ℕ) : Type 0 where
   pub face : FaceFits es f
-  pub corner : start < desk.elements
+  pub corner : start < 512
   pub edge : EdgeFits es first
   pub enough : 2 * length (row_boundary es f) ≤ length room

@@ -7,7 +7,6 @@ ghost use Rattle.rules.specs.Limits.{desk};
 ghost use Rattle.rules.specs.Held.{memory_of};
 ghost use Rattle.rules.specs.Questions.{answer};
 ghost use Rattle.rules.specs.Replies.{listed, edges_in_order_reply};
-ghost use Rattle.space.specs.Numbers.{row_width};
 ghost use Rattle.space.specs.Ready.{ElementReady};
 ghost use Rattle.walk.specs.Boundaries.{row_boundary, BoundaryFits};
 ghost use Rattle.walk.specs.Walks as words;
@@ -24,7 +23,7 @@ const NO_EDGE: usize = 65535;
 // One of an edge's two ends, which are vertex elements.
 fn end_at(elements: &[u16], e: ElementId, i: usize) -> ElementId
     requires { EndReady elements.now e.0 i }
-    ensures { result.0 ≡ get_or elements.now (e.0 * row_width + (4 + i)) 0 }
+    ensures { result.0 ≡ get_or elements.now (e.0 * 36 + (4 + i)) 0 }
 {
     ElementId(wide(rows::boundary_at(elements, e, i)))
 }

@@ -1,5 +1,5 @@
 -- All of what is left are faces exactly when all of the whole are.
-use Rattle.std.proofs.Common.{◌≡◌, ℕ, suc, ◌-◌, ◌≤◌, List, length, drop, sym, ap, ◌∙◌, le_trans, le_of_eq, rules}
+use Rattle.std.proofs.Common.{◌≡◌, ℕ, suc, ◌+◌, ◌-◌, ◌≤◌, List, length, drop, sym, ap, ◌∙◌, le_trans, le_of_eq, rules}
 use Rattle.rules.specs.Lists.{all}
 use Rattle.rules.proofs.Laws.{test_eq, not_eq}
 use Rattle.areas.specs.Words.{row_is_face}

@@ -1,5 +1,5 @@
 -- 3, 26, 4 and 6 in their order, each of all pieces, and then the sheet: each way the code goes is a case of the reply.
-use Rattle.std.proofs.Common.{[], sym, refl, ◌∙◌, arith, rules}
+use Rattle.std.proofs.Common.{[], sym, ◌∙◌, arith, rules}
 use borrow.Author.Tests.{not-true, not-false}
 use Rattle.soundness.proofs.AskedOnce.{counts_long}
 use Rattle.areas.proofs.Replied.{unsound, too_many, not_in_use, not_flat, pieces_used, no_face, pieces_fit, replied}
@@ -7,8 +7,8 @@ use Rattle.areas.proofs.areas.Statement.{statement}
 use Rattle.areas.proofs.areas.Tie as tie
 
 -- where the pieces were few enough
-abbrev few : tie.After-all-used → tie.Else2
-few c = c.before.before
+abbrev few : tie.After-are-in-use → tie.Else2
+few c = c.before.before.before
 
 memory-sound-requires : tie.Need-memory-sound-requires
 memory-sound-requires c κs = search rules
@@ -21,20 +21,23 @@ returns-2 c =
     let e = c.before in
     too_many _ _ _ _ _ _ (sym e.before.memory_sound.ensures ∙ not-false _ e.if1.false) c.if2.true
 
-shared-slice-read-all-used : tie.Need-shared-slice-read-all-used
-shared-slice-read-all-used c =
+shared-slice-read-wide : tie.Need-shared-slice-read-wide
+shared-slice-read-wide c =
     let e = c.before.before in
     omega (arith, counts_long _ _ _ _ (sym e.before.memory_sound.ensures ∙ not-false _ e.if1.false))
 
-all-used-requires : tie.Need-all-used-requires
-all-used-requires c κs = search rules
+wide-requires : tie.Need-wide-requires
+wide-requires c κs = search rules
+
+are-in-use-requires : tie.Need-are-in-use-requires
+are-in-use-requires c κs = search rules
 
 returns-3 : tie.Need-returns-3
 returns-3 c =
     let u = c.before in
     let k = few u in
     let e = k.before in
-    not_in_use _ _ _ _ _ _ (sym e.before.memory_sound.ensures ∙ not-false _ e.if1.left) k.if2.left _ refl _ u.all-used.ensures (not-true _ c.if3.true)
+    not_in_use _ _ _ _ _ _ (sym e.before.memory_sound.ensures ∙ not-false _ e.if1.left) k.if2.left _ u.before.wide.ensures.value _ u.are-in-use.ensures (not-true _ c.if3.true)
 
 shared-slice-read-if4 : tie.Need-shared-slice-read-if4
 shared-slice-read-if4 c =
@@ -47,7 +50,7 @@ returns-4 c =
     let u = i.before in
     let k = few u in
     let e = k.before in
-    not_flat _ _ _ _ _ _ (sym e.before.memory_sound.ensures ∙ not-false _ e.if1.left) k.if2.left _ refl _ u.all-used.ensures (not-false _ i.if3.false) c.if4.true
+    not_flat _ _ _ _ _ _ (sym e.before.memory_sound.ensures ∙ not-false _ e.if1.left) k.if2.left _ u.before.wide.ensures.value _ u.are-in-use.ensures (not-false _ i.if3.false) c.if4.true
 
 are-faces-requires : tie.Need-are-faces-requires
 are-faces-requires c κs =
@@ -55,7 +58,7 @@ are-faces-requires c κs =
     let u = i.before in
     let k = few u in
     let e = k.before in
-    pieces_used _ _ _ _ _ [] (sym e.before.memory_sound.ensures ∙ not-false _ e.if1.left) k.if2.left _ refl _ u.all-used.ensures (not-false _ i.if3.false)
+    pieces_used _ _ _ _ _ [] (sym e.before.memory_sound.ensures ∙ not-false _ e.if1.left) k.if2.left _ u.before.wide.ensures.value _ u.are-in-use.ensures (not-false _ i.if3.false)
 
 returns-5 : tie.Need-returns-5
 returns-5 c =
@@ -64,7 +67,7 @@ returns-5 c =
     let u = i.before in
     let k = few u in
     let e = k.before in
-    no_face _ _ _ _ _ _ (sym e.before.memory_sound.ensures ∙ not-false _ e.if1.left) k.if2.left _ refl _ u.all-used.ensures (not-false _ i.if3.false) d.if4.false
+    no_face _ _ _ _ _ _ (sym e.before.memory_sound.ensures ∙ not-false _ e.if1.left) k.if2.left _ u.before.wide.ensures.value _ u.are-in-use.ensures (not-false _ i.if3.false) d.if4.false
     _ c.before.are-faces.ensures (not-true _ c.if5.true)
 
 sheet-of-requires : tie.Need-sheet-of-requires
@@ -75,7 +78,7 @@ sheet-of-requires c κs =
     let u = i.before in
     let k = few u in
     let e = k.before in
-    pieces_fit _ _ _ _ _ [] (sym e.before.memory_sound.ensures ∙ not-false _ e.if1.left) k.if2.left _ refl _ u.all-used.ensures (not-false _ i.if3.false) d.if4.false
+    pieces_fit _ _ _ _ _ [] (sym e.before.memory_sound.ensures ∙ not-false _ e.if1.left) k.if2.left _ u.before.wide.ensures.value _ u.are-in-use.ensures (not-false _ i.if3.false) d.if4.false
     _ f.before.are-faces.ensures (not-false _ f.if5.false)
 
 same_length : tie.Need-same-length
@@ -89,7 +92,7 @@ returns-6 c =
     let u = i.before in
     let k = few u in
     let e = k.before in
-    replied _ _ _ _ _ _ (sym e.before.memory_sound.ensures ∙ not-false _ e.if1.left) k.if2.left _ refl _ u.all-used.ensures (not-false _ i.if3.false) d.if4.false
+    replied _ _ _ _ _ _ (sym e.before.memory_sound.ensures ∙ not-false _ e.if1.left) k.if2.left _ u.before.wide.ensures.value _ u.are-in-use.ensures (not-false _ i.if3.false) d.if4.false
     _ f.before.are-faces.ensures (not-false _ f.if5.false) c.before.sheet-of.ensures
 
 pub areas_spec : {M : Type 1} → statement M
@@ -99,8 +102,9 @@ areas_spec =
     memory-sound-requires
     returns
     returns-2
-    shared-slice-read-all-used
-    all-used-requires
+    shared-slice-read-wide
+    wide-requires
+    are-in-use-requires
     returns-3
     shared-slice-read-if4
     returns-4

@@ -1,10 +1,9 @@
 -- A corner, a facet or any other element: each has its row.
-use Prim.Native.Nat.{◌+◌, ◌*◌, ◌≤◌, ◌<◌}
+use Prim.Native.Nat.{◌≤◌, ◌<◌}
 use mathlib.Core.Path.{◌≡◌, refl, sym, ◌∙◌}
 use native.Mathlib.Omega.{arith}
 use mathlib.Core.Bool.{true, false}
 use lib.ListN.{length}
-use Rattle.rules.specs.Limits.{desk}
 use Rattle.rules.specs.Cube.{digits, is_vertex, is_facet, chosen}
 use Rattle.cube.proofs.CubeEntries.{corner_room, facet_room, row_corner, row_polytope, facet_named, faces_few}
 use Rattle.cube.proofs.CubeRows.{power_low}
@@ -23,13 +22,13 @@ faced c = c.before.before.before
 no_corner : (c : tie.After-faces-of) → is_vertex (digits (start c).args.d (start c).args.e.0) ≡ false
 no_corner c = sym c.before.before.is_corner_lem.ensures ∙ c.before.if1.false
 
-few : (c : tie.After-faces-of) → c.faces-of.result.n ≤ 2 * desk.dimensions
+few : (c : tie.After-faces-of) → c.faces-of.result.n ≤ 8
 few c = faces_few (start c).args.d (start c).args.e.0 c.faces-of.result (start c).requires.in_cube.axes c.faces-of.ensures
 
 a_facet : (c : tie.Then2) → is_facet (digits (start (faced c.before)).args.d (start (faced c.before)).args.e.0) ≡ true
 a_facet c = sym c.before.is-facet.ensures ∙ c.if2.true
 
-facet_few : (c : tie.Then2) → length (chosen is_facet (start (faced c.before)).args.d (start (faced c.before)).args.e.0) < 2 * desk.dimensions + 1
+facet_few : (c : tie.Then2) → length (chosen is_facet (start (faced c.before)).args.d (start (faced c.before)).args.e.0) < 9
 facet_few c = let s = start (faced c.before) in facet_room s.args.d s.args.e.0 s.pre.in_cube.axes s.pre.in_cube.used (a_facet c)
 
 cast-number : tie.Need-overflow-cast-number

@@ -4,7 +4,6 @@ use Prim.Native.Nat.{ℕ, ◌≤◌, ◌-◌, ◌*◌, ◌^◌}
 use native.Mathlib.Omega.{arith}
 use native.Mathlib.Nat.{pow-suc}
 use native.Mathlib.Numerals.{add-one}
-use Rattle.rules.specs.Limits.{desk}
 use Rattle.cube.proofs.CubeRows.{power_low}
 use borrow.Author.Rules.{rules}
 use Rattle.cube.proofs.cube_size.Statement.{statement}
@@ -12,7 +11,7 @@ use Rattle.cube.proofs.cube_size.Tie as tie
 
 record Grown (d size axis : ℕ) : Type 0 where
   so_far : axis ≤ d
-  axes : d ≤ desk.dimensions
+  axes : d ≤ 4
   power : size ≡ 3 ^ axis
 
 abbrev invariant-loop : tie.invariant-loop

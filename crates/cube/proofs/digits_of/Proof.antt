@@ -4,7 +4,6 @@ use Prim.Native.Nat.{ℕ, ◌≤◌, ◌-◌}
 use mathlib.Core.List.{List}
 use native.Mathlib.Omega.{arith}
 use lib.ListN.{length}
-use Rattle.rules.specs.Limits.{desk}
 use Rattle.cube.proofs.CubeRows.{Reading, reading_start, reading_next, reading_end}
 use borrow.Author.Rules.{rules}
 use Rattle.cube.proofs.digits_of.Statement.{statement}
@@ -12,8 +11,8 @@ use Rattle.cube.proofs.digits_of.Tie as tie
 
 record Read (d e : ℕ) (ks : List ℕ) (rest axis : ℕ) : Type 0 where
   so_far : axis ≤ d
-  axes : d ≤ desk.dimensions
-  long : length ks ≡ desk.dimensions
+  axes : d ≤ 4
+  long : length ks ≡ 4
   reading : Reading d e axis ks rest
 
 abbrev invariant-loop : tie.invariant-loop

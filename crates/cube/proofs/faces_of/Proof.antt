@@ -4,7 +4,6 @@ use mathlib.Core.List.{List}
 use Prim.Native.Nat.{ℕ, ◌≤◌}
 use native.Mathlib.Omega.{arith}
 use lib.ListN.{length}
-use Rattle.rules.specs.Limits.{desk}
 use Rattle.cube.specs.declared.Faces.{Faces}
 use Rattle.cube.proofs.CubeRows.{Descending, descend_start, descend_ready, descend_next, descend_end}
 use borrow.Author.Rules.{rules}
@@ -13,8 +12,8 @@ use Rattle.cube.proofs.faces_of.Tie as tie
 
 record Down (d e : ℕ) (ks : List ℕ) (f : Faces) (step axis : ℕ) : Type 0 where
   left : axis ≤ d
-  axes : d ≤ desk.dimensions
-  long : length ks ≡ desk.dimensions
+  axes : d ≤ 4
+  long : length ks ≡ 4
   going : Descending d e ks f step axis
 
 abbrev invariant-loop : tie.invariant-loop

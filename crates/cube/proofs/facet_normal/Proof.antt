@@ -6,7 +6,6 @@ use native.Mathlib.Omega.{arith}
 use lib.Ieee
 use lib.Ieee.{Float}
 use lib.ListN.{length}
-use Rattle.rules.specs.Limits.{desk}
 use Rattle.rules.specs.Lists.{pad}
 use Rattle.rules.specs.Cube.{digits, facet_normal}
 use Rattle.cube.specs.Cubes.{component_at}
@@ -17,10 +16,10 @@ use Rattle.cube.proofs.facet_normal.Tie as tie
 
 record Worked (f : ℕ → Float) (d : ℕ) (ks : List ℕ) (p : List Float) (axis : ℕ) : Type 0 where
   so_far : axis ≤ d
-  axes : d ≤ desk.dimensions
-  digits_long : length ks ≡ desk.dimensions
-  long : length p ≡ desk.dimensions
-  done : (e : ℕ) → ks ≡ pad 0 desk.dimensions (digits d e) → p ≡ worked f (digits d e) axis
+  axes : d ≤ 4
+  digits_long : length ks ≡ 4
+  long : length p ≡ 4
+  done : (e : ℕ) → ks ≡ pad 0 4 (digits d e) → p ≡ worked f (digits d e) axis
 
 abbrev invariant-loop : tie.invariant-loop
 invariant-loop d e ks p₀ axis₀ p axis = Worked component_at d ks p axis

@@ -1,11 +1,10 @@
 -- A corner has a point, and any other element none.
-use Prim.Native.Nat.{◌+◌, ◌^◌, ◌<◌}
+use Prim.Native.Nat.{◌<◌}
 use mathlib.Core.Bool.{true}
 use mathlib.Core.Path.{◌≡◌, sym, ◌∙◌}
 use native.Mathlib.Omega.{arith}
 use borrow.Author.Tests.{not-true, not-false}
 use lib.ListN.{length}
-use Rattle.rules.specs.Limits.{desk}
 use Rattle.rules.specs.Cube.{digits, is_vertex, chosen}
 use Rattle.cube.proofs.CubeEntries.{corner_put, corner_none, corner_room}
 use Rattle.cube.proofs.CubeRows.{power_low}
@@ -27,7 +26,7 @@ put c = c.before.before.before
 a_corner : (c : tie.After-corner-point) → is_vertex (digits (start c).args.d (start c).args.e.0) ≡ true
 a_corner c = sym c.before.before.is_corner_lem.ensures ∙ not-false _ c.before.if1.false
 
-few : (c : tie.After-corner-point) → length (chosen is_vertex (start c).args.d (start c).args.e.0) < 2 ^ desk.dimensions + 1
+few : (c : tie.After-corner-point) → length (chosen is_vertex (start c).args.d (start c).args.e.0) < 17
 few c = let s = start c in corner_room s.args.d s.args.e.0 s.pre.in_cube.axes s.pre.in_cube.used (a_corner c)
 
 cast-number : tie.Need-overflow-cast-number

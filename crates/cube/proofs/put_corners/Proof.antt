@@ -3,14 +3,13 @@ use Prim.Native.Nat.{◌-◌}
 use native.Mathlib.Omega.{arith}
 use borrow.Author.Rules.{rules}
 use Rattle.rules.specs.Cube.{is_vertex}
-use Rattle.space.specs.Numbers.{point_slice}
 use Rattle.cube.specs.Writing.{cube_points}
 use Rattle.cube.proofs.Written.{Written, begun, in_cube_lem, one_more_lem, complete}
 use Rattle.cube.proofs.put_corners.Statement.{statement}
 use Rattle.cube.proofs.put_corners.Tie as tie
 
 abbrev invariant-loop : tie.invariant-loop
-invariant-loop points₀ d radius size v₀ e₀ points v e = Written is_vertex (cube_points d radius) point_slice d size points₀ points v.0 e
+invariant-loop points₀ d radius size v₀ e₀ points v e = Written is_vertex (cube_points d radius) 1024 d size points₀ points v.0 e
 
 abbrev decreases-loop : tie.decreases-loop
 decreases-loop points₀ d radius size v₀ e₀ points v e = size - e

@@ -4,10 +4,8 @@ use mathlib.Core.Path.{◌≡◌, refl, ap, ◌∙◌}
 use mathlib.Core.List.{List}
 use native.Mathlib.Omega.{arith}
 use lib.ListN.{length}
-use Rattle.rules.specs.Limits.{desk}
 use Rattle.rules.specs.Cube.{is_vertex, is_facet, chosen}
 use borrow.Author.Rules.{rules}
-use Rattle.space.specs.Numbers.{element_slice}
 use Rattle.cube.specs.Cubes.{CubeSize}
 use Rattle.cube.specs.Writing.{cube_elements}
 use Rattle.cube.proofs.CubeEntries.{elements_next, chosen_counted, chosen_few}
@@ -16,10 +14,10 @@ use Rattle.cube.proofs.put_elements.Tie as tie
 
 record Written (d size : ℕ) (old new : List ℕ) (v h e : ℕ) : Type 0 where
   so_far : e ≤ size
-  axes : d ≤ desk.dimensions
+  axes : d ≤ 4
   all : CubeSize d size
-  long : length new ≡ element_slice
-  room : length old ≡ element_slice
+  long : length new ≡ 18432
+  room : length old ≡ 18432
   vertices : v ≡ length (chosen is_vertex d e)
   hyperplanes : h ≡ length (chosen is_facet d e)
   slice : new ≡ cube_elements d e

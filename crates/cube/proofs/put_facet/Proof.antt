@@ -1,11 +1,10 @@
 -- A facet has a hyperplane, and any other element none.
-use Prim.Native.Nat.{◌+◌, ◌*◌, ◌<◌}
+use Prim.Native.Nat.{◌<◌}
 use mathlib.Core.Bool.{true}
 use mathlib.Core.Path.{◌≡◌, sym, ◌∙◌}
 use native.Mathlib.Omega.{arith}
 use borrow.Author.Tests.{not-true, not-false}
 use lib.ListN.{length}
-use Rattle.rules.specs.Limits.{desk}
 use Rattle.rules.specs.Cube.{digits, is_facet, chosen}
 use Rattle.cube.proofs.CubeEntries.{facet_put, facet_none, facet_room}
 use Rattle.cube.proofs.CubeRows.{power_low}
@@ -27,7 +26,7 @@ put c = c.before.before.before
 a_facet : (c : tie.After-facet-normal) → is_facet (digits (start c).args.d (start c).args.e.0) ≡ true
 a_facet c = sym c.before.before.is-facet.ensures ∙ not-false _ c.before.if1.false
 
-few : (c : tie.After-facet-normal) → length (chosen is_facet (start c).args.d (start c).args.e.0) < 2 * desk.dimensions + 1
+few : (c : tie.After-facet-normal) → length (chosen is_facet (start c).args.d (start c).args.e.0) < 9
 few c = let s = start c in facet_room s.args.d s.args.e.0 s.pre.in_cube.axes s.pre.in_cube.used (a_facet c)
 
 cast-number : tie.Need-overflow-cast-number

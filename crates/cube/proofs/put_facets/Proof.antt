@@ -3,14 +3,13 @@ use Prim.Native.Nat.{◌-◌}
 use native.Mathlib.Omega.{arith}
 use borrow.Author.Rules.{rules}
 use Rattle.rules.specs.Cube.{is_facet}
-use Rattle.space.specs.Numbers.{plane_slice}
 use Rattle.cube.specs.Writing.{cube_planes}
 use Rattle.cube.proofs.Written.{Written, begun, in_cube_lem, one_more_lem, complete}
 use Rattle.cube.proofs.put_facets.Statement.{statement}
 use Rattle.cube.proofs.put_facets.Tie as tie
 
 abbrev invariant-loop : tie.invariant-loop
-invariant-loop planes₀ d radius size h₀ e₀ planes h e = Written is_facet (cube_planes d radius) plane_slice d size planes₀ planes h.0 e
+invariant-loop planes₀ d radius size h₀ e₀ planes h e = Written is_facet (cube_planes d radius) 320 d size planes₀ planes h.0 e
 
 abbrev decreases-loop : tie.decreases-loop
 decreases-loop planes₀ d radius size h₀ e₀ planes h e = size - e

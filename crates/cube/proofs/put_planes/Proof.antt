@@ -6,7 +6,6 @@ use Rattle.rules.specs.Floats.{plus_zero}
 use Rattle.rules.specs.Limits.{desk}
 use Rattle.rules.specs.Memory.{plane_row}
 use Rattle.rules.specs.Cube.{is_facet}
-use Rattle.space.specs.Numbers.{plane_slice}
 use Rattle.cube.proofs.CubeRows.{power_low}
 use Rattle.cube.proofs.CubeEntries.{cleared, chosen_few}
 use borrow.Author.Rules.{rules}
@@ -27,7 +26,7 @@ put-facets-requires : tie.Need-put-facets-requires
 put-facets-requires c κs =
     let k = c.before.before.before in
     let s = start k in
-    record { room = record { axes = s.pre.axes; long = search rules }; clear = k.clear-floats.ensures ∙ cleared plus_zero (plane_row desk) s.args.planes.now _ plane_slice refl s.pre.long }
+    record { room = record { axes = s.pre.axes; long = search rules }; clear = k.clear-floats.ensures ∙ cleared plus_zero (plane_row desk) s.args.planes.now _ 320 refl s.pre.long }
 
 cast-result : tie.Need-overflow-cast-result
 cast-result c =

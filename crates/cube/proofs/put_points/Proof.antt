@@ -2,11 +2,9 @@
 use mathlib.Core.Path.{refl, ◌∙◌}
 use Prim.Native.Nat.{◌^◌}
 use native.Mathlib.Omega.{arith}
-use Rattle.rules.specs.Limits.{desk}
 use Rattle.rules.specs.Floats.{plus_zero}
 use Rattle.rules.specs.Lists.{pad}
 use Rattle.rules.specs.Cube.{is_vertex}
-use Rattle.space.specs.Numbers.{point_slice}
 use Rattle.cube.proofs.CubeRows.{power_low}
 use Rattle.cube.proofs.CubeEntries.{cleared, chosen_few}
 use borrow.Author.Rules.{rules}
@@ -27,7 +25,7 @@ put-corners-requires : tie.Need-put-corners-requires
 put-corners-requires c κs =
     let k = c.before.before.before in
     let s = start k in
-    record { room = record { axes = s.pre.axes; long = search rules }; clear = k.clear-floats.ensures ∙ cleared plus_zero (pad plus_zero desk.dimensions) s.args.points.now _ point_slice refl s.pre.long }
+    record { room = record { axes = s.pre.axes; long = search rules }; clear = k.clear-floats.ensures ∙ cleared plus_zero (pad plus_zero 4) s.args.points.now _ 1024 refl s.pre.long }
 
 cast-result : tie.Need-overflow-cast-result
 cast-result c =

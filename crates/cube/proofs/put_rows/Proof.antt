@@ -2,7 +2,6 @@
 use mathlib.Core.Path.{refl, ◌∙◌}
 use Rattle.rules.specs.Limits.{desk}
 use Rattle.rules.specs.Held.{element_words}
-use Rattle.space.specs.Numbers.{element_slice}
 use Rattle.cube.proofs.CubeEntries.{cleared}
 use borrow.Author.Rules.{rules}
 use Rattle.cube.proofs.put_rows.Statement.{statement}
@@ -19,7 +18,7 @@ put-elements-requires : tie.Need-put-elements-requires
 put-elements-requires c κs =
     let k = c.before.before.before in
     let s = start k in
-    record { room = record { axes = s.pre.axes; long = search rules }; clear = k.clear-numbers.ensures ∙ cleared 0 (element_words desk) s.args.elements.now _ element_slice refl s.pre.long }
+    record { room = record { axes = s.pre.axes; long = search rules }; clear = k.clear-numbers.ensures ∙ cleared 0 (element_words desk) s.args.elements.now _ 18432 refl s.pre.long }
 
 same_length : tie.Need-same-length
 same_length c = search rules

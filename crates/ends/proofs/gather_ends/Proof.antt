@@ -1,7 +1,5 @@
 -- The room is cleared; each end's answer is by its own signed distance, and the two are gathered in turn.
-use Prim.Native.Nat.{◌-◌}
 use lib.Dec.{lit≤}
-use Rattle.rules.specs.Limits.{desk}
 use Rattle.ends.proofs.EndsGathered.{sized_more, end_room, ends_gathered}
 use borrow.Author.Rules.{rules}
 use Rattle.ends.proofs.gather_ends.Statement.{statement}
@@ -27,7 +25,7 @@ gather-in-requires : tie.Need-gather-in-requires
 gather-in-requires c κs =
     let a = first c in
     let s = start a in
-    record { sized = sized_more 0 (desk.boundary - 1) (lit≤ tt) a.before.clear.ensures.nothing.sized; element = s.pre.first; answer = end_room _ s.args.sa s.pre.first a.end-output.ensures }
+    record { sized = sized_more 0 31 (lit≤ tt) a.before.clear.ensures.nothing.sized; element = s.pre.first; answer = end_room _ s.args.sa s.pre.first a.end-output.ensures }
 
 end-output-requires-2 : tie.Need-end-output-requires-2
 end-output-requires-2 c κs = search rules
@@ -39,7 +37,7 @@ gather-in-requires-2 c κs =
     let a = first g.before in
     let s = start a in
     record {
-      sized = sized_more 1 (desk.boundary - 1) (lit≤ tt) (g.gather-in.ensures.sized 0 a.before.clear.ensures.nothing.sized);
+      sized = sized_more 1 31 (lit≤ tt) (g.gather-in.ensures.sized 0 a.before.clear.ensures.nothing.sized);
       element = s.pre.second;
       answer = end_room _ s.args.sb s.pre.second b.end-output2.ensures;
     }

@@ -1,5 +1,5 @@
 -- The turns of what is left, added to the sum, are those of the whole.
-use Rattle.std.proofs.Common.{◌≡◌, ℕ, ◌+◌, ◌-◌, ◌*◌, ◌^◌, ◌≤◌, List, take, drop, ℤ, ◌+ℤ◌, nat_abs, sym, subst, zero-le, le_trans, lit≤, w64, to_z, rules}
+use Rattle.std.proofs.Common.{◌≡◌, ℕ, ◌+◌, ◌-◌, ◌*◌, ◌^◌, ◌≤◌, List, take, drop, ℤ, ◌+ℤ◌, nat_abs, sym, ◌∙◌, subst, zero-le, le_trans, lit≤, w64, to_z, rules}
 use lib.IntN.{+ℤ_idl}
 use lib.Ieee.{Float}
 use Rattle.areas.specs.Words.{turns_along, CornerFits, StepFits}

@@ -23,14 +23,14 @@ enum-known-asked c = search rules
 enum_told : tie.Need-enum-told
 enum_told c = search rules
 
-untested-requires : tie.Need-untested-requires
-untested-requires c κs = search rules
+all-on-requires : tie.Need-all-on-requires
+all-on-requires c κs = search rules
 
 enum-told-2 : tie.Need-enum-told-2
 enum-told-2 c = search rules
 
-untested-requires-2 : tie.Need-untested-requires-2
-untested-requires-2 c κs = search rules
+all-on-requires-2 : tie.Need-all-on-requires-2
+all-on-requires-2 c κs = search rules
 
 enum-told-3 : tie.Need-enum-told-3
 enum-told-3 c = search rules
@@ -59,7 +59,7 @@ returns-2 c =
     let f = c.before in
     let k = f.before.before in
     let b = start k.before in
-    sound_inside b.pre b.args.params b.args.root.0 k.sound-asked.ensures f.enum_told.given.1 c.untested.ensures
+    sound_inside b.pre b.args.params b.args.root.0 k.sound-asked.ensures f.enum_told.given.1 c.all_on.ensures
 
 same-length-3 : tie.Need-same-length-3
 same-length-3 c = search rules
@@ -69,7 +69,7 @@ returns-3 c =
     let f = c.before in
     let k = f.before.before in
     let b = start k.before in
-    sound_outside b.pre b.args.params b.args.root.0 k.sound-asked.ensures f.enum-told2.given.1 c.untested2.ensures
+    sound_outside b.pre b.args.params b.args.root.0 k.sound-asked.ensures f.enum-told2.given.1 c.all-on2.ensures
 
 same-length-4 : tie.Need-same-length-4
 same-length-4 c = search rules
@@ -98,9 +98,9 @@ cut_sound_spec =
     sound-asked-requires
     enum-known-asked
     enum_told
-    untested-requires
+    all-on-requires
     enum-told-2
-    untested-requires-2
+    all-on-requires-2
     enum-told-3
     cut-finite-requires
     same_length

@@ -1,4 +1,5 @@
 -- The number, or the answer above its eight bits and the count above that, which fits since no more corners are tested than there is room for elements.
+use mathlib.Core.Path.{sym, ap}
 use native.Mathlib.Omega.{arith}
 use Rattle.desk.proofs.TouchWords.{touched_low, word_touched}
 use borrow.Author.Rules.{rules}

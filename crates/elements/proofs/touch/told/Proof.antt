@@ -3,6 +3,7 @@ use mathlib.Core.Bool.{Bool}
 use mathlib.Core.Path.{sym, ap₂}
 use Rattle.rules.specs.Touch.{touch_by}
 use Rattle.rules.specs.declared.TouchReply.TheVariants.{Touched}
+use borrow.Author.Rules.{rules}
 use Rattle.elements.proofs.touch.told.Statement.{statement}
 use Rattle.elements.proofs.touch.told.Tie as tie
 

@@ -1,6 +1,7 @@
 -- Each reply is read off the tests: 3 where the memory is not sound, 12 where the size that was counted is more than the room.
 use mathlib.Core.Bool.{true}
 use mathlib.Core.Path.{◌≡◌, sym, ◌∙◌}
+use native.Mathlib.Omega.{arith}
 use borrow.Author.Tests.{not-true, not-false}
 use borrow.Author.Rules.{rules}
 use Rattle.rules.specs.Limits.{desk}

@@ -7,13 +7,12 @@ use native.Mathlib.Omega.{arith}
 use lib.ListN.{get_or}
 use borrow.Author.Count.{below_none, below_more}
 use borrow.Author.Rules.{rules}
-use Rattle.space.specs.Numbers.{row_width}
 use Rattle.gathered.proofs.answer.is_own.Statement.{statement}
 use Rattle.gathered.proofs.answer.is_own.Tie as tie
 
 record SoFar (es : List ℕ) (e : ℕ) (set : List ℕ) (n j : ℕ) : Type 0 where
   pub within : j ≤ n
-  pub same : (k : ℕ) → k < j → get_or set k 0 ≡ get_or es (e * row_width + (4 + k)) 0
+  pub same : (k : ℕ) → k < j → get_or set k 0 ≡ get_or es (e * 36 + (4 + k)) 0
 
 abbrev invariant-loop : tie.invariant-loop
 invariant-loop elements e set n j₀ j = SoFar elements e.0 set n j

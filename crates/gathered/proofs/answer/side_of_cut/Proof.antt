@@ -4,7 +4,6 @@ use mathlib.Core.Path.{sym, ◌∙◌}
 use borrow.Author.Tests.{not-true, not-false}
 use native.Mathlib.Omega.{arith}
 use borrow.Author.Rules.{rules}
-use Rattle.rules.specs.Limits.{desk}
 use Rattle.gathered.proofs.answer.side_of_cut.Statement.{statement}
 use Rattle.gathered.proofs.answer.side_of_cut.Tie as tie
 
@@ -56,7 +55,7 @@ include-requires : tie.Need-include-requires
 include-requires c κs = including_asks (start (kept (plane c.before))).requires
 
 element-copy-out-wide : tie.Need-element-copy-out-wide
-element-copy-out-wide c = omega (arith, (c.include.ensures.sized desk.boundary (first c).requires.fit.sized).long)
+element-copy-out-wide c = omega (arith, (c.include.ensures.sized 32 (first c).requires.fit.sized).long)
 
 wide-requires : tie.Need-wide-requires
 wide-requires c κs = search rules

@@ -1,5 +1,5 @@
 -- The invariant: the floats that are left, put behind those that stand there, make all of them, and none of them is a NaN.
-use Prim.Native.Nat.{◌-◌}
+use Prim.Native.Nat.{ℕ, ◌-◌}
 use mathlib.Core.Path.{◌≡◌, refl, ◌∙◌}
 use native.Mathlib.Omega.{arith}
 use lib.ListN.{length}

@@ -1,12 +1,12 @@
 -- The invariant: the triangles from edge k on, put behind those that stand there, make the fan.
-use Prim.Native.Nat.{ℕ, ◌+◌, ◌*◌, ◌-◌, ◌≤◌}
+use Prim.Native.Nat.{ℕ, ◌+◌, ◌*◌, ◌-◌, ◌≤◌, ◌<◌}
 use mathlib.Core.List.{List, map}
-use mathlib.Core.Path.{◌≡◌, refl, ap, ◌∙◌}
+use mathlib.Core.Path.{◌≡◌, refl, sym, ap, ◌∙◌}
 use native.Mathlib.Omega.{arith}
 use lib.ListN.{length, get_or}
 use lib.Ieee.{Float}
 use Rattle.rules.specs.Lists.{joined}
-use Rattle.rules.specs.Print.{triangle_bytes}
+use Rattle.rules.specs.Print.{Triangle, triangle_bytes}
 use Rattle.lent_bytes.proofs.Puts.{put_as, put_length}
 use Rattle.lent_bytes.proofs.Rests.{Rest, all_left, left_as}
 use Rattle.print.specs.Pieces.{point_in, triangle_at, fan_in}

@@ -46,11 +46,11 @@ one-requires c κs =
     let l = cut_long first.args.input.now _ first.pre.asked in
     omega (arith, l)
 
-fate-of-requires : tie.Need-fate-of-requires
-fate-of-requires c κs = search rules
+fate-requires : tie.Need-fate-requires
+fate-requires c κs = search rules
 
-fate-of-requires-2 : tie.Need-fate-of-requires-2
-fate-of-requires-2 c κs = search rules
+fate-requires-2 : tie.Need-fate-requires-2
+fate-requires-2 c κs = search rules
 
 two-requires : tie.Need-two-requires
 two-requires c κs =
@@ -67,7 +67,7 @@ cut-line-requires c κs =
     let two = root done in
     let outside = two.before in
     let inside = outside.before in
-    let params = cut_by inside.before.before.divider-at.result inside.fate-of.result outside.fate-of2.result in
+    let params = cut_by inside.before.before.divider-at.result inside.fate.result outside.fate2.result in
     record { fits = line_fits params _ _ _ _ done.cut.ensures; room = (start (dimension two)).requires.room }
 
 mul-t20 : tie.Need-overflow-mul-t20
@@ -101,7 +101,7 @@ returns c =
     let kept = inside.before in
     let divider = kept.before in
     cut_taken _ _ _ _ _ _ _ _ _ _ _ _ _ done.cut.ensures divider.before.dimension-of.ensures.value divider.divider-at.ensures kept.one.ensures.value
-    inside.fate-of.ensures outside.fate-of2.ensures two.two.ensures.value put.cut-Line.ensures
+    inside.fate.ensures outside.fate2.ensures two.two.ensures.value put.cut-Line.ensures
 
 pub cut_turn_spec : {M : Type 1} → statement M
 cut_turn_spec =
@@ -110,8 +110,8 @@ cut_turn_spec =
     dimension-of-requires
     divider-at-requires
     one-requires
-    fate-of-requires
-    fate-of-requires-2
+    fate-requires
+    fate-requires-2
     two-requires
     cut-requires
     cut-line-requires
