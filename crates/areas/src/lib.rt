@@ -1,4 +1,6 @@
 // The area sheet of some flat pieces, in exact numbers (document 02, order 13). Whole numbers only: no float is added, and nothing wraps.
+#![tactic(auto)]
+
 pub mod grid;
 pub mod piece;
 

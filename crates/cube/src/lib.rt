@@ -1,4 +1,6 @@
 // The primordial cube, entry by entry.
+#![tactic(auto)]
+
 ghost use Rattle.std.specs.Prelude.{◌+◌, ◌^◌, ◌<◌, ◌≤◌, cond, ◌≡◌, [], ◌∷◌, map, length};
 ghost use Rattle.rules.specs.Limits.{desk};
 ghost use Rattle.rules.specs.Lists.{pad};
@@ -16,7 +18,7 @@ use space::words::{AXES, NO_PLANE, PLANE_WIDTH, SET, WIDTH, right_size};
 use space::{memo, restore, rows};
 
 // Some numbers of a boundary, in the front of their room.
-#[derive(Drop)]
+#[derive(Clone, Copy)]
 struct Faces {
     list: [u16; SET],
     n: usize,

@@ -1,4 +1,6 @@
 // The cut: rules 1 to 8 over the lent memory. A cut adds entries to a table; what the divider misses is its old entry.
+#![tactic(auto)]
+
 pub mod answers;
 mod elements;
 mod known;

@@ -18,7 +18,7 @@ use space::words::{PLANE_WIDTH, wide};
 const MOST_CUTS: usize = 64;
 
 // Whether the cut at a position was refused, or its answer is written.
-#[derive(Drop)]
+#[derive(Clone, Copy)]
 pub enum Made {
     Refused(u8),
     Answered,

@@ -1,5 +1,7 @@
 // Reads a session from standard input and writes a line for each record: blocks in, blocks out, and in memory no more
 // than one of each beside the table. What a record's line is, crate `session` says.
+#![tactic(auto)]
+
 ghost use Rattle.std.specs.Prelude.{◌+◌, ◌≤◌, length};
 ghost use Rattle.cutlist.specs.Places.{AboveNeither, InBlock, InBlocks, InOrder, BlockFilled, LineWritten, Flushed, BetweenBlocks};
 
@@ -16,7 +18,7 @@ const RECORD: usize = 45;
 const LINE: usize = 64;
 
 // What is left of the block that was read, where the next line goes, and where in the session this is.
-#[derive(Drop)]
+#[derive(Clone, Copy)]
 struct Place {
     from: usize,
     end: usize,

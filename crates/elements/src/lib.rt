@@ -1,4 +1,6 @@
 // Questions over a table in the lent memory, which is read only.
+#![tactic(auto)]
+
 mod below;
 mod common;
 mod levels;

@@ -9,7 +9,7 @@ pub const WORDS: usize = 8;
 pub const BITS: usize = 64;
 
 // A set of numbers below 512.
-#[derive(Drop)]
+#[derive(Clone, Copy)]
 pub struct Marks {
     pub words: [u64; 8],
 }

@@ -17,7 +17,7 @@ use space::rows::boundary_at;
 use space::words::wide;
 
 // What the corners tested so far have told, and how many they are.
-#[derive(Drop)]
+#[derive(Clone, Copy)]
 pub struct Tested {
     pub inside: bool,
     pub outside: bool,

@@ -1,4 +1,6 @@
 // Rules 3 and 4: the cut of a vertex, and of an edge by its two ends.
+#![tactic(auto)]
+
 ghost use Rattle.std.specs.Prelude.{◌+◌, ◌*◌, ◌≡◌, get_or};
 ghost use Rattle.rules.specs.Floats.{side_of};
 ghost use Rattle.rules.specs.Cut.{corner_output};
@@ -15,7 +17,7 @@ use space::words::{SET, wide};
 use space::{memo, rows};
 
 // The ends a and b of an edge, a the lower-numbered, at p and q.
-#[derive(Drop)]
+#[derive(Clone, Copy)]
 struct EdgeEnds {
     a: ElementId,
     b: ElementId,

@@ -15,7 +15,7 @@ const HEADER_NUMBERS: usize = 8;
 const ELEMENT_NUMBERS: usize = 6;
 
 // Whether a file has the layout, and what its header says; where its hyperplanes and its elements begin. Its vertices follow the header.
-#[derive(Drop)]
+#[derive(Clone, Copy)]
 pub struct Laid {
     pub whole: bool,
     pub dimension: usize,
@@ -27,7 +27,7 @@ pub struct Laid {
 }
 
 // The records behind a header.
-#[derive(Drop)]
+#[derive(Clone, Copy)]
 enum Kind {
     Vertices,
     Hyperplanes,
@@ -35,7 +35,7 @@ enum Kind {
 }
 
 // Where a record ends, or many of them do.
-#[derive(Drop)]
+#[derive(Clone, Copy)]
 enum Pass {
     Broken,
     At(usize),

@@ -1,4 +1,6 @@
 // A table as the bytes of its one file, and back.
+#![tactic(auto)]
+
 mod entries;
 mod judge;
 mod layout;

@@ -1,5 +1,7 @@
 // Runs the float functions over hard inputs and prints a line for each case. tests/floats/make_expected.py writes the
 // inputs, and works out by exact fractions what is to be printed.
+#![tactic(auto)]
+
 mod cases;
 mod print;
 mod read;

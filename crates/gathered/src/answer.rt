@@ -13,7 +13,7 @@ use space::words::{NO_PLANE, SET, SIZE, wide};
 use space::{memo, rows};
 
 // How the cut of an element ended: what the functions of a cut hand each other. Its warning is in the room.
-#[derive(Drop)]
+#[derive(Clone, Copy)]
 pub enum ElementReply {
     Refused(u8),
     Answered(ElementCutOutput),

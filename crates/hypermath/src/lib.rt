@@ -1,4 +1,6 @@
 // All that the rules do with floats: distances and sides, crossings, matches, and the two searches over the lent rows.
+#![tactic(auto)]
+
 mod between;
 pub mod narrow;
 pub mod patterns;
@@ -34,7 +36,7 @@ const UNIT_HIGH: f64 = 1.00000095367431640625;
 const FARTHEST_PLANE: f64 = 262144.0;
 
 // What a distance is good for: a hyperplane, rule 1, or nothing.
-#[derive(Drop)]
+#[derive(Clone, Copy)]
 pub enum DistanceKind {
     Unfit,
     Finite,
@@ -43,14 +45,14 @@ pub enum DistanceKind {
 }
 
 // The lowest vertex that matches, or none.
-#[derive(Drop)]
+#[derive(Clone, Copy)]
 pub enum FoundVertex {
     None,
     At(VertexId),
 }
 
 // The lowest hyperplane that matches, or none.
-#[derive(Drop)]
+#[derive(Clone, Copy)]
 pub enum FoundHyperplane {
     None,
     At(HyperplaneId),

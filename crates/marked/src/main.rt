@@ -1,5 +1,7 @@
 // Runs the marked examples of document 01 and its example session through the compiled functions, and prints a line for
 // each. The file stdout is written from document 01.
+#![tactic(auto)]
+
 mod print;
 
 use elements::questions;
@@ -36,7 +38,7 @@ fn start(
 }
 
 // What an example cuts: a cube of so many dimensions, by a divider, at a root.
-#[derive(Drop)]
+#[derive(Clone, Copy)]
 struct Given {
     dimension: u64,
     params: CutParams,

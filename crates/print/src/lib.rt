@@ -1,4 +1,6 @@
 // Document 02, order 11: a piece of three dimensions as binary STL. 3, 4, 6, 16, then 12; refused, the room is as it came.
+#![tactic(auto)]
+
 mod triangles;
 
 ghost use Rattle.std.specs.Prelude.{map, ◌≡◌};

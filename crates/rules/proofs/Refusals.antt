@@ -256,15 +256,15 @@ printed_in t e =
 
 list_in : (L : Limits) (q : ListQuestion) (m : Memory) → RefusedIn (list_refusals q) (list_answer L q m)
 unfolding list_answer
-list_in L (sub_elements_of e) m = asked_in L m (e ∷ []) _ (answer (sub_elements (decode L m) e)) refl refl tt
-list_in L (sub_elements_with_rank k e) m = asked_in L m (e ∷ []) _ (answer (with_rank (decode L m) k e)) refl refl tt
-list_in L (vertex_set_of e) m = asked_in L m (e ∷ []) _ (answer (vertex_set (decode L m) e)) refl refl tt
-list_in L (greatest_common_of es) m = asked_in L m es _ (greatest_common (decode L m) es) refl refl (greatest_in (decode L m) es)
+list_in L (sub_elements_of e) m = asked_in L m (e ∷ []) (list_refusals (sub_elements_of e)) (answer (sub_elements (decode L m) e)) refl refl tt
+list_in L (sub_elements_with_rank k e) m = asked_in L m (e ∷ []) (list_refusals (sub_elements_with_rank k e)) (answer (with_rank (decode L m) k e)) refl refl tt
+list_in L (vertex_set_of e) m = asked_in L m (e ∷ []) (list_refusals (vertex_set_of e)) (answer (vertex_set (decode L m) e)) refl refl tt
+list_in L (greatest_common_of es) m = asked_in L m es (list_refusals (greatest_common_of es)) (greatest_common (decode L m) es) refl refl (greatest_in (decode L m) es)
 list_in L (edges_in_order_of e) m =
-    asked_of L m (e ∷ []) _ (in_numbers (edges_in_order (decode L m) e)) refl refl
+    asked_of L m (e ∷ []) (list_refusals (edges_in_order_of e)) (in_numbers (edges_in_order (decode L m) e)) refl refl
     (λ s u. edges_in_lem L (decode L m) e (sound_table L m s) (le_test (suc e) (element_count (decode L m)) (and_left (ltb e (element_count (decode L m))) true u)))
 list_in L file_of_table m = either (RefusedIn (3 ∷ 12 ∷ [])) (not (sound_memory L m)) (no_answer 3) (answer (file_of (decode L m))) refl tt
-list_in L (print_file_of e) m = asked_in L m (e ∷ []) _ (printed (decode L m) e) refl refl (printed_in (decode L m) e)
+list_in L (print_file_of e) m = asked_in L m (e ∷ []) (list_refusals (print_file_of e)) (printed (decode L m) e) refl refl (printed_in (decode L m) e)
 
 -- a room too short is 12
 last_in : (q : ListQuestion) → member 12 (list_refusals q) ≡ true

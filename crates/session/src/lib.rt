@@ -1,4 +1,6 @@
 // A session, record by record: the call that a record asks for, and its line into lent room.
+#![tactic(auto)]
+
 mod line;
 mod record;
 mod write;
@@ -13,7 +15,7 @@ use record::{cube_turn, cut_turn, is_cube, is_cut};
 const LINE_ROOM: usize = 64;
 
 // What became of a record: its length, the length of its line, and whether a table stands then.
-#[derive(Drop)]
+#[derive(Clone, Copy)]
 pub enum TurnReply {
     NoRoom,
     Bad,

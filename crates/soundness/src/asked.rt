@@ -11,7 +11,7 @@ use rules::{ElementId, Hyperplane};
 use space::words::wide;
 
 // What a root and a divider are told: refused with a number, all on one side by rule 1, or a plane to be tested against.
-#[derive(Drop)]
+#[derive(Clone, Copy)]
 pub enum Asking {
     Refused(u8),
     AllInside,

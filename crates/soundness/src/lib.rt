@@ -1,4 +1,6 @@
 // Whether a lent memory is sound, on any four slices, line by line.
+#![tactic(auto)]
+
 pub mod asked;
 mod boundaries;
 mod chains;

@@ -17,7 +17,7 @@ pub const HEAD: usize = 4;
 pub const MASK: usize = 64;
 
 // How the words of earlier elements lie: so many for each, the rank first, and from where on the two ends of an edge.
-#[derive(Drop)]
+#[derive(Clone, Copy)]
 pub struct Spacing {
     pub width: usize,
     pub ends: usize,

@@ -20,7 +20,7 @@ const SPREAD: usize = 91;
 pub const INDEX: usize = KEYS + ELEMENTS;
 
 // The lowest element whose row is the given one, or none.
-#[derive(Drop)]
+#[derive(Clone, Copy)]
 pub enum FoundElement {
     None,
     At(ElementId),

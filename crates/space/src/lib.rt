@@ -1,4 +1,6 @@
 // The lent memory: everything between the four slices and the table of the rules.
+#![tactic(auto)]
+
 mod adding;
 pub mod chains;
 pub mod closed;

@@ -19,14 +19,14 @@ use hypermath::{FoundHyperplane, FoundVertex};
 use rules::{ElementOrNone, Hyperplane, HyperplaneId, VertexId};
 
 // What adding a hyperplane gives.
-#[derive(Drop)]
+#[derive(Clone, Copy)]
 pub enum PlacedHyperplane {
     Refused(u8),
     At(HyperplaneId),
 }
 
 // What adding a polytope gives.
-#[derive(Drop)]
+#[derive(Clone, Copy)]
 pub enum Added {
     Refused(u8),
     Made(ElementOrNone),

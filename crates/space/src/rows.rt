@@ -12,7 +12,7 @@ use crate::words::{SET, WIDTH, wide};
 use rules::ElementId;
 
 // What adding an element gives.
-#[derive(Drop)]
+#[derive(Clone, Copy)]
 pub enum Placed {
     Refused(u8),
     At(ElementId),

@@ -1,5 +1,7 @@
 // Runs the soundness test over damaged and strange memories and the cube over old ones, and prints a line for each
 // case. tests/tables/make_expected.py writes the cases, and works out from document 01 what is to be printed.
+#![tactic(auto)]
+
 mod cases;
 mod memory;
 mod print;

@@ -12,7 +12,7 @@ const RUN: usize = 2;
 const RIGHT: u64 = 4_1024_320_18432;
 
 // A value put into a slice some times, position and value growing each time; slices are numbered as they are lent.
-#[derive(Drop)]
+#[derive(Clone, Copy)]
 struct Run {
     slice: u64,
     position: usize,

@@ -1,4 +1,6 @@
 // The edges of a face in order: from its lowest vertex, first to the lower neighbour, by edges, round to the start.
+#![tactic(auto)]
+
 pub mod facet;
 
 ghost use Rattle.std.specs.Prelude.{◌+◌, ◌*◌, ◌≡◌, not, ◌&&◌, eqb, get_or};

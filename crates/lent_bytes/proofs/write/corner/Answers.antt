@@ -1,0 +1,16 @@
+-- The invariant: the floats that are left, put behind those that stand there, make all of them, and none of them is a NaN.
+use Prim.Native.Nat.{ℕ, ◌-◌}
+use mathlib.Core.Path.{◌≡◌, refl, ◌∙◌}
+use native.Mathlib.Omega.{arith}
+use lib.ListN.{length}
+use lib.Ieee.{Float, nan, binary32, to_bits}
+use borrow.Author.Rules.{rules}
+use Rattle.rules.specs.Print.{narrowed, narrowed_bytes}
+use Rattle.rules.proofs.ByteLaws.{bytes_long}
+use Rattle.lent_bytes.proofs.FloatParts.{first_is, others_are, SoFar}
+use Rattle.lent_bytes.proofs.Puts.{put_length}
+use Rattle.lent_bytes.proofs.Rests.{all_left, part_long, next_fits, next_entry, no_entry}
+use Rattle.lent_bytes.proofs.write.corner.Goals as goal
+
+abbrev four_long : (x : Float) → length (narrowed_bytes x) ≡ 4
+four_long x = bytes_long 4 (to_bits binary32 (narrowed x))

@@ -1,0 +1,16 @@
+-- The invariant: the floats that are left, put behind those that stand there, make all of them, and none of them is a NaN.
+use Prim.Native.Nat.{ℕ, ◌-◌}
+use mathlib.Core.Path.{◌≡◌, refl, ◌∙◌}
+use native.Mathlib.Omega.{arith}
+use lib.ListN.{length}
+use lib.Ieee.{Float, nan, binary64, to_bits}
+use borrow.Author.Rules.{rules}
+use Rattle.rules.specs.Bytes.{float_byte8}
+use Rattle.rules.proofs.ByteLaws.{bytes_long}
+use Rattle.lent_bytes.proofs.FloatParts.{first_is, others_are, SoFar}
+use Rattle.lent_bytes.proofs.Puts.{put_length}
+use Rattle.lent_bytes.proofs.Rests.{all_left, part_long, next_fits, next_entry, no_entry}
+use Rattle.lent_bytes.proofs.write.floats.Goals as goal
+
+abbrev eight_long : (x : Float) → length (float_byte8 x) ≡ 8
+eight_long x = bytes_long 8 (to_bits binary64 x)

@@ -1,0 +1,15 @@
+-- What has been met is what a search from row x on gives.
+use Prim.Native.Nat.{ℕ}
+use mathlib.Core.Path.{sym, ap, ◌∙◌}
+use native.Mathlib.Omega.{arith}
+use lib.ListN.{get_or, take, drop}
+use Rattle.space.specs.Numbers.{row_width}
+use Rattle.space.proofs.Indexing.{Met, met_start, met_less, met_on, met_end}
+use borrow.Author.Rules.{rules}
+use Rattle.space.proofs.chains.last_met.Given as goal
+
+abbrev pub invariant-loop-x : goal.invariant-loop-x
+invariant-loop-x l = Met l.elements l.n (take row_width (drop l.from l.words)) l.met l.x
+
+abbrev pub decreases-loop-x : goal.decreases-loop-x
+decreases-loop-x l = l.x

@@ -1,0 +1,45 @@
+-- The ends that are met so far and those that are left make up the whole; n second meetings mean that each end is met twice.
+use Prim.Native.Nat.{ℕ, ◌-◌, ◌≤◌}
+use mathlib.Core.List.{List}
+use mathlib.Core.Path.{ap, sym, ◌∙◌}
+use lib.Dec.{eqb}
+use lib.ListN.{take, replicate}
+use native.Mathlib.Omega.{arith}
+use borrow.Author.Rules.{rules}
+use Rattle.rules.specs.Limits.{desk}
+use Rattle.space.proofs.TwiceMet.{edges_long, edges_fine, TakenUp, taken_there, taken_here, taken_ends, taken_ready}
+use Rattle.space.proofs.EndsCounted.{Round, round_start, round_met, round_few, round_end}
+use Rattle.space.proofs.Meetings.{unmet_new}
+use Rattle.space.proofs.closed.each_twice_lem.Statement.{statement}
+use Rattle.space.proofs.closed.each_twice_lem.Tie as tie
+use Rattle.space.proofs.closed.each_twice.Goals as goal
+
+-- HAND
+-- the facts there
+abbrev edge : (c : tie.After-wide invariant-loop decreases-loop) → let f = c.before.before in let a = (start f.before).args in
+    TakenUp a.elements.now a.list.now a.n f.before.loop.k c.wide.result
+edge c = let f = c.before.before in record { ready = (start f.before).pre; more = f.loop-test.true; read = c.wide.ensures.value }
+
+pub loop-k-init : goal.loop-k-init
+loop-k-init c = record { bound = search rules; round = round_start c.args.elements.now (take c.args.n c.args.list.now) 1 (replicate desk.elements 0) unmet_new }
+
+pub meet_ends_in_face-twice-requires : goal.meet_ends_in_face-twice-requires
+meet_ends_in_face-twice-requires c = taken_ready (edge c)
+
+pub overflow_add-twice : goal.overflow_add-twice
+overflow_add-twice c = let few = round_few _ _ 1 c.loop-k.met c.loop-k.twice c.loop-k.k c.loop-k.invariant.round in
+    omega (arith, few, c.meet_ends_in_face-twice.ensures.most, (edge c).ready.size, c.loop-k.invariant.bound)
+
+pub loop-k-preserved : goal.loop-k-preserved
+loop-k-preserved c = let T = edge c in
+    record {
+      bound = search rules;
+      round = round_met _ _ 1 c.loop-k.met _ c.loop-k.twice c.loop-k.k c.wide.result _ c.loop-k.invariant.round (taken_there T) (taken_here T) (taken_ends T)
+          c.meet_ends_in_face-twice.ensures.count c.meet_ends_in_face-twice.ensures.words;
+    }
+
+pub returns : goal.returns
+returns c = let l = edges_long c.args.list.now c.args.n c.requires.long in
+    ap (eqb c.loop-k.twice) (sym l)
+    ∙ round_end c.args.elements.now (take c.args.n c.args.list.now) 1 c.loop-k.met c.loop-k.twice c.loop-k.k c.loop-k.invariant.round (omega (arith, l))
+    (λ j q. (edges_fine c.args.list.now c.args.n c.requires.long c.args.elements.now c.requires.low c.requires.ends j q).1)

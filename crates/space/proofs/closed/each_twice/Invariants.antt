@@ -1,0 +1,26 @@
+-- The ends that are met so far and those that are left make up the whole; n second meetings mean that each end is met twice.
+use Prim.Native.Nat.{ℕ, ◌-◌, ◌≤◌}
+use mathlib.Core.List.{List}
+use mathlib.Core.Path.{ap, sym, ◌∙◌}
+use lib.Dec.{eqb}
+use lib.ListN.{take, replicate}
+use native.Mathlib.Omega.{arith}
+use borrow.Author.Rules.{rules}
+use Rattle.rules.specs.Limits.{desk}
+use Rattle.space.proofs.TwiceMet.{edges_long, edges_fine, TakenUp, taken_there, taken_here, taken_ends, taken_ready}
+use Rattle.space.proofs.EndsCounted.{Round, round_start, round_met, round_few, round_end}
+use Rattle.space.proofs.Meetings.{unmet_new}
+use Rattle.space.proofs.closed.each_twice_lem.Statement.{statement}
+use Rattle.space.proofs.closed.each_twice_lem.Tie as tie
+use Rattle.space.proofs.closed.each_twice.Given as goal
+
+-- k of the edges are met
+pub record SoFar (es list : List ℕ) (n : ℕ) (met : List ℕ) (twice k : ℕ) : Type 0 where
+  bound : k ≤ n
+  round : Round es (take n list) 1 met twice k
+
+abbrev pub invariant-loop-k : goal.invariant-loop-k
+invariant-loop-k l = SoFar l.elements l.list l.n l.met l.twice l.k
+
+abbrev pub decreases-loop-k : goal.decreases-loop-k
+decreases-loop-k l = l.n - l.k

@@ -1,0 +1,38 @@
+-- One case for each rank; of a face, few edges are counted and more are joined.
+use Prim.Native.Nat.{ℕ, ◌≤◌, ◌<◌}
+use mathlib.Core.List.{List}
+use mathlib.Core.Path.{◌≡◌, ap, ◌∙◌}
+use native.Mathlib.Omega.{arith}
+use lib.ListN.{get_or, length, take}
+use borrow.Author.Rules.{rules}
+use Rattle.space.specs.Closed.{few}
+use Rattle.space.proofs.TwiceMet.{edges_long, closed_one, closed_few, closed_many, closed_other}
+use Rattle.space.proofs.closed.is_closed.Goals as goal
+
+few_at : {n r w d : ℕ} (l : List ℕ) → length l ≡ n → n ≤ r → r ≡ few w → w ≡ d → length l ≤ few d
+few_at {n} {r} {w} {d} l e h p q = let z : r ≡ few d = p ∙ ap few q in omega (arith, e, h, z)
+
+many_at : {n r w d : ℕ} (l : List ℕ) → length l ≡ n → r < n → r ≡ few w → w ≡ d → few d < length l
+many_at {n} {r} {w} {d} l e h p q = let z : r ≡ few d = p ∙ ap few q in omega (arith, e, h, z)
+
+pub returns-then-rank-eq1 : goal.returns-then-rank-eq1
+returns-then-rank-eq1 c = closed_one (get_or c.args.counts.now 0 0) c.args.elements.now (take c.args.n c.args.list.now) c.args.rank c.args.n (edges_long c.args.list.now c.args.n c.requires.long) c.if-rank-eq1.true
+
+pub returns-then-rank-ne2 : goal.returns-then-rank-ne2
+returns-then-rank-ne2 c = closed_other (get_or c.args.counts.now 0 0) c.args.elements.now (take c.args.n c.args.list.now) c.args.rank c.if-rank-eq1.false c.if-rank-ne2.true
+
+pub each_twice-requires : goal.each_twice-requires
+each_twice-requires c = record { elements = c.requires.elements; long = c.requires.long; size = c.requires.size; low = c.requires.low; ends = c.requires.ends c.if-rank-ne2.false }
+
+pub returns-then-n-few_edges : goal.returns-then-n-few_edges
+returns-then-n-few_edges c = let l = edges_long c.args.list.now c.args.n c.requires.long in
+    closed_few (get_or c.args.counts.now 0 0) c.args.elements.now (take c.args.n c.args.list.now) c.args.rank c.each_twice.ensures
+    (few_at (take c.args.n c.args.list.now) l c.if-n-few_edges.true c.few_edges.ensures c.wide.ensures.value) c.if-rank-ne2.false
+
+pub is_ring-requires : goal.is_ring-requires
+is_ring-requires c = record { elements = c.requires.elements; long = c.requires.long; size = c.requires.size; low = c.requires.low; ends = c.requires.ends c.if-rank-ne2.false }
+
+pub returns : goal.returns
+returns c = let l = edges_long c.args.list.now c.args.n c.requires.long in
+    closed_many (get_or c.args.counts.now 0 0) c.args.elements.now (take c.args.n c.args.list.now) c.args.rank c.is_ring.ensures
+    (many_at (take c.args.n c.args.list.now) l c.if-n-few_edges.false c.few_edges.ensures c.wide.ensures.value) c.if-rank-ne2.false

@@ -1,0 +1,94 @@
+-- The edges so far have joined paths, and none of them closed one; what the next edge answers tells the ring, or goes on.
+use Prim.Native.Nat.{ℕ, ◌+◌, ◌-◌, ◌<◌, ◌≤◌}
+use mathlib.Core.Bool.{false}
+use mathlib.Core.List.{List}
+use mathlib.Core.Path.{◌≡◌, ap, sym, ◌∙◌}
+use native.Mathlib.Omega.{arith}
+use lib.Dec.{eqb}
+use lib.ListN.{take, length, get_or, replicate}
+use borrow.Author.Rules.{rules}
+use Rattle.rules.specs.Limits.{desk}
+use Rattle.space.specs.Closed.{EndsLow, FaceReady, Stamped, joining, joined, ring_raw}
+use Rattle.space.proofs.TwiceMet.{edges_long, edges_fine, TakenUp, taken_there, taken_here, taken_ends, taken_ready}
+use Rattle.space.proofs.PathsJoined.{Paths, paths_start, paths_stamped, paths_few, paths_go}
+use Rattle.space.proofs.Meetings.{unmet_new}
+use Rattle.space.proofs.Rings.{no_edges, answers_thrice, answers_early, answers_last}
+use Rattle.space.proofs.closed.is_ring.Invariants.{SoFar}
+use Rattle.space.proofs.closed.is_ring.Goals as goal
+
+-- ---- the edge that is taken up
+
+-- the paths so far, and x as edge k of the face
+record Taken (es list : List ℕ) (n : ℕ) (paths : List ℕ) (twice k x : ℕ) : Type 0 where
+  edge : TakenUp es list n k x
+  so : SoFar es list n paths twice k
+
+module _ {es list : List ℕ} {n : ℕ} {paths : List ℕ} {twice k x : ℕ} (T : Taken es list n paths twice k x) where
+  abbrev edges : List ℕ
+  edges = take n list
+
+  abbrev ready : FaceReady es list n
+  ready = T.edge.ready
+
+  long : length edges ≡ n
+  long = edges_long list n ready.long
+
+  stamped : Stamped 1 paths
+  stamped = paths_stamped es edges 1 paths twice k T.so.paths_so
+
+  few : twice ≤ k
+  few = paths_few es edges 1 paths twice k T.so.paths_so
+
+  fine : (j : ℕ) → j < length edges → (get_or edges j 0 < desk.elements) × EndsLow es (get_or edges j 0)
+  fine = edges_fine list n ready.long es ready.low ready.ends
+
+  module _ {r : ℕ} (c : r ≡ joining 1 es paths x) where
+    thrice : r ≡ 4 → false ≡ ring_raw es edges
+    thrice four = sym (answers_thrice es edges ready.ends.rising fine 1 paths twice k T.so.paths_so x (taken_there T.edge) (taken_here T.edge) r c four)
+
+    early : r ≡ 3 → k + 1 < n → false ≡ ring_raw es edges
+    early three h =
+        sym (answers_early es edges ready.ends.rising fine 1 paths twice k T.so.paths_so x (taken_there T.edge) (taken_here T.edge) r c three
+        (let l = long in omega (arith, l, h)))
+
+    last : r ≡ 3 → n ≤ k + 1 → eqb (twice + 2) n ≡ ring_raw es edges
+    last three h =
+        ap (eqb (twice + 2)) (sym long)
+        ∙ answers_last es edges ready.ends.rising fine 1 paths twice k T.so.paths_so x (taken_there T.edge) (taken_here T.edge) r c three
+        (let l = long in let m = T.edge.more in omega (arith, l, h, m))
+
+    goes_on : r < 3 → (paths' : List ℕ) → paths' ≡ joined 1 es paths x → SoFar es list n paths' (twice + r) (k + 1)
+    goes_on small paths' q = record {
+      bound = let m = T.edge.more in omega (arith, m);
+      paths_so = paths_go es edges 1 paths twice k T.so.paths_so x (taken_there T.edge) (taken_here T.edge) (taken_ends T.edge) r paths' c small q;
+    }
+
+-- ---- the places of the function
+
+-- HAND
+-- the facts there
+abbrev taken : (c : tie.After-wide invariant-loop decreases-loop) → let f = c.before.before in let a = (start f.before).args in let at = f.before.loop in
+    Taken a.elements.now a.list.now a.n at.paths at.twice at.k c.wide.result
+taken c =
+    let f = c.before.before in
+    record {
+      edge = record { ready = (start f.before).pre; more = f.loop-test.true; read = c.wide.ensures.value };
+      so = f.before.loop.invariant;
+    }
+
+pub join_ends_in_face-met-requires : goal.join_ends_in_face-met-requires
+join_ends_in_face-met-requires c = record { edge = taken_ready (taken c).edge; stamped = stamped (taken c) }
+
+pub overflow_add-result : goal.overflow_add-result
+overflow_add-result c = let T = taken c in
+    let most = few T in
+    omega (arith, most, T.edge.ready.size, T.so.bound)
+
+pub overflow_add-twice : goal.overflow_add-twice
+overflow_add-twice c = let T = taken c in
+    let most = few T in
+    omega (arith, most, c.join_ends_in_face-met.ensures.most, T.edge.ready.size, T.so.bound)
+
+pub loop-k-preserved : goal.loop-k-preserved
+loop-k-preserved c = let small : c.join_ends_in_face-met.result < 3 = omega (arith, c.join_ends_in_face-met.ensures.most, c.if-met-eq-THRICE.false, c.if-met-eq-CLOSES.false) in
+    goes_on (taken c) c.join_ends_in_face-met.ensures.code small _ (c.join_ends_in_face-met.ensures.words small)
