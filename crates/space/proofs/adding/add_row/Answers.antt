@@ -16,7 +16,7 @@ find_row-found-requires c = record { elements = c.requires.elements; room = omeg
 pub returns-then-n-ge-ELEMENTS : goal.returns-then-n-ge-ELEMENTS
 returns-then-n-ge-ELEMENTS c = let q = row_whole c.args.elements.now c.args.row.now c.wide-n.result c.requires.row c.find_row-found.ensures in
     record {
-      added = row_full c.args.counts.now c.args.elements.now c.args.row.now c.wide-n.result c.find_row-found.result c.wide-n.ensures.value q c.enum_told-1.given.1 c.if-n-ge-ELEMENTS.true;
+      added = row_full c.args.counts.now c.args.elements.now c.args.row.now c.wide-n.result c.find_row-found.result c.wide-n.ensures.value q c.in-None.is c.if-n-ge-ELEMENTS.true;
       index = c.requires.index;
     }
 
@@ -26,14 +26,14 @@ append_row-requires c = record { counts = c.requires.counts; elements = c.requir
 pub returns-in-At : goal.returns-in-At
 returns-in-At c = let q = row_whole c.args.elements.now c.args.row.now c.wide-n.result c.requires.row c.find_row-found.ensures in
     record {
-      added = row_found c.args.counts.now c.args.elements.now c.args.row.now c.wide-n.result c.find_row-found.result c.wide-n.ensures.value q _ c.found-1.given.1;
+      added = row_found c.args.counts.now c.args.elements.now c.args.row.now c.wide-n.result c.find_row-found.result c.wide-n.ensures.value q _ c.in-At.is;
       index = c.requires.index;
     }
 
 pub returns-else-n-ge-ELEMENTS : goal.returns-else-n-ge-ELEMENTS
 returns-else-n-ge-ELEMENTS c = let q = row_whole c.args.elements.now c.args.row.now c.wide-n.result c.requires.row c.find_row-found.ensures in
     record {
-      added = row_new_lem c.args.counts.now c.args.elements.now c.args.row.now c.wide-n.result c.find_row-found.result c.wide-n.ensures.value q _ _ c.enum_told-1.given.1 (omega (arith, c.if-n-ge-ELEMENTS.false)) c.append_row.ensures.count
+      added = row_new_lem c.args.counts.now c.args.elements.now c.args.row.now c.wide-n.result c.find_row-found.result c.wide-n.ensures.value q _ _ c.in-None.is (omega (arith, c.if-n-ge-ELEMENTS.false)) c.append_row.ensures.count
           c.append_row.ensures.stored;
       index = index_count _ _ _ _ (sym (ap (λ (cs : List ℕ). get_or cs 1 0) c.append_row.ensures.count ∙ get_or-set_same c.args.counts.now 1 (c.wide-n.result + 1) 0 (omega (arith, c.requires.counts)))) c.append_row.ensures.index;
     }

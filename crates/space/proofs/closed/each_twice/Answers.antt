@@ -10,28 +10,29 @@ use Rattle.rules.specs.Limits.{desk}
 use Rattle.space.proofs.TwiceMet.{edges_long, edges_fine, TakenUp, taken_there, taken_here, taken_ends, taken_ready}
 use Rattle.space.proofs.EndsCounted.{Round, round_start, round_met, round_few, round_end}
 use Rattle.space.proofs.Meetings.{unmet_new}
-use Rattle.space.proofs.closed.each_twice_lem.Statement.{statement}
-use Rattle.space.proofs.closed.each_twice_lem.Tie as tie
 use Rattle.space.proofs.closed.each_twice.Goals as goal
-
--- HAND
--- the facts there
-abbrev edge : (c : tie.After-wide invariant-loop decreases-loop) → let f = c.before.before in let a = (start f.before).args in
-    TakenUp a.elements.now a.list.now a.n f.before.loop.k c.wide.result
-edge c = let f = c.before.before in record { ready = (start f.before).pre; more = f.loop-test.true; read = c.wide.ensures.value }
 
 pub loop-k-init : goal.loop-k-init
 loop-k-init c = record { bound = search rules; round = round_start c.args.elements.now (take c.args.n c.args.list.now) 1 (replicate desk.elements 0) unmet_new }
 
 pub meet_ends_in_face-twice-requires : goal.meet_ends_in_face-twice-requires
-meet_ends_in_face-twice-requires c = taken_ready (edge c)
+meet_ends_in_face-twice-requires c = 
+    let edge : TakenUp c.args.elements.now c.args.list.now c.args.n c.loop-k.k c.wide.result =
+    record { ready = c.requires; more = c.loop-k-test.true; read = c.wide.ensures.value } in
+    taken_ready edge
 
 pub overflow_add-twice : goal.overflow_add-twice
-overflow_add-twice c = let few = round_few _ _ 1 c.loop-k.met c.loop-k.twice c.loop-k.k c.loop-k.invariant.round in
-    omega (arith, few, c.meet_ends_in_face-twice.ensures.most, (edge c).ready.size, c.loop-k.invariant.bound)
+overflow_add-twice c = 
+    let edge : TakenUp c.args.elements.now c.args.list.now c.args.n c.loop-k.k c.wide.result =
+    record { ready = c.requires; more = c.loop-k-test.true; read = c.wide.ensures.value } in
+    let few = round_few _ _ 1 c.loop-k.met c.loop-k.twice c.loop-k.k c.loop-k.invariant.round in
+    omega (arith, few, c.meet_ends_in_face-twice.ensures.most, edge.ready.size, c.loop-k.invariant.bound)
 
 pub loop-k-preserved : goal.loop-k-preserved
-loop-k-preserved c = let T = edge c in
+loop-k-preserved c = 
+    let edge : TakenUp c.args.elements.now c.args.list.now c.args.n c.loop-k.k c.wide.result =
+    record { ready = c.requires; more = c.loop-k-test.true; read = c.wide.ensures.value } in
+    let T = edge in
     record {
       bound = search rules;
       round = round_met _ _ 1 c.loop-k.met _ c.loop-k.twice c.loop-k.k c.wide.result _ c.loop-k.invariant.round (taken_there T) (taken_here T) (taken_ends T)

@@ -10,14 +10,12 @@ use Rattle.rules.specs.Limits.{desk}
 use Rattle.space.proofs.TwiceMet.{edges_long, edges_fine, TakenUp, taken_there, taken_here, taken_ends, taken_ready}
 use Rattle.space.proofs.EndsCounted.{Round, round_start, round_met, round_few, round_end}
 use Rattle.space.proofs.Meetings.{unmet_new}
-use Rattle.space.proofs.closed.each_twice_lem.Statement.{statement}
-use Rattle.space.proofs.closed.each_twice_lem.Tie as tie
 use Rattle.space.proofs.closed.each_twice.Given as goal
 
 -- k of the edges are met
 pub record SoFar (es list : List ℕ) (n : ℕ) (met : List ℕ) (twice k : ℕ) : Type 0 where
-  bound : k ≤ n
-  round : Round es (take n list) 1 met twice k
+  pub bound : k ≤ n
+  pub round : Round es (take n list) 1 met twice k
 
 abbrev pub invariant-loop-k : goal.invariant-loop-k
 invariant-loop-k l = SoFar l.elements l.list l.n l.met l.twice l.k

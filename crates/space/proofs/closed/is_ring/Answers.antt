@@ -65,30 +65,79 @@ module _ {es list : List ℕ} {n : ℕ} {paths : List ℕ} {twice k x : ℕ} (T 
 
 -- ---- the places of the function
 
--- HAND
--- the facts there
-abbrev taken : (c : tie.After-wide invariant-loop decreases-loop) → let f = c.before.before in let a = (start f.before).args in let at = f.before.loop in
-    Taken a.elements.now a.list.now a.n at.paths at.twice at.k c.wide.result
-taken c =
-    let f = c.before.before in
-    record {
-      edge = record { ready = (start f.before).pre; more = f.loop-test.true; read = c.wide.ensures.value };
-      so = f.before.loop.invariant;
-    }
+pub loop-k-init : goal.loop-k-init
+loop-k-init c = record { bound = search rules; paths_so = paths_start c.args.elements.now (take c.args.n c.args.list.now) 1 (replicate desk.elements 0) unmet_new }
 
 pub join_ends_in_face-met-requires : goal.join_ends_in_face-met-requires
-join_ends_in_face-met-requires c = record { edge = taken_ready (taken c).edge; stamped = stamped (taken c) }
+join_ends_in_face-met-requires c = 
+    let taken : Taken c.args.elements.now c.args.list.now c.args.n c.loop-k.paths c.loop-k.twice c.loop-k.k c.wide.result =
+    record {
+      edge = record { ready = c.requires; more = c.loop-k-test.true; read = c.wide.ensures.value };
+      so = c.loop-k.invariant;
+    } in
+    record { edge = taken_ready taken.edge; stamped = stamped taken }
+
+pub returns-then-met-eq-THRICE : goal.returns-then-met-eq-THRICE
+returns-then-met-eq-THRICE c = 
+    let taken : Taken c.args.elements.now c.args.list.now c.args.n c.loop-k.paths c.loop-k.twice c.loop-k.k c.wide.result =
+    record {
+      edge = record { ready = c.requires; more = c.loop-k-test.true; read = c.wide.ensures.value };
+      so = c.loop-k.invariant;
+    } in
+    thrice taken c.join_ends_in_face-met.ensures.code c.if-met-eq-THRICE.true
+
+pub returns-then-k-n : goal.returns-then-k-n
+returns-then-k-n c = 
+    let taken : Taken c.args.elements.now c.args.list.now c.args.n c.loop-k.paths c.loop-k.twice c.loop-k.k c.wide.result =
+    record {
+      edge = record { ready = c.requires; more = c.loop-k-test.true; read = c.wide.ensures.value };
+      so = c.loop-k.invariant;
+    } in
+    early taken c.join_ends_in_face-met.ensures.code c.if-met-eq-CLOSES.true c.if-k-n.true
 
 pub overflow_add-result : goal.overflow_add-result
-overflow_add-result c = let T = taken c in
+overflow_add-result c = 
+    let taken : Taken c.args.elements.now c.args.list.now c.args.n c.loop-k.paths c.loop-k.twice c.loop-k.k c.wide.result =
+    record {
+      edge = record { ready = c.requires; more = c.loop-k-test.true; read = c.wide.ensures.value };
+      so = c.loop-k.invariant;
+    } in
+    let T = taken in
     let most = few T in
     omega (arith, most, T.edge.ready.size, T.so.bound)
 
+pub returns-then-met-eq-CLOSES : goal.returns-then-met-eq-CLOSES
+returns-then-met-eq-CLOSES c = 
+    let taken : Taken c.args.elements.now c.args.list.now c.args.n c.loop-k.paths c.loop-k.twice c.loop-k.k c.wide.result =
+    record {
+      edge = record { ready = c.requires; more = c.loop-k-test.true; read = c.wide.ensures.value };
+      so = c.loop-k.invariant;
+    } in
+    last taken c.join_ends_in_face-met.ensures.code c.if-met-eq-CLOSES.true c.if-k-n.false
+
 pub overflow_add-twice : goal.overflow_add-twice
-overflow_add-twice c = let T = taken c in
+overflow_add-twice c = 
+    let taken : Taken c.args.elements.now c.args.list.now c.args.n c.loop-k.paths c.loop-k.twice c.loop-k.k c.wide.result =
+    record {
+      edge = record { ready = c.requires; more = c.loop-k-test.true; read = c.wide.ensures.value };
+      so = c.loop-k.invariant;
+    } in
+    let T = taken in
     let most = few T in
     omega (arith, most, c.join_ends_in_face-met.ensures.most, T.edge.ready.size, T.so.bound)
 
 pub loop-k-preserved : goal.loop-k-preserved
-loop-k-preserved c = let small : c.join_ends_in_face-met.result < 3 = omega (arith, c.join_ends_in_face-met.ensures.most, c.if-met-eq-THRICE.false, c.if-met-eq-CLOSES.false) in
-    goes_on (taken c) c.join_ends_in_face-met.ensures.code small _ (c.join_ends_in_face-met.ensures.words small)
+loop-k-preserved c = 
+    let taken : Taken c.args.elements.now c.args.list.now c.args.n c.loop-k.paths c.loop-k.twice c.loop-k.k c.wide.result =
+    record {
+      edge = record { ready = c.requires; more = c.loop-k-test.true; read = c.wide.ensures.value };
+      so = c.loop-k.invariant;
+    } in
+    let small : c.join_ends_in_face-met.result < 3 = omega (arith, c.join_ends_in_face-met.ensures.most, c.if-met-eq-THRICE.false, c.if-met-eq-CLOSES.false) in
+    goes_on taken c.join_ends_in_face-met.ensures.code small _ (c.join_ends_in_face-met.ensures.words small)
+
+pub returns : goal.returns
+returns c = let l = edges_long c.args.list.now c.args.n c.requires.long in
+    no_edges c.args.elements.now (take c.args.n c.args.list.now) c.requires.ends.rising (edges_fine c.args.list.now c.args.n c.requires.long c.args.elements.now c.requires.low c.requires.ends)
+    1 c.loop-k.paths c.loop-k.twice c.loop-k.k c.loop-k.invariant.paths_so c.args.n l
+    (let z : c.loop-k.k ≡ length (take c.args.n c.args.list.now) = omega (arith, l, c.loop-k.invariant.bound, c.loop-k-test.false) in z)

@@ -17,8 +17,8 @@ use Rattle.space.proofs.closed.is_ring.Given as goal
 
 -- k of the edges have joined paths
 pub record SoFar (es list : List ℕ) (n : ℕ) (paths : List ℕ) (twice k : ℕ) : Type 0 where
-  bound : k ≤ n
-  paths_so : Paths es (take n list) 1 paths twice k
+  pub bound : k ≤ n
+  pub paths_so : Paths es (take n list) 1 paths twice k
 
 abbrev pub invariant-loop-k : goal.invariant-loop-k
 invariant-loop-k l = SoFar l.elements l.list l.n l.paths l.twice l.k

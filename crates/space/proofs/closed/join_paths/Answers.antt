@@ -7,34 +7,52 @@ use Rattle.space.proofs.Across.{Across, joins_none, joins_two, first_low, second
 use borrow.Author.Rules.{rules}
 use Rattle.space.proofs.closed.join_paths.Goals as goal
 
--- HAND
-abbrev across : (c : tie.After-joins) → let a = (start c).args in
-    Across a.stamp a.paths.now a.a a.b c.before.before.before.far-end.result c.before.far-end2.result c.joins.result
-across c = record {
-  first = c.before.before.before.far-end.ensures.value;
-  second = c.before.far-end2.ensures.value;
-  code = c.joins.ensures.value;
-  few = c.joins.ensures.bound;
-}
-
--- HAND
--- where it joins two paths, their other ends are corners
-abbrev joined_low : (c : tie.Else1) → (c.before.before.before.before.far-end.result < inside) × (c.before.before.far-end2.result < inside)
-joined_low c =
-    let E = across c.before in
-    let l = c.if1.false in
-    let x = c.before.before.before.before.far-end.ensures.bound in
-    let y = c.before.before.far-end2.ensures.bound in
-    (first_low E (omega (arith, l)) x, second_low E (omega (arith, l)) x y)
-
 pub returns-then-met-ge-CLOSES : goal.returns-then-met-ge-CLOSES
-returns-then-met-ge-CLOSES c = joins_none (across c) c.if-met-ge-CLOSES.true
+returns-then-met-ge-CLOSES c = 
+    let across : Across c.args.stamp c.args.paths.now c.args.a c.args.b c.far_end-x.result c.far_end-y.result c.joins-met.result =
+    record {
+  first = c.far_end-x.ensures.value;
+  second = c.far_end-y.ensures.value;
+  code = c.joins-met.ensures.value;
+  few = c.joins-met.ensures.bound;
+} in
+    joins_none across c.if-met-ge-CLOSES.true
 
 pub bounds-paths-x : goal.bounds-paths-x
-bounds-paths-x c = let x = (joined_low c).0 in search (rules, x)
+bounds-paths-x c = 
+    let across : Across c.args.stamp c.args.paths.now c.args.a c.args.b c.far_end-x.result c.far_end-y.result c.joins-met.result =
+    record {
+  first = c.far_end-x.ensures.value;
+  second = c.far_end-y.ensures.value;
+  code = c.joins-met.ensures.value;
+  few = c.joins-met.ensures.bound;
+} in
+    let joined_low : (c.far_end-x.result < inside) × (c.far_end-y.result < inside) =
+    let E = across in
+    (first_low E (omega (arith, c.if-met-ge-CLOSES.false)) c.far_end-x.ensures.bound, second_low E (omega (arith, c.if-met-ge-CLOSES.false)) c.far_end-x.ensures.bound c.far_end-y.ensures.bound) in
+    let x = joined_low.0 in search (rules, x)
 
 pub bounds-paths-y : goal.bounds-paths-y
-bounds-paths-y c = let y = (joined_low c).1 in search (rules, y)
+bounds-paths-y c = 
+    let across : Across c.args.stamp c.args.paths.now c.args.a c.args.b c.far_end-x.result c.far_end-y.result c.joins-met.result =
+    record {
+  first = c.far_end-x.ensures.value;
+  second = c.far_end-y.ensures.value;
+  code = c.joins-met.ensures.value;
+  few = c.joins-met.ensures.bound;
+} in
+    let joined_low : (c.far_end-x.result < inside) × (c.far_end-y.result < inside) =
+    let E = across in
+    (first_low E (omega (arith, c.if-met-ge-CLOSES.false)) c.far_end-x.ensures.bound, second_low E (omega (arith, c.if-met-ge-CLOSES.false)) c.far_end-x.ensures.bound c.far_end-y.ensures.bound) in
+    let y = joined_low.1 in search (rules, y)
 
 pub returns : goal.returns
-returns c = joins_two (across c) (omega (arith, c.if-met-ge-CLOSES.false)) _ refl
+returns c = 
+    let across : Across c.args.stamp c.args.paths.now c.args.a c.args.b c.far_end-x.result c.far_end-y.result c.joins-met.result =
+    record {
+  first = c.far_end-x.ensures.value;
+  second = c.far_end-y.ensures.value;
+  code = c.joins-met.ensures.value;
+  few = c.joins-met.ensures.bound;
+} in
+    joins_two across (omega (arith, c.if-met-ge-CLOSES.false)) _ refl

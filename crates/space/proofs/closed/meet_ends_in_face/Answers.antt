@@ -7,22 +7,18 @@ use Rattle.space.specs.Closed.{EndsMet}
 use Rattle.space.proofs.EndsCounted.{ends_met}
 use Rattle.space.proofs.closed.meet_ends_in_face.Goals as goal
 
--- HAND
--- what the two meetings make up
-abbrev both : (c : tie.After-meet-in-face2) → let a = (start (first (met-first c))).args in let one = c.before.before.meet-in-face in
-    EndsMet 1 a.elements.now a.met.now a.e.0 (one.result + c.meet-in-face2.result) c.meet-in-face2.new.0
-both c =
-    let r = met-first c in
-    let w = first r in
-    let a = (start w).args in
-    let one = c.before.before.meet-in-face in
-    let two = c.meet-in-face2 in
-    ends_met 1 a.elements.now a.met.now one.new.0 two.new.0 a.e.0 w.wide.result r.wide2.result one.result two.result
-    (w.wide.ensures.value ∙ w.before.boundary-at.ensures) (r.wide2.ensures.value ∙ r.before.boundary-at2.ensures)
-    one.ensures two.ensures
-
 pub overflow_add-result : goal.overflow_add-result
-overflow_add-result c = let few = (both c).most in omega arith
+overflow_add-result c = 
+    let both : EndsMet 1 c.args.elements.now c.args.met.now c.args.e.0 (c.meet_in_face-first.result + c.meet_in_face-second.result) c.meet_in_face-second.new.met =
+    ends_met 1 c.args.elements.now c.args.met.now c.meet_in_face-first.new.met c.meet_in_face-second.new.met c.args.e.0 c.wide-a.result c.wide-b.result c.meet_in_face-first.result c.meet_in_face-second.result
+    (c.wide-a.ensures.value ∙ c.boundary_at.ensures) (c.wide-b.ensures.value ∙ c.boundary_at-2.ensures)
+    c.meet_in_face-first.ensures c.meet_in_face-second.ensures in
+    let few = both.most in omega arith
 
 pub returns : goal.returns
-returns c = both c
+returns c = 
+    let both : EndsMet 1 c.args.elements.now c.args.met.now c.args.e.0 (c.meet_in_face-first.result + c.meet_in_face-second.result) c.meet_in_face-second.new.met =
+    ends_met 1 c.args.elements.now c.args.met.now c.meet_in_face-first.new.met c.meet_in_face-second.new.met c.args.e.0 c.wide-a.result c.wide-b.result c.meet_in_face-first.result c.meet_in_face-second.result
+    (c.wide-a.ensures.value ∙ c.boundary_at.ensures) (c.wide-b.ensures.value ∙ c.boundary_at-2.ensures)
+    c.meet_in_face-first.ensures c.meet_in_face-second.ensures in
+    both

@@ -26,7 +26,7 @@ pub returns-in-Refused : goal.returns-in-Refused
 returns-in-Refused c = let l = taken c.args.list.now c.args.n c.requires.words c.requires.size in
     let q = sym c.is_closed.ensures ∙ c.if-not-is_closed.false in
     record {
-      added = poly_refused _ _ _ _ _ _ c.args.n l c.if-n-rank.false c.if-n-gt-BOUNDARY.false q _ _ _ _ c.polytope_row-row.ensures c.add_row-placed.ensures.added _ c.placed-1.given.1;
+      added = poly_refused _ _ _ _ _ _ c.args.n l c.if-n-rank.false c.if-n-gt-BOUNDARY.false q _ _ _ _ c.polytope_row-row.ensures c.add_row-placed.ensures.added _ c.in-Refused.is;
       index = c.add_row-placed.ensures.index;
     }
 
@@ -34,6 +34,6 @@ pub returns-in-At : goal.returns-in-At
 returns-in-At c = let l = taken c.args.list.now c.args.n c.requires.words c.requires.size in
     let q = sym c.is_closed.ensures ∙ c.if-not-is_closed.false in
     record {
-      added = poly_made _ _ _ _ _ _ c.args.n l c.if-n-rank.false c.if-n-gt-BOUNDARY.false q _ _ _ _ c.polytope_row-row.ensures c.add_row-placed.ensures.added _ c.placed-in-At-1.given.1;
+      added = poly_made _ _ _ _ _ _ c.args.n l c.if-n-rank.false c.if-n-gt-BOUNDARY.false q _ _ _ _ c.polytope_row-row.ensures c.add_row-placed.ensures.added _ c.in-At.is;
       index = c.add_row-placed.ensures.index;
     }

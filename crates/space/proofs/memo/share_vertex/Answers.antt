@@ -10,13 +10,13 @@ use borrow.Author.Rules.{rules}
 use Rattle.space.proofs.memo.share_vertex.Goals as goal
 
 pub corner_row-row-requires : goal.corner_row-row-requires
-corner_row-row-requires c = in_room_lem _ _ c.m-1.given.1 c.requires.found
+corner_row-row-requires c = in_room_lem _ _ c.in-At.is c.requires.found
 
 pub add_row-requires : goal.add_row-requires
 add_row-requires c = record { counts = c.requires.counts; elements = c.requires.elements; room = c.requires.room; row = search rules; index = c.requires.index }
 
 pub returns-then-n-ge-VERTICES : goal.returns-then-n-ge-VERTICES
-returns-then-n-ge-VERTICES c = record { shared = shared_full _ c.wide-n.ensures.value c.enum_told-1.given.1 c.if-n-ge-VERTICES.true; index = c.requires.index }
+returns-then-n-ge-VERTICES c = record { shared = shared_full _ c.wide-n.ensures.value c.in-None.is c.if-n-ge-VERTICES.true; index = c.requires.index }
 
 pub add_row-requires-in-None : goal.add_row-requires-in-None
 add_row-requires-in-None c = let kept = get_or-set_other c.args.counts.now 2 1 (c.wide-n.result + 1) 0 (λ z. omega (arith, z)) in
@@ -29,13 +29,10 @@ add_row-requires-in-None c = let kept = get_or-set_other c.args.counts.now 2 1 (
     }
 
 pub returns-in-At : goal.returns-in-At
-returns-in-At c = record { shared = shared_old _ c.m-1.given.1 c.corner_row-row.ensures c.add_row.ensures.added; index = c.add_row.ensures.index }
-
-pub shape_of-counts-else-n-ge-VERTICES : goal.shape_of-counts-else-n-ge-VERTICES
-shape_of-counts-else-n-ge-VERTICES c = c.add_row-in-None.auto.0 ∙ simp length-set
+returns-in-At c = record { shared = shared_old _ c.in-At.is c.corner_row-row.ensures c.add_row.ensures.added; index = c.add_row.ensures.index }
 
 pub returns-else-n-ge-VERTICES : goal.returns-else-n-ge-VERTICES
 returns-else-n-ge-VERTICES c = record {
-      shared = shared_new _ c.wide-n.ensures.value c.enum_told-1.given.1 c.if-n-ge-VERTICES.false c.put_point.ensures c.corner_row-row-in-None.ensures c.add_row-in-None.ensures.added;
+      shared = shared_new _ c.wide-n.ensures.value c.in-None.is c.if-n-ge-VERTICES.false c.put_point.ensures c.corner_row-row-in-None.ensures c.add_row-in-None.ensures.added;
       index = c.add_row-in-None.ensures.index;
     }
