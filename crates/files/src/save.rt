@@ -40,8 +40,8 @@ fn file_size(counts: &[u16], elements: &[u16]) -> usize
 
 // All of it, where the room is long enough.
 fn table(counts: &[u16], points: &[f64], planes: &[f64], elements: &[u16], file: &mut [u8]) -> usize
-    requires elements_value { sound_memory desk (memory_of counts.now points.now planes.now elements.now) ≡ true }
-    requires elements_in_bounds { length (file_of (decode desk (memory_of counts.now points.now planes.now elements.now))) ≤ length file.old }
+    requires is_sound { sound_memory desk (memory_of counts.now points.now planes.now elements.now) ≡ true }
+    requires fits_room { length (file_of (decode desk (memory_of counts.now points.now planes.now elements.now))) ≤ length file.old }
     ensures { Put file.old 0 (file_of (decode desk (memory_of counts.now points.now planes.now elements.now))) result file.new }
 {
     let d = wide(counts[0]);

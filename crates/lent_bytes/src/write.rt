@@ -34,7 +34,7 @@ pub fn number(k: usize, n: u64, room: &mut [u8], at: usize) -> usize
 // The words from one index up to another, in k bytes each.
 pub fn numbers(k: usize, words: &[u16], from: usize, to: usize, room: &mut [u8], at: usize) -> usize
     requires part { Part words.now from to }
-    requires k_in_bounds { at + (to - from) * k ≤ length room.old }
+    requires fits_room { at + (to - from) * k ≤ length room.old }
     ensures { Put room.old at (number_bytes k (drop from (take to words.now))) result room.new }
 {
     let mut end = at;
@@ -46,8 +46,8 @@ pub fn numbers(k: usize, words: &[u16], from: usize, to: usize, room: &mut [u8],
 
 // No NaN: its bits are open.
 pub fn float(x: f64, room: &mut [u8], at: usize) -> usize
-    requires x_value { is_nan x ≡ false }
-    requires at_in_bounds { at + 8 ≤ length room.old }
+    requires is_number { is_nan x ≡ false }
+    requires fits_room { at + 8 ≤ length room.old }
     ensures { Put room.old at (float_byte8 x) result room.new }
 {
     number(8, f64::to_bits(x), room, at)
@@ -56,8 +56,8 @@ pub fn float(x: f64, room: &mut [u8], at: usize) -> usize
 // The floats from one index up to another, none of them a NaN.
 pub fn floats(list: &[f64], from: usize, to: usize, room: &mut [u8], at: usize) -> usize
     requires part { Part list.now from to }
-    requires list_value { all (λ x. not (is_nan x)) (drop from (take to list.now)) ≡ true }
-    requires from_in_bounds { at + (to - from) * 8 ≤ length room.old }
+    requires are_numbers { all (λ x. not (is_nan x)) (drop from (take to list.now)) ≡ true }
+    requires fits_room { at + (to - from) * 8 ≤ length room.old }
     ensures { Put room.old at (float_bytes (drop from (take to list.now))) result room.new }
 {
     let mut end = at;
@@ -69,8 +69,8 @@ pub fn floats(list: &[f64], from: usize, to: usize, room: &mut [u8], at: usize) 
 
 // The same in 4 bytes, narrowed to the nearest float of 32 bits.
 pub fn narrowed(x: f64, room: &mut [u8], at: usize) -> usize
-    requires x_value { is_nan x ≡ false }
-    requires at_in_bounds { at + 4 ≤ length room.old }
+    requires is_number { is_nan x ≡ false }
+    requires fits_room { at + 4 ≤ length room.old }
     ensures { Put room.old at (narrowed_bytes x) result room.new }
 {
     number(4, narrowed_bits(x), room, at)
@@ -79,8 +79,8 @@ pub fn narrowed(x: f64, room: &mut [u8], at: usize) -> usize
 // The coordinates of a point, from one index up to another.
 pub fn corner(list: &[f64], from: usize, to: usize, room: &mut [u8], at: usize) -> usize
     requires part { Part list.now from to }
-    requires list_value { all (λ x. not (is_nan x)) (drop from (take to list.now)) ≡ true }
-    requires from_in_bounds { at + (to - from) * 4 ≤ length room.old }
+    requires are_numbers { all (λ x. not (is_nan x)) (drop from (take to list.now)) ≡ true }
+    requires fits_room { at + (to - from) * 4 ≤ length room.old }
     ensures { Put room.old at (corner_bytes (drop from (take to list.now))) result room.new }
 {
     let mut end = at;

@@ -4,9 +4,6 @@ use borrow.Author.Rules.{rules}
 use Rattle.lent_bytes.proofs.Numbers.{one_is}
 use Rattle.lent_bytes.proofs.read.one.Goals as goal
 
-pub overflow_cast-result : goal.overflow_cast-result
-overflow_cast-result c = omega (arith, c.shared_slice_known-1.given c.args.at)
-
 pub returns : goal.returns
 returns c = record {
       value = one_is c.args.bytes.now c.args.at (search rules);

@@ -14,3 +14,17 @@ use Rattle.lent_bytes.proofs.write.corner.Goals as goal
 
 abbrev four_long : (x : Float) → length (narrowed_bytes x) ≡ 4
 four_long x = bytes_long 4 (to_bits binary32 (narrowed x))
+
+pub loop-i-init : goal.loop-i-init
+loop-i-init c = record { within = c.requires.part.rising; numbers = c.requires.are_numbers; long = refl; rest = all_left _ _ _ }
+
+pub loop-i-preserved : goal.loop-i-preserved
+loop-i-preserved c = record {
+      within = search rules;
+      numbers = others_are c.args.list.now c.loop-i.i c.args.to (search rules) c.requires.part.within c.loop-i.invariant.numbers;
+      long = put_length c.narrowed-end.ensures ∙ c.loop-i.invariant.long;
+      rest = next_entry narrowed_bytes c.args.list.now nan c.loop-i.i c.args.to c.requires.part.within c.loop-i.invariant.rest (search rules) c.narrowed-end.ensures;
+    }
+
+pub returns : goal.returns
+returns c = no_entry narrowed_bytes c.args.list.now nan c.loop-i.i c.args.to c.requires.part.within c.loop-i.invariant.rest (search rules)

@@ -14,3 +14,17 @@ use Rattle.lent_bytes.proofs.write.floats.Goals as goal
 
 abbrev eight_long : (x : Float) → length (float_byte8 x) ≡ 8
 eight_long x = bytes_long 8 (to_bits binary64 x)
+
+pub loop-i-init : goal.loop-i-init
+loop-i-init c = record { within = c.requires.part.rising; numbers = c.requires.are_numbers; long = refl; rest = all_left _ _ _ }
+
+pub loop-i-preserved : goal.loop-i-preserved
+loop-i-preserved c = record {
+      within = search rules;
+      numbers = others_are c.args.list.now c.loop-i.i c.args.to (search rules) c.requires.part.within c.loop-i.invariant.numbers;
+      long = put_length c.float-end.ensures ∙ c.loop-i.invariant.long;
+      rest = next_entry float_byte8 c.args.list.now nan c.loop-i.i c.args.to c.requires.part.within c.loop-i.invariant.rest (search rules) c.float-end.ensures;
+    }
+
+pub returns : goal.returns
+returns c = no_entry float_byte8 c.args.list.now nan c.loop-i.i c.args.to c.requires.part.within c.loop-i.invariant.rest (search rules)

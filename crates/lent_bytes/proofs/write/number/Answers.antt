@@ -12,5 +12,12 @@ use Rattle.lent_bytes.proofs.write.number.Goals as goal
 pub loop-i-init : goal.loop-i-init
 loop-i-init c = record { within = search rules; long = refl; rest = lows_left _ _ c.args.k c.args.n }
 
+pub loop-i-preserved : goal.loop-i-preserved
+loop-i-preserved c = record {
+      within = search rules;
+      long = simp length-set (omega arith);
+      rest = next_low c.args.k c.loop-i.i c.loop-i.left c.loop-i.invariant.rest (search rules);
+    }
+
 pub returns : goal.returns
-returns c = let l = c.loop-i in no_low c.args.k l.i l.left l.invariant.rest (omega arith)
+returns c = no_low c.args.k c.loop-i.i c.loop-i.left c.loop-i.invariant.rest (omega arith)

@@ -20,4 +20,4 @@ loop-i-preserved c = record {
     }
 
 pub returns : goal.returns
-returns c = let l = c.loop-i in no_byte c.args.bytes.now l.i l.invariant.rest (omega arith)
+returns c = no_byte c.args.bytes.now c.loop-i.i c.loop-i.invariant.rest (omega arith)

@@ -1,0 +1,20 @@
+-- The invariant: a power of 3 for the axes so far.
+use mathlib.Core.Path.{◌≡◌, refl, sym, ap, ◌∙◌}
+use Prim.Native.Nat.{ℕ, ◌≤◌, ◌-◌, ◌*◌, ◌^◌}
+use native.Mathlib.Omega.{arith}
+use native.Mathlib.Nat.{pow-suc}
+use native.Mathlib.Numerals.{add-one}
+use Rattle.cube.proofs.CubeRows.{power_low}
+use borrow.Author.Rules.{rules}
+use Rattle.cube.proofs.cube_size.Given as goal
+
+pub record Grown (d size axis : ℕ) : Type 0 where
+  pub so_far : axis ≤ d
+  pub axes : d ≤ 4
+  pub power : size ≡ 3 ^ axis
+
+abbrev pub invariant-loop-axis : goal.invariant-loop-axis
+invariant-loop-axis l = Grown l.d l.size l.axis
+
+abbrev pub decreases-loop-axis : goal.decreases-loop-axis
+decreases-loop-axis l = l.d - l.axis

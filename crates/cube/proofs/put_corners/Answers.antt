@@ -1,0 +1,20 @@
+-- The invariant: the points of the elements so far.
+use Prim.Native.Nat.{◌-◌}
+use native.Mathlib.Omega.{arith}
+use borrow.Author.Rules.{rules}
+use Rattle.rules.specs.Cube.{is_vertex}
+use Rattle.cube.specs.Writing.{cube_points}
+use Rattle.cube.proofs.Written.{Written, begun, in_cube_lem, one_more_lem, complete}
+use Rattle.cube.proofs.put_corners.Goals as goal
+
+pub loop-e-init : goal.loop-e-init
+loop-e-init c = begun c.cube_size-size.ensures (search rules) (search rules) c.requires.clear
+
+pub put_corner-v-requires : goal.put_corner-v-requires
+put_corner-v-requires c = record { in_cube = in_cube_lem c.loop-e.invariant (omega arith); long = c.loop-e.invariant.kept; count = c.loop-e.invariant.count }
+
+pub loop-e-preserved : goal.loop-e-preserved
+loop-e-preserved c = one_more_lem c.loop-e.invariant (omega arith) (search rules) c.put_corner-v.ensures.count (c.put_corner-v.ensures.points c.loop-e.invariant.there)
+
+pub returns : goal.returns
+returns c = let all = complete c.loop-e.invariant (omega arith) in record { count = all.0; points = all.1 }

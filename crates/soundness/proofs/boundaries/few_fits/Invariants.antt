@@ -1,0 +1,27 @@
+-- The numbers that are left fit exactly when all do, until one does not; the ends of those before are met.
+use Prim.Native.Nat.{ℕ, ◌+◌, ◌-◌}
+use mathlib.Core.Bool.{true, false≢true}
+use mathlib.Core.List.{List}
+use mathlib.Core.Path.{◌≡◌, sym, subst, ◌∙◌}
+use native.Mathlib.Omega.{arith}
+use lib.ListN.{drop, take}
+use borrow.Author.Rules.{rules}
+use Rattle.rules.specs.Limits.{desk}
+use Rattle.rules.proofs.Laws.{not_true, not_false}
+use Rattle.space.proofs.EndsCounted.{Round, round_start, round_few, round_out}
+use Rattle.soundness.specs.Known.{known_rows}
+use Rattle.soundness.specs.Words.{number_fits, stamp_of}
+use Rattle.soundness.proofs.EdgesRead.{Numbers, NumberRead, numbers_start, numbers_end, read_no, read_ends, read_edge, read_on}
+use Rattle.soundness.proofs.FaceLoops.{few_go, few_end, unmet_above}
+use Rattle.soundness.proofs.boundaries.few_fits.Given as goal
+
+-- up to place i the numbers fit, and the ends of their edges are met
+pub record SoFar (es ws : List ℕ) (from to e : ℕ) (met : List ℕ) (stamp low twice i : ℕ) : Type 0 where
+  pub numbers : Numbers es ws from to e stamp low i
+  pub round : Round es (drop from (take to ws)) (stamp_of e) met twice (i - from)
+
+abbrev pub invariant-loop-i : goal.invariant-loop-i
+invariant-loop-i l = SoFar (known_rows l.earlier l.spacing) l.words l.from l.to l.e.0 l.met l.stamp l.low l.twice l.i
+
+abbrev pub decreases-loop-i : goal.decreases-loop-i
+decreases-loop-i l = l.to - l.i

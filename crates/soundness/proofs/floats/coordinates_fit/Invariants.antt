@@ -1,0 +1,23 @@
+-- The coordinates that are left fit exactly when all do, until one does not.
+use Prim.Native.Nat.{ℕ, ◌-◌, ◌≤◌}
+use mathlib.Core.List.{List}
+use mathlib.Core.Path.{◌≡◌, refl, sym, ◌∙◌}
+use lib.Ieee.{Float, of_bits, nan}
+use lib.ListN.{drop, take}
+use Rattle.rules.specs.Floats.{within, farthest}
+use Rattle.rules.specs.Lists.{all}
+use Rattle.rules.proofs.Indexed.{all_front_no, all_front_go, all_front_end}
+use Rattle.rules.proofs.Laws.{not_true, not_false}
+use borrow.Author.Rules.{rules}
+use Rattle.soundness.proofs.floats.coordinates_fit.Given as goal
+
+-- from place i on they fit exactly when all do
+pub record SoFar (list : List Float) (from to i : ℕ) : Type 0 where
+  pub bound : i ≤ to
+  pub rest : all (within farthest) (drop from (take to list)) ≡ all (within farthest) (drop i (take to list))
+
+abbrev pub invariant-loop-i : goal.invariant-loop-i
+invariant-loop-i l = SoFar l.list l.from l.to l.i
+
+abbrev pub decreases-loop-i : goal.decreases-loop-i
+decreases-loop-i l = l.to - l.i

@@ -1,0 +1,17 @@
+-- The mask is right up to the entry that is written next.
+use Prim.Native.Nat.{ℕ, ◌-◌, ◌≤◌}
+use mathlib.Core.List.{List}
+use mathlib.Core.Path.{◌≡◌}
+use lib.ListN.{length}
+use Rattle.soundness.proofs.PastLoops.{MaskTo, mask_start, mask_go}
+use borrow.Author.Rules.{rules}
+use Rattle.soundness.proofs.row.past_mask.Goals as goal
+
+pub loop-k-init : goal.loop-k-init
+loop-k-init c = record { most = search rules; least = search rules; long = search rules; so_far = mask_start }
+
+pub loop-k-preserved : goal.loop-k-preserved
+loop-k-preserved c = record { most = search rules; least = search rules; long = search rules; so_far = mask_go c.loop-k.k c.loop-k.past c.loop-k.invariant.least (search rules) c.loop-k.invariant.so_far }
+
+pub returns : goal.returns
+returns c = λ j h. c.loop-k.invariant.so_far j (search rules)
