@@ -13,22 +13,41 @@ use Rattle.soundness.proofs.AskedOnce.{kind_asked, asked_unused, asked_not_unit,
 use borrow.Author.Rules.{rules}
 use Rattle.soundness.proofs.asked.sound_asked.Goals as goal
 
--- HAND
-by_kind : (c : tie.After-distance-kind) {k : DistanceKind} → c.distance-kind.result ≡ k
-    → let a = (start (used c.before.before).before).args in kind_asked k ≡ asked_of (get_or a.counts.now 0 0) (get_or a.counts.now 1 0) a.divider a.root.0
-by_kind c q =
-    let n = c.before.before in
-    let b = start (used n).before in
-    asked_kind _ _ _ b.args.divider (four b) (is_used (used n)) _ (unit_told n ∙ not-false _ c.before.if2.false) (sym q ∙ c.distance-kind.ensures)
+-- a normal by value has four components
+pub returns-then-not-in_use : goal.returns-then-not-in_use
+returns-then-not-in_use c = asked_unused _ _ _ c.args.divider (search rules) (sym c.in_use.ensures ∙ c.if-not-in_use.true)
+
+pub returns-then-not-is_unit : goal.returns-then-not-is_unit
+returns-then-not-is_unit c =
+    let used : ltb c.args.root.0 (get_or c.args.counts.now 1 0) ≡ true = sym c.in_use.ensures ∙ c.if-not-in_use.false in
+    let told : unit_normal (get_or c.args.counts.now 0 0) c.args.divider.normal ≡ c.is_unit.result =
+    ap (λ (k : ℕ). unit_normal k c.args.divider.normal) (sym c.wide.ensures.value) ∙ sym c.is_unit.ensures in
+    asked_not_unit _ _ _ c.args.divider (search rules) used (told ∙ c.if-not-is_unit.true)
 
 pub returns-in-Unfit : goal.returns-in-Unfit
-returns-in-Unfit c = by_kind c c.in-Unfit.is
+returns-in-Unfit c =
+    let used : ltb c.args.root.0 (get_or c.args.counts.now 1 0) ≡ true = sym c.in_use.ensures ∙ c.if-not-in_use.false in
+    let told : unit_normal (get_or c.args.counts.now 0 0) c.args.divider.normal ≡ c.is_unit.result =
+    ap (λ (k : ℕ). unit_normal k c.args.divider.normal) (sym c.wide.ensures.value) ∙ sym c.is_unit.ensures in
+    asked_kind _ _ _ c.args.divider (search rules) used _ (told ∙ c.if-not-is_unit.false) c.in-Unfit.ensures
 
 pub returns-in-PlusInfinity : goal.returns-in-PlusInfinity
-returns-in-PlusInfinity c = by_kind c c.in-PlusInfinity.is
+returns-in-PlusInfinity c =
+    let used : ltb c.args.root.0 (get_or c.args.counts.now 1 0) ≡ true = sym c.in_use.ensures ∙ c.if-not-in_use.false in
+    let told : unit_normal (get_or c.args.counts.now 0 0) c.args.divider.normal ≡ c.is_unit.result =
+    ap (λ (k : ℕ). unit_normal k c.args.divider.normal) (sym c.wide.ensures.value) ∙ sym c.is_unit.ensures in
+    asked_kind _ _ _ c.args.divider (search rules) used _ (told ∙ c.if-not-is_unit.false) c.in-PlusInfinity.ensures
 
 pub returns-in-MinusInfinity : goal.returns-in-MinusInfinity
-returns-in-MinusInfinity c = by_kind c c.in-MinusInfinity.is
+returns-in-MinusInfinity c =
+    let used : ltb c.args.root.0 (get_or c.args.counts.now 1 0) ≡ true = sym c.in_use.ensures ∙ c.if-not-in_use.false in
+    let told : unit_normal (get_or c.args.counts.now 0 0) c.args.divider.normal ≡ c.is_unit.result =
+    ap (λ (k : ℕ). unit_normal k c.args.divider.normal) (sym c.wide.ensures.value) ∙ sym c.is_unit.ensures in
+    asked_kind _ _ _ c.args.divider (search rules) used _ (told ∙ c.if-not-is_unit.false) c.in-MinusInfinity.ensures
 
 pub returns-in-Finite : goal.returns-in-Finite
-returns-in-Finite c = by_kind c c.in-Finite.is
+returns-in-Finite c =
+    let used : ltb c.args.root.0 (get_or c.args.counts.now 1 0) ≡ true = sym c.in_use.ensures ∙ c.if-not-in_use.false in
+    let told : unit_normal (get_or c.args.counts.now 0 0) c.args.divider.normal ≡ c.is_unit.result =
+    ap (λ (k : ℕ). unit_normal k c.args.divider.normal) (sym c.wide.ensures.value) ∙ sym c.is_unit.ensures in
+    asked_kind _ _ _ c.args.divider (search rules) used _ (told ∙ c.if-not-is_unit.false) c.in-Finite.ensures
