@@ -18,6 +18,12 @@ four_long x = bytes_long 4 (to_bits binary32 (narrowed x))
 pub loop-i-init : goal.loop-i-init
 loop-i-init c = record { within = c.requires.part.rising; numbers = c.requires.are_numbers; long = refl; rest = all_left _ _ _ }
 
+pub narrowed-end-requires : goal.narrowed-end-requires
+narrowed-end-requires c =
+    let f = next_fits narrowed_bytes c.args.list.now nan c.loop-i.i c.args.to c.requires.part.within c.loop-i.invariant.rest (search rules) in
+    let w = part_long narrowed_bytes 4 four_long c.args.list.now c.args.from c.args.to c.requires.part.within in
+    record { is_number = first_is c.args.list.now c.loop-i.i c.args.to (search rules) c.requires.part.within c.loop-i.invariant.numbers; fits_room = omega (arith, f, w) }
+
 pub loop-i-preserved : goal.loop-i-preserved
 loop-i-preserved c = record {
       within = search rules;

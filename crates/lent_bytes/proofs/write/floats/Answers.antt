@@ -18,6 +18,12 @@ eight_long x = bytes_long 8 (to_bits binary64 x)
 pub loop-i-init : goal.loop-i-init
 loop-i-init c = record { within = c.requires.part.rising; numbers = c.requires.are_numbers; long = refl; rest = all_left _ _ _ }
 
+pub float-end-requires : goal.float-end-requires
+float-end-requires c =
+    let f = next_fits float_byte8 c.args.list.now nan c.loop-i.i c.args.to c.requires.part.within c.loop-i.invariant.rest (search rules) in
+    let w = part_long float_byte8 8 eight_long c.args.list.now c.args.from c.args.to c.requires.part.within in
+    record { is_number = first_is c.args.list.now c.loop-i.i c.args.to (search rules) c.requires.part.within c.loop-i.invariant.numbers; fits_room = omega (arith, f, w) }
+
 pub loop-i-preserved : goal.loop-i-preserved
 loop-i-preserved c = record {
       within = search rules;

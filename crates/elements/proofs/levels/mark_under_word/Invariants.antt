@@ -1,0 +1,12 @@
+-- The boundaries of the numbers that are left of the word are to come.
+use Prim.Native.Nat.{◌+◌, ◌-◌, ◌<◌}
+use Rattle.elements.proofs.WordLoops.{next_inside}
+use Rattle.elements.proofs.LevelLoops.{Passing, passing_start, passing_ready, passing_next, passing_end}
+use borrow.Author.Rules.{rules}
+use Rattle.elements.proofs.levels.mark_under_word.Given as goal
+
+abbrev pub invariant-loop-left : goal.invariant-loop-left
+invariant-loop-left l = Passing l.elements l.word l.base l.initial.words l.words l.x l.left
+
+abbrev pub decreases-loop-left : goal.decreases-loop-left
+decreases-loop-left l = l.base + 64 - l.x

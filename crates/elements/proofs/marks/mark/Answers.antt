@@ -1,0 +1,12 @@
+-- The machine's shift of 1 is the mark's digit.
+use Prim.Native.Nat.{◌%◌}
+use native.Mathlib.Nat.{mod-lt}
+use native.Mathlib.Omega.{arith}
+use Rattle.elements.specs.Marks.{marking}
+use Rattle.elements.proofs.MarkLaws.{shifted}
+use borrow.Author.Rules.{rules}
+use Rattle.elements.proofs.marks.mark.Goals as goal
+
+pub returns : goal.returns
+unfolding marking
+returns c = rw (shifted (c.args.i % 64) (mod-lt c.args.i (omega arith)))

@@ -1,0 +1,18 @@
+-- What is counted, and the marks of the words that are left, are all marks.
+use Prim.Native.Nat.{ℕ, ◌-◌, ◌≤◌}
+use mathlib.Core.List.{List}
+use mathlib.Core.Path.{◌≡◌}
+use native.Mathlib.Omega.{arith}
+use lib.ListN.{length}
+use Rattle.elements.proofs.ListLoops.{Counting, counting_start, counting_next, counting_end}
+use borrow.Author.Rules.{rules}
+use Rattle.elements.proofs.marks.size.Goals as goal
+
+pub loop-w-init : goal.loop-w-init
+loop-w-init c = record { so_far = search rules; long = search rules; counting = counting_start _ }
+
+pub loop-w-preserved : goal.loop-w-preserved
+loop-w-preserved c = record { so_far = search rules; long = search rules; counting = counting_next _ _ _ _ (search rules) c.ones_of-n.ensures c.loop-w.invariant.counting }
+
+pub returns : goal.returns
+returns c = counting_end _ _ _ (omega arith) c.loop-w.invariant.counting

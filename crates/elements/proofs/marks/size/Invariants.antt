@@ -1,0 +1,20 @@
+-- What is counted, and the marks of the words that are left, are all marks.
+use Prim.Native.Nat.{ℕ, ◌-◌, ◌≤◌}
+use mathlib.Core.List.{List}
+use mathlib.Core.Path.{◌≡◌}
+use native.Mathlib.Omega.{arith}
+use lib.ListN.{length}
+use Rattle.elements.proofs.ListLoops.{Counting, counting_start, counting_next, counting_end}
+use borrow.Author.Rules.{rules}
+use Rattle.elements.proofs.marks.size.Given as goal
+
+pub record Counted (ws : List ℕ) (n w : ℕ) : Type 0 where
+  pub so_far : w ≤ 8
+  pub long : length ws ≡ 8
+  pub counting : Counting ws n w
+
+abbrev pub invariant-loop-w : goal.invariant-loop-w
+invariant-loop-w l = Counted l.words l.n l.w
+
+abbrev pub decreases-loop-w : goal.decreases-loop-w
+decreases-loop-w l = 8 - l.w

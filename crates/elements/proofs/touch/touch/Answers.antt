@@ -1,0 +1,33 @@
+-- What was asked is refused, answered by rule 1, or read from the corners: each way the code goes is a case of the reply.
+use mathlib.Core.Path.{◌≡◌, sym, ◌∙◌}
+use Rattle.rules.specs.Held.{memory_of}
+use Rattle.space.proofs.Indexing.{index_blank}
+use Rattle.soundness.specs.Asked.{asked}
+use Rattle.soundness.specs.declared.asked.Asking.{Asking}
+use Rattle.elements.proofs.TouchReplies.{refused, all_inside, all_outside, touch_ready, corners_replied}
+use borrow.Author.Rules.{rules}
+use Rattle.elements.proofs.touch.touch.Goals as goal
+
+-- HAND
+-- an answer is what the rules ask
+told : (c : tie.After-index2) {x : Asking} → (tested c).divider-asked.result ≡ x
+    → let a = (start (tested c)).args in x ≡ asked (memory_of a.counts.now a.points.now a.planes.now a.elements.now) a.h a.root.0
+told c q = sym q ∙ (tested c).divider-asked.ensures.told
+
+pub divider_asked-asked-requires : goal.divider_asked-asked-requires
+divider_asked-asked-requires c = index_blank _
+
+pub touch_finite-requires : goal.touch_finite-requires
+touch_finite-requires c = touch_ready c.args.h _ _ _ c.args.planes.now _ (told c c.in-Finite.is)
+
+pub returns-in-Refused : goal.returns-in-Refused
+returns-in-Refused c = refused c.args.h _ _ _ _ _ _ (told c c.in-Refused.is)
+
+pub returns-in-AllInside : goal.returns-in-AllInside
+returns-in-AllInside c = all_inside c.args.h _ _ _ _ _ (told c c.in-AllInside.is) c.all_on.ensures
+
+pub returns-in-AllOutside : goal.returns-in-AllOutside
+returns-in-AllOutside c = all_outside c.args.h _ _ _ _ _ (told c c.in-AllOutside.is) c.all_on-in-AllOutside.ensures
+
+pub returns-in-Finite : goal.returns-in-Finite
+returns-in-Finite c = corners_replied c.args.h _ _ _ _ _ (told c c.in-Finite.is) c.touch_finite.ensures

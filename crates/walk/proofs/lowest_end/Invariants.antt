@@ -1,0 +1,23 @@
+-- The lowest so far and what is left give what the whole gives.
+use Prim.Native.Nat.{ℕ, ◌-◌, ◌+◌, ◌*◌, ◌≤◌}
+use mathlib.Core.Path.{◌≡◌, refl, ◌∙◌}
+use mathlib.Core.List.{List}
+use borrow.Author.Rules.{rules}
+use lib.ListN.{get_or, drop}
+use Rattle.walk.specs.Boundaries.{row_boundary}
+use Rattle.walk.specs.Walks.{lowest_end, no_edge}
+use Rattle.walk.proofs.Boundaries.{number_low}
+use Rattle.walk.proofs.EdgeLoops as edge
+use Rattle.walk.proofs.lowest_end.Given as goal
+
+-- the places from i on are left, and m is the lowest before them
+pub record Lowest (es : List ℕ) (f n m i : ℕ) : Type 0 where
+  pub low : i ≤ n
+  pub size : n ≡ get_or es (f * 36 + 3) 0
+  pub same : lowest_end es no_edge (row_boundary es f) ≡ lowest_end es m (drop i (row_boundary es f))
+
+abbrev pub invariant-loop-i : goal.invariant-loop-i
+invariant-loop-i l = Lowest l.elements l.f.0 l.n l.m.0 l.i
+
+abbrev pub decreases-loop-i : goal.decreases-loop-i
+decreases-loop-i l = l.n - l.i
