@@ -47,8 +47,8 @@ loop-k-preserved c = record {
       enough = c.loop-k.invariant.enough;
       long = simp length-set c.loop-k.invariant.long;
       corner = across_fits _ _ _ _ c.loop-k.invariant.edge c.end_across-w.ensures;
-      edge = beside_fits _ _ _ _ _ c.requires.face c.IsEdge-beside.ensures;
-      same = pairs_go c.args.elements.now (row_boundary c.args.elements.now c.args.f.0) _ _ c.loop-k.list c.loop-k.v.0 c.loop-k.e.0 c.loop-k.k _ _ _ _ (search rules) c.end_across-w.ensures c.IsEdge-beside.ensures
+      edge = beside_fits _ _ _ _ _ c.requires.face c.edge_beside-e.ensures;
+      same = pairs_go c.args.elements.now (row_boundary c.args.elements.now c.args.f.0) _ _ c.loop-k.list c.loop-k.v.0 c.loop-k.e.0 c.loop-k.k _ _ _ _ (search rules) c.end_across-w.ensures c.edge_beside-e.ensures
           c.vertex_of-from.ensures.named c.vertex_of-to.ensures.named c.loop-k.invariant.same;
     }
 

@@ -26,7 +26,7 @@ pub record Steps (es : List ℕ) (f start first : ℕ) (room : List ℕ) (n : �
   pub same : sets room 0 (numbers_round es f start first) ≡ sets list (2 * k) (numbers_from (n - k) es (row_boundary es f) v e)
 
 abbrev pub invariant-loop-k : goal.invariant-loop-k
-invariant-loop-k l = Steps l.elements l.f.0 l.start.0 l.first.0 l.initial.list l.n l.list l.v.0 l.e.0 l.k
+invariant-loop-k l = Steps l.elements l.f.0 l.fn.start.0 l.fn.first.0 l.initial.list l.n l.list l.v.0 l.e.0 l.k
 
 abbrev pub decreases-loop-k : goal.decreases-loop-k
 decreases-loop-k l = l.n - l.k

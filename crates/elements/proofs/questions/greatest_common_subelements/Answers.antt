@@ -41,6 +41,12 @@ returns-then-not-all_of_rank c = let rank = c.rank_of-rank.ensures ∙ ap (λ (x
     roots_answered _ _ _ _ c.args.roots.now _ c.roots_refusal-no.ensures c.args.list.now c.if-no-ne0.false (no_answer 6) _ refl
     (λ t l u. unlike_roots _ t l _ c.args.roots.now u rank same)
 
+pub common-s-requires : goal.common-s-requires
+common-s-requires c = 
+    let used : AllUsed c.args.elements.now c.args.roots.now =
+    roots_used _ _ _ _ c.args.roots.now _ c.roots_refusal-no.ensures c.if-no-ne0.false in
+    record { every = used; some = pos_of_ne-zero c.if-roots-eq0.false }
+
 pub greatest-some-requires : goal.greatest-some-requires
 greatest-some-requires c = 
     let used : AllUsed c.args.elements.now c.args.roots.now =

@@ -8,26 +8,20 @@ use Rattle.elements.proofs.TouchReplies.{refused, all_inside, all_outside, touch
 use borrow.Author.Rules.{rules}
 use Rattle.elements.proofs.touch.touch.Goals as goal
 
--- HAND
--- an answer is what the rules ask
-told : (c : tie.After-index2) {x : Asking} → (tested c).divider-asked.result ≡ x
-    → let a = (start (tested c)).args in x ≡ asked (memory_of a.counts.now a.points.now a.planes.now a.elements.now) a.h a.root.0
-told c q = sym q ∙ (tested c).divider-asked.ensures.told
-
 pub divider_asked-asked-requires : goal.divider_asked-asked-requires
 divider_asked-asked-requires c = index_blank _
 
 pub touch_finite-requires : goal.touch_finite-requires
-touch_finite-requires c = touch_ready c.args.h _ _ _ c.args.planes.now _ (told c c.in-Finite.is)
+touch_finite-requires c = touch_ready c.args.h _ _ _ c.args.planes.now _ c.in-Finite.ensures.told
 
 pub returns-in-Refused : goal.returns-in-Refused
-returns-in-Refused c = refused c.args.h _ _ _ _ _ _ (told c c.in-Refused.is)
+returns-in-Refused c = refused c.args.h _ _ _ _ _ _ c.in-Refused.ensures.told
 
 pub returns-in-AllInside : goal.returns-in-AllInside
-returns-in-AllInside c = all_inside c.args.h _ _ _ _ _ (told c c.in-AllInside.is) c.all_on.ensures
+returns-in-AllInside c = all_inside c.args.h _ _ _ _ _ c.in-AllInside.ensures.told c.all_on.ensures
 
 pub returns-in-AllOutside : goal.returns-in-AllOutside
-returns-in-AllOutside c = all_outside c.args.h _ _ _ _ _ (told c c.in-AllOutside.is) c.all_on-in-AllOutside.ensures
+returns-in-AllOutside c = all_outside c.args.h _ _ _ _ _ c.in-AllOutside.ensures.told c.all_on-in-AllOutside.ensures
 
 pub returns-in-Finite : goal.returns-in-Finite
-returns-in-Finite c = corners_replied c.args.h _ _ _ _ _ (told c c.in-Finite.is) c.touch_finite.ensures
+returns-in-Finite c = corners_replied c.args.h _ _ _ _ _ c.in-Finite.ensures.told c.touch_finite.ensures

@@ -1,0 +1,27 @@
+-- What is left to write, put behind what is written, makes up the whole; so do the sizes.
+use Rattle.std.proofs.Common.{◌≡◌, ℕ, ◌+◌, ◌-◌, ◌*◌, ◌^◌, ◌<◌, ◌≤◌, List, map, length, drop, ℤ, pos, nat_abs, sym, refl, ap, ◌∙◌, subst, zero-le, le_trans, le_of_eq, zero-add, arith, lit≤, length-set, w64, to_z, rules}
+use lib.Ieee.{Float}
+use lib.Seq.{sets}
+use Rattle.rules.specs.Areas.{sizes}
+use Rattle.areas.specs.Words.{word_area, PieceFits}
+use Rattle.areas.proofs.Loops.{write_go, total_go, write_end, total_end}
+use Rattle.areas.proofs.Small.{again, told, sized_fits, sized_sum, sized_few}
+use Rattle.areas.proofs.Walked.{area_small}
+use Rattle.areas.proofs.write_areas.Given as goal
+
+-- the pieces from i on are left
+pub record Writing (ps : List Float) (es fs : List ℕ) (room : List ℤ) (m : ℕ) (areas : List ℤ) (sum : ℤ) (i : ℕ) : Type 0 where
+  pub low : i ≤ m
+  pub end : m ≡ length fs
+  pub long : length areas ≡ length room
+  pub same : sets room 0 (map (word_area ps es) fs) ≡ sets areas i (map (word_area ps es) (drop i fs))
+  pub added : ℕ
+  pub is : sum ≡ pos added
+  pub few : added ≤ i * 2 ^ 58
+  pub total : sizes (map (word_area ps es) fs) ≡ added + sizes (map (word_area ps es) (drop i fs))
+
+abbrev pub invariant-loop-i : goal.invariant-loop-i
+invariant-loop-i l = Writing l.points l.elements l.pieces l.initial.areas l.i-end l.areas (to_z w64 l.sum) l.i
+
+abbrev pub decreases-loop-i : goal.decreases-loop-i
+decreases-loop-i l = l.i-end - l.i

@@ -1,0 +1,55 @@
+-- Not begun; a head that does not fit; too short for its boundary; or it ends behind that.
+use Prim.Native.Nat.{◌+◌, ◌≤◌}
+use mathlib.Core.Bool.{true}
+use mathlib.Core.Path.{◌≡◌, sym, ◌∙◌}
+use native.Mathlib.Omega.{arith}
+use lib.ListN.{length, drop}
+use Rattle.rules.proofs.Laws.{not_true, not_false}
+use Rattle.files.specs.Passed.{begins}
+use Rattle.files.proofs.Sizes.{begun_within}
+use Rattle.files.proofs.Passes.{no_element, Head, element_unfit, element_cut_off, element_ends}
+use borrow.Author.Rules.{rules}
+use Rattle.files.proofs.layout.element.Goals as goal
+
+pub returns-then-not-begins_with : goal.returns-then-not-begins_with
+returns-then-not-begins_with c = no_element c.args.bytes.now c.args.at (sym c.begins_with.ensures ∙ c.if-not-begins_with.true)
+
+pub one-rank-requires : goal.one-rank-requires
+one-rank-requires c = 
+    let marked : begins 0x45 0x4C 6 (drop c.args.at c.args.bytes.now) ≡ true =
+    sym c.begins_with.ensures ∙ c.if-not-begins_with.false in
+    let within : c.args.at + 8 ≤ length c.args.bytes.now =
+    let w = begun_within 0x45 0x4C 6 c.args.bytes.now c.args.at marked in omega (arith, w) in
+    let w = within in search rules
+
+pub one-mark-requires : goal.one-mark-requires
+one-mark-requires c = 
+    let marked : begins 0x45 0x4C 6 (drop c.args.at c.args.bytes.now) ≡ true =
+    sym c.begins_with.ensures ∙ c.if-not-begins_with.false in
+    let within : c.args.at + 8 ≤ length c.args.bytes.now =
+    let w = begun_within 0x45 0x4C 6 c.args.bytes.now c.args.at marked in omega (arith, w) in
+    let w = within in search rules
+
+pub two-plane-requires : goal.two-plane-requires
+two-plane-requires c = 
+    let marked : begins 0x45 0x4C 6 (drop c.args.at c.args.bytes.now) ≡ true =
+    sym c.begins_with.ensures ∙ c.if-not-begins_with.false in
+    let within : c.args.at + 8 ≤ length c.args.bytes.now =
+    let w = begun_within 0x45 0x4C 6 c.args.bytes.now c.args.at marked in omega (arith, w) in
+    let w = within in search rules
+
+pub two-n-requires : goal.two-n-requires
+two-n-requires c = 
+    let marked : begins 0x45 0x4C 6 (drop c.args.at c.args.bytes.now) ≡ true =
+    sym c.begins_with.ensures ∙ c.if-not-begins_with.false in
+    let within : c.args.at + 8 ≤ length c.args.bytes.now =
+    let w = begun_within 0x45 0x4C 6 c.args.bytes.now c.args.at marked in omega (arith, w) in
+    let w = within in search rules
+
+pub overflow_sub-bytes-2 : goal.overflow_sub-bytes-2
+overflow_sub-bytes-2 c = 
+    let marked : begins 0x45 0x4C 6 (drop c.args.at c.args.bytes.now) ≡ true =
+    sym c.begins_with.ensures ∙ c.if-not-begins_with.false in
+    let within : c.args.at + 8 ≤ length c.args.bytes.now =
+    let w = begun_within 0x45 0x4C 6 c.args.bytes.now c.args.at marked in omega (arith, w) in
+    let w = within in search rules

@@ -1,0 +1,12 @@
+-- Not begun, or its floats are there, whatever they are.
+use mathlib.Core.Path.{sym, ◌∙◌}
+use Rattle.rules.proofs.Laws.{not_true, not_false}
+use Rattle.files.proofs.Passes.{no_point, point_ends}
+use borrow.Author.Rules.{rules}
+use Rattle.files.proofs.layout.point.Goals as goal
+
+pub returns-then-not-begins_with : goal.returns-then-not-begins_with
+returns-then-not-begins_with c = no_point c.args.bytes.now c.args.at c.args.d (sym c.begins_with.ensures ∙ c.if-not-begins_with.true)
+
+pub returns : goal.returns
+returns c = point_ends c.args.bytes.now c.args.at c.args.d (sym c.begins_with.ensures ∙ c.if-not-begins_with.false)

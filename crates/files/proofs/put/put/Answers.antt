@@ -1,0 +1,13 @@
+-- Slice by slice; what the bytes say is what each part asks.
+use borrow.Author.Rules.{rules}
+use Rattle.files.proofs.PutTable.{counts_ready, points_ready, planes_ready, elements_ready, table_put}
+use Rattle.files.proofs.put.put.Goals as goal
+
+pub put_counts-requires : goal.put_counts-requires
+put_counts-requires c = counts_ready c.requires
+
+pub put_elements-requires : goal.put_elements-requires
+put_elements-requires c = elements_ready c.requires
+
+pub returns : goal.returns
+returns c = table_put c.requires c.put_counts.ensures c.put_points.ensures c.put_planes.ensures c.put_elements.ensures

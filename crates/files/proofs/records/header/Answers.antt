@@ -1,0 +1,7 @@
+-- The mark, and the four counts behind it.
+use borrow.Author.Rules.{rules}
+use Rattle.files.proofs.SavedRecords.{header_put}
+use Rattle.files.proofs.records.header.Goals as goal
+
+pub returns : goal.returns
+returns c = header_put c.args.counts.now c.requires.counts c.mark-end.ensures c.numbers.ensures

@@ -1,0 +1,14 @@
+-- The mark, the components behind it, and the distance behind them.
+use Prim.Native.Nat.{◌+◌, ◌*◌}
+use native.Mathlib.Omega.{arith}
+use borrow.Author.Rules.{rules}
+use Rattle.lent_bytes.proofs.Puts.{put_length}
+use Rattle.files.proofs.SavedRecords.{floats_part, plane_room_lem, plane_part, plane_numbers, distance_number, plane_put}
+use Rattle.files.proofs.records.hyperplane_record.Goals as goal
+
+pub mark-end-requires : goal.mark-end-requires
+mark-end-requires c = let r = plane_room_lem c.args.d c.args.i c.args.planes.now c.requires.d_le_dimensions c.requires.row_ready in
+    omega (arith, r)
+
+pub returns : goal.returns
+returns c = plane_put c.args.d c.args.i c.args.planes.now c.requires.d_le_dimensions c.requires.row_ready c.mark-end.ensures c.floats-last.ensures c.float.ensures

@@ -1,0 +1,13 @@
+-- The mark, and the coordinates behind it.
+use native.Mathlib.Omega.{arith}
+use borrow.Author.Rules.{rules}
+use Rattle.lent_bytes.proofs.Puts.{put_length}
+use Rattle.files.proofs.SavedRecords.{front_part, point_room_lem, point_numbers, point_put}
+use Rattle.files.proofs.records.vertex_record.Goals as goal
+
+pub mark-end-requires : goal.mark-end-requires
+mark-end-requires c = let r = point_room_lem c.args.d c.args.i c.args.points.now c.requires.d_le_dimensions c.requires.row_ready in
+    omega (arith, r)
+
+pub returns : goal.returns
+returns c = point_put c.args.d c.args.i c.args.points.now c.requires.d_le_dimensions c.requires.row_ready c.mark-end.ensures c.floats.ensures

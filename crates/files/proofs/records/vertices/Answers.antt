@@ -1,0 +1,15 @@
+-- The invariant: the records that are left, put behind those that stand there, make all of them.
+use Prim.Native.Nat.{◌-◌}
+use borrow.Author.Rules.{rules}
+use Rattle.files.specs.Saved.{point_clear, point_saved}
+use Rattle.files.proofs.SavedRows.{SavedSoFar, none_saved, row_ready, one_saved, all_saved}
+use Rattle.files.proofs.records.vertices.Goals as goal
+
+pub loop-i-init : goal.loop-i-init
+loop-i-init c = none_saved _ _ _ _ _ _
+
+pub loop-i-preserved : goal.loop-i-preserved
+loop-i-preserved c = one_saved _ _ _ c.args.points.now c.loop-i.invariant (search rules) c.vertex_record-end.ensures
+
+pub returns : goal.returns
+returns c = all_saved _ _ _ c.args.points.now c.loop-i.invariant (search rules)

@@ -1,0 +1,65 @@
+-- What has been met is what a search from row x on gives, in the rows of the table that the bytes say.
+use Prim.Native.Nat.{ℕ, ◌-◌, ◌<◌, ◌≤◌}
+use mathlib.Core.Path.{◌≡◌, sym, ap, subst, ◌∙◌}
+use native.Mathlib.Nat.{le_of_eq}
+use native.Mathlib.Omega.{arith}
+use lib.Dec.{eqb}
+use lib.ListN.{get_or}
+use lib.Seq.{take_all}
+use borrow.Author.Rules.{rules}
+use Rattle.rules.specs.Held.{Fits, elements_of}
+use Rattle.rules.specs.Limits.{desk}
+use Rattle.rules.specs.Lists.{alike}
+use Rattle.rules.specs.Table.{Table, element_count}
+use Rattle.space.proofs.Indexing.{Met, met_start, met_less, met_on, met_end}
+use Rattle.space.specs.Chains.{key_of}
+use Rattle.files.specs.Laid.{Whole}
+use Rattle.files.proofs.KeptRows.{one_table, says_fits, says_few, says_room, kept_ready, kept_own}
+use Rattle.files.proofs.rows.last_kept.Goals as goal
+
+pub loop-x-init : goal.loop-x-init
+loop-x-init c = λ t w.
+    let key : c.key_of.result ≡ key_of c.args.row.now = c.key_of.ensures.value ∙ ap key_of (take_all 36 c.args.row.now (le_of_eq c.requires.long)) in
+    met_start (elements_of desk t) c.args.n c.args.row.now c.args.index.now c.wide-x.result (c.requires.earlier t w) (omega (arith, key, c.key_of.ensures.bound))
+    (c.wide-x.ensures.value ∙ ap (λ (i : ℕ). get_or c.args.index.now i 0) key)
+
+pub same_as_kept-requires : goal.same_as_kept-requires
+same_as_kept-requires c = 
+    let met : Met (elements_of desk c.requires.says.table) c.args.n c.args.row.now c.loop-x.met c.loop-x.x =
+    c.loop-x.invariant c.requires.says.table c.requires.says.whole in
+    let m = met.room in
+    kept_ready c.args.bytes.now c.args.laid c.requires.says.table (c.requires.keeps c.requires.says.table c.requires.says.whole) (says_fits c.requires.says) (omega (arith, m, c.loop-x-test.true)) (says_few c.requires.says c.requires.few) c.args.row.now c.requires.long
+
+pub overflow_add-x : goal.overflow_add-x
+overflow_add-x c = 
+    let met : Met (elements_of desk c.requires.says.table) c.args.n c.args.row.now c.loop-x.met c.loop-x.x =
+    c.loop-x.invariant c.requires.says.table c.requires.says.whole in
+    let m = met.room in
+    let n = says_room c.requires.says c.requires.few in
+    omega (arith, m, n)
+
+pub offset_bounds-index-x : goal.offset_bounds-index-x
+offset_bounds-index-x c = 
+    let met : Met (elements_of desk c.requires.says.table) c.args.n c.args.row.now c.loop-x.met c.loop-x.x =
+    c.loop-x.invariant c.requires.says.table c.requires.says.whole in
+    let m = met.room in
+    let n = says_room c.requires.says c.requires.few in
+    omega (arith, m, n)
+
+pub bounds-index-x : goal.bounds-index-x
+bounds-index-x c = 
+    let met : Met (elements_of desk c.requires.says.table) c.args.n c.args.row.now c.loop-x.met c.loop-x.x =
+    c.loop-x.invariant c.requires.says.table c.requires.says.whole in
+    let m = met.room in
+    let n = says_room c.requires.says c.requires.few in
+    omega (arith, m, n, c.loop-x-test.true)
+
+pub loop-x-smaller : goal.loop-x-smaller
+loop-x-smaller c = 
+    let met : Met (elements_of desk c.requires.says.table) c.args.n c.args.row.now c.loop-x.met c.loop-x.x =
+    c.loop-x.invariant c.requires.says.table c.requires.says.whole in
+    met_less (elements_of desk c.requires.says.table) c.args.n c.args.row.now c.args.index.now c.loop-x.met c.loop-x.x c.wide-x-in-loop-x.result (c.requires.earlier c.requires.says.table c.requires.says.whole) met c.loop-x-test.true
+    c.wide-x-in-loop-x.ensures.value
+
+pub returns : goal.returns
+returns c = record { found = λ t w. met_end (elements_of desk t) c.args.n c.args.row.now c.loop-x.met c.loop-x.x (c.loop-x.invariant t w) (omega (arith, c.loop-x-test.false)) }

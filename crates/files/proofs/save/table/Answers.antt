@@ -1,0 +1,56 @@
+-- Each part behind the one before; what a sound memory tells of its words is what each part asks.
+use native.Mathlib.Omega.{arith}
+use borrow.Author.Rules.{rules}
+use Rattle.files.proofs.SavedTable.{Counted, size_ready, header_ready, points_ready, planes_ready, elements_ready, file_put}
+use Rattle.files.proofs.save.table.Goals as goal
+
+pub bounds-counts-0 : goal.bounds-counts-0
+bounds-counts-0 c = let l = (size_ready c.args.counts.now c.args.points.now c.args.planes.now c.args.elements.now c.requires.is_sound).counts in
+    omega (arith, l)
+
+pub bounds-counts-1 : goal.bounds-counts-1
+bounds-counts-1 c = let l = (size_ready c.args.counts.now c.args.points.now c.args.planes.now c.args.elements.now c.requires.is_sound).counts in
+    omega (arith, l)
+
+pub bounds-counts-2 : goal.bounds-counts-2
+bounds-counts-2 c = let l = (size_ready c.args.counts.now c.args.points.now c.args.planes.now c.args.elements.now c.requires.is_sound).counts in
+    omega (arith, l)
+
+pub bounds-counts-3 : goal.bounds-counts-3
+bounds-counts-3 c = let l = (size_ready c.args.counts.now c.args.points.now c.args.planes.now c.args.elements.now c.requires.is_sound).counts in
+    omega (arith, l)
+
+pub header-points_at-requires : goal.header-points_at-requires
+header-points_at-requires c = 
+    let told : Counted c.args.counts.now c.wide-d.result c.wide-n.result c.wide-v.result c.wide-h.result =
+    record {
+  dimension = c.wide-d.ensures.value;
+  elements = c.wide-n.ensures.value;
+  vertices = c.wide-v.ensures.value;
+  hyperplanes = c.wide-h.ensures.value;
+} in
+    header_ready c.args.counts.now c.args.points.now c.args.planes.now c.args.elements.now c.requires.is_sound c.requires.fits_room told
+
+pub elements-requires : goal.elements-requires
+elements-requires c = 
+    let told : Counted c.args.counts.now c.wide-d.result c.wide-n.result c.wide-v.result c.wide-h.result =
+    record {
+  dimension = c.wide-d.ensures.value;
+  elements = c.wide-n.ensures.value;
+  vertices = c.wide-v.ensures.value;
+  hyperplanes = c.wide-h.ensures.value;
+} in
+    elements_ready c.args.counts.now c.args.points.now c.args.planes.now c.args.elements.now c.requires.is_sound c.requires.fits_room told c.header-points_at.ensures c.vertices-planes_at.ensures
+    c.hyperplanes-elements_at.ensures
+
+pub returns : goal.returns
+returns c = 
+    let told : Counted c.args.counts.now c.wide-d.result c.wide-n.result c.wide-v.result c.wide-h.result =
+    record {
+  dimension = c.wide-d.ensures.value;
+  elements = c.wide-n.ensures.value;
+  vertices = c.wide-v.ensures.value;
+  hyperplanes = c.wide-h.ensures.value;
+} in
+    file_put c.args.counts.now c.args.points.now c.args.planes.now c.args.elements.now c.requires.is_sound c.requires.fits_room told c.header-points_at.ensures c.vertices-planes_at.ensures
+    c.hyperplanes-elements_at.ensures c.elements.ensures
