@@ -21,7 +21,7 @@ pub record Writing (ps : List Float) (es fs : List ℕ) (room : List ℤ) (m : �
   pub total : sizes (map (word_area ps es) fs) ≡ added + sizes (map (word_area ps es) (drop i fs))
 
 abbrev pub invariant-loop-i : goal.invariant-loop-i
-invariant-loop-i l = Writing l.points l.elements l.pieces l.initial.areas l.i-end l.areas (to_z w64 l.sum) l.i
+invariant-loop-i l = Writing l.points l.elements l.pieces l.initial.areas l.i-end l.areas l.sum l.i
 
 abbrev pub decreases-loop-i : goal.decreases-loop-i
 decreases-loop-i l = l.i-end - l.i

@@ -26,8 +26,8 @@ overflow_add-sum c =
       from = subst (CornerFits _) (sym c.wide.ensures.value) (c.requires.corners.each (2 * c.loop-k.k) (search rules));
       to = subst (CornerFits _) (sym c.wide-in-loop-k.ensures.value) (c.requires.corners.each (2 * c.loop-k.k + 1) (search rules));
     } in
-    sum_fits (to_z w64 c.loop-k.sum) _ _ c.corner_turn-sum.ensures (le_trans (corner_turn_few _ _ _ both) (lit≤ tt))
-    (turns_small (to_z w64 c.loop-k.sum) c.loop-k.k c.loop-k.invariant.few (le_trans c.loop-k.invariant.low c.requires.few))
+    sum_fits (to_z w64 c.loop-k.sum-bits) _ _ c.corner_turn-sum.ensures (le_trans (corner_turn_few _ _ _ both) (lit≤ tt))
+    (turns_small (to_z w64 c.loop-k.sum-bits) c.loop-k.k c.loop-k.invariant.few (le_trans c.loop-k.invariant.low c.requires.few))
 
 pub loop-k-preserved : goal.loop-k-preserved
 loop-k-preserved c = 
@@ -40,12 +40,12 @@ loop-k-preserved c =
     let short = le_trans c.loop-k.invariant.low c.requires.few in
     record {
       low = search rules;
-      few = turns_few (to_z w64 c.loop-k.sum) _ _ c.loop-k.k c.corner_turn-sum.ensures few c.loop-k.invariant.few short;
-      same = turns_go c.args.points.now (take (2 * c.args.n) c.args.list.now) _ (to_z w64 c.loop-k.sum) _ c.loop-k.k _ _
+      few = turns_few (to_z w64 c.loop-k.sum-bits) _ _ c.loop-k.k c.corner_turn-sum.ensures few c.loop-k.invariant.few short;
+      same = turns_go c.args.points.now (take (2 * c.args.n) c.args.list.now) _ (to_z w64 c.loop-k.sum-bits) _ c.loop-k.k _ _
           (front_long (2 * c.args.n) c.args.list.now (2 * c.loop-k.k + 1) c.requires.corners.long (search rules))
           (in_front (2 * c.args.n) c.args.list.now (2 * c.loop-k.k) _ (search rules) c.wide.ensures.value)
           (in_front (2 * c.args.n) c.args.list.now (2 * c.loop-k.k + 1) _ (search rules) c.wide-in-loop-k.ensures.value)
-          (sum_told (to_z w64 c.loop-k.sum) _ _ c.corner_turn-sum.ensures (le_trans few (lit≤ tt)) (turns_small (to_z w64 c.loop-k.sum) c.loop-k.k c.loop-k.invariant.few short)) c.loop-k.invariant.same;
+          (sum_told (to_z w64 c.loop-k.sum-bits) _ _ c.corner_turn-sum.ensures (le_trans few (lit≤ tt)) (turns_small (to_z w64 c.loop-k.sum-bits) c.loop-k.k c.loop-k.invariant.few short)) c.loop-k.invariant.same;
     }
 
 pub returns : goal.returns

@@ -14,7 +14,7 @@ pub record Adding (ps : List Float) (ns : List ℕ) (n : ℕ) (sum : ℤ) (k : �
   pub same : turns_along ps (take (2 * n) ns) ≡ sum +ℤ turns_along ps (drop (2 * k) (take (2 * n) ns))
 
 abbrev pub invariant-loop-k : goal.invariant-loop-k
-invariant-loop-k l = Adding l.points l.list l.n (to_z w64 l.sum) l.k
+invariant-loop-k l = Adding l.points l.list l.n l.sum l.k
 
 abbrev pub decreases-loop-k : goal.decreases-loop-k
 decreases-loop-k l = l.n - l.k

@@ -46,6 +46,20 @@ two-n-requires c =
     let w = begun_within 0x45 0x4C 6 c.args.bytes.now c.args.at marked in omega (arith, w) in
     let w = within in search rules
 
+pub returns-then-not-head_fits : goal.returns-then-not-head_fits
+returns-then-not-head_fits c = 
+    let marked : begins 0x45 0x4C 6 (drop c.args.at c.args.bytes.now) ≡ true =
+    sym c.begins_with.ensures ∙ c.if-not-begins_with.false in
+    let headed : Head c.args.bytes.now c.args.at c.one-rank.result c.one-mark.result c.two-plane.result c.two-n.result =
+    record {
+  begun = marked;
+  rank = c.one-rank.ensures.value;
+  mark = c.one-mark.ensures.value;
+  plane = c.two-plane.ensures.value;
+  count = c.two-n.ensures.value;
+} in
+    element_unfit _ _ _ _ _ _ headed (sym c.head_fits.ensures ∙ c.if-not-head_fits.true)
+
 pub overflow_sub-bytes-2 : goal.overflow_sub-bytes-2
 overflow_sub-bytes-2 c = 
     let marked : begins 0x45 0x4C 6 (drop c.args.at c.args.bytes.now) ≡ true =
@@ -53,3 +67,37 @@ overflow_sub-bytes-2 c =
     let within : c.args.at + 8 ≤ length c.args.bytes.now =
     let w = begun_within 0x45 0x4C 6 c.args.bytes.now c.args.at marked in omega (arith, w) in
     let w = within in search rules
+
+pub returns-then-bytes-at : goal.returns-then-bytes-at
+returns-then-bytes-at c = 
+    let marked : begins 0x45 0x4C 6 (drop c.args.at c.args.bytes.now) ≡ true =
+    sym c.begins_with.ensures ∙ c.if-not-begins_with.false in
+    let within : c.args.at + 8 ≤ length c.args.bytes.now =
+    let w = begun_within 0x45 0x4C 6 c.args.bytes.now c.args.at marked in omega (arith, w) in
+    let headed : Head c.args.bytes.now c.args.at c.one-rank.result c.one-mark.result c.two-plane.result c.two-n.result =
+    record {
+  begun = marked;
+  rank = c.one-rank.ensures.value;
+  mark = c.one-mark.ensures.value;
+  plane = c.two-plane.ensures.value;
+  count = c.two-n.ensures.value;
+} in
+    let w = within in
+    element_cut_off _ _ _ _ _ _ headed (omega arith)
+
+pub returns : goal.returns
+returns c = 
+    let marked : begins 0x45 0x4C 6 (drop c.args.at c.args.bytes.now) ≡ true =
+    sym c.begins_with.ensures ∙ c.if-not-begins_with.false in
+    let within : c.args.at + 8 ≤ length c.args.bytes.now =
+    let w = begun_within 0x45 0x4C 6 c.args.bytes.now c.args.at marked in omega (arith, w) in
+    let headed : Head c.args.bytes.now c.args.at c.one-rank.result c.one-mark.result c.two-plane.result c.two-n.result =
+    record {
+  begun = marked;
+  rank = c.one-rank.ensures.value;
+  mark = c.one-mark.ensures.value;
+  plane = c.two-plane.ensures.value;
+  count = c.two-n.ensures.value;
+} in
+    let w = within in
+    element_ends _ _ _ _ _ _ headed (sym c.head_fits.ensures ∙ c.if-not-head_fits.false) (omega arith)

@@ -70,6 +70,28 @@ two-hyperplanes-requires c =
     begun_within 0x48 0x44 8 c.args.bytes.now 0 begun in
     let w = within in search rules
 
+pub many_of-requires : goal.many_of-requires
+many_of-requires c = 
+    let begun : begins 0x48 0x44 8 c.args.bytes.now ≡ true =
+    sym c.begins_with.ensures ∙ c.if-not-begins_with.false in
+    let within : header_size ≤ length c.args.bytes.now =
+    begun_within 0x48 0x44 8 c.args.bytes.now 0 begun in
+    record { within = within; dimension = c.two-dimension.ensures.below }
+
+pub returns-in_default : goal.returns-in_default
+returns-in_default c = 
+    let begun : begins 0x48 0x44 8 c.args.bytes.now ≡ true =
+    sym c.begins_with.ensures ∙ c.if-not-begins_with.false in
+    let header : Header (bytes c) (d c) (ne c) (nv c) (nh c) =
+    record {
+  begun = begun;
+  dimension = c.two-dimension.ensures.value;
+  elements = c.two-elements.ensures.value;
+  vertices = c.two-vertices.ensures.value;
+  hyperplanes = c.two-hyperplanes.ensures.value;
+} in
+    no_points (bytes c) (d c) (ne c) (nv c) (nh c) header _ (all_broken _ _ _ _ _ c.many_of.ensures c.in_default.is) c.broken-in_default.ensures
+
 pub many_of-requires-2 : goal.many_of-requires-2
 many_of-requires-2 c = 
     let planes-at : ℕ =
@@ -77,6 +99,25 @@ many_of-requires-2 c =
     let points_there : Together (point_in (d c)) (bytes c) header_size (nv c) planes-at =
     all_together _ _ _ _ _ _ c.many_of.ensures c.in-At.is in
     record { within = together_within _ _ _ _ _ points_there; dimension = c.two-dimension.ensures.below }
+
+pub returns-in_default-many_of : goal.returns-in_default-many_of
+returns-in_default-many_of c = 
+    let planes-at : ℕ =
+    c.in-At.planes_at in
+    let begun : begins 0x48 0x44 8 c.args.bytes.now ≡ true =
+    sym c.begins_with.ensures ∙ c.if-not-begins_with.false in
+    let header : Header (bytes c) (d c) (ne c) (nv c) (nh c) =
+    record {
+  begun = begun;
+  dimension = c.two-dimension.ensures.value;
+  elements = c.two-elements.ensures.value;
+  vertices = c.two-vertices.ensures.value;
+  hyperplanes = c.two-hyperplanes.ensures.value;
+} in
+    let points_there : Together (point_in (d c)) (bytes c) header_size (nv c) planes-at =
+    all_together _ _ _ _ _ _ c.many_of.ensures c.in-At.is in
+    no_planes (bytes c) (d c) (ne c) (nv c) (nh c) header _ points_there _
+    (all_broken _ _ _ _ _ c.many_of-2.ensures c.in_default-many_of.is) c.broken-in_default-many_of.ensures
 
 pub many_of-requires-3 : goal.many_of-requires-3
 many_of-requires-3 c = 
@@ -87,3 +128,78 @@ many_of-requires-3 c =
     let planes_there : Together (plane_in (d c)) (bytes c) planes-at (nh c) elements-at =
     all_together _ _ _ _ _ _ c.many_of-2.ensures c.in-At-many_of.is in
     record { within = together_within _ _ _ _ _ planes_there; dimension = c.two-dimension.ensures.below }
+
+pub returns-in_default-many_of-2 : goal.returns-in_default-many_of-2
+returns-in_default-many_of-2 c = 
+    let planes-at : ℕ =
+    c.in-At.planes_at in
+    let elements-at : ℕ =
+    c.in-At-many_of.elements_at in
+    let begun : begins 0x48 0x44 8 c.args.bytes.now ≡ true =
+    sym c.begins_with.ensures ∙ c.if-not-begins_with.false in
+    let header : Header (bytes c) (d c) (ne c) (nv c) (nh c) =
+    record {
+  begun = begun;
+  dimension = c.two-dimension.ensures.value;
+  elements = c.two-elements.ensures.value;
+  vertices = c.two-vertices.ensures.value;
+  hyperplanes = c.two-hyperplanes.ensures.value;
+} in
+    let points_there : Together (point_in (d c)) (bytes c) header_size (nv c) planes-at =
+    all_together _ _ _ _ _ _ c.many_of.ensures c.in-At.is in
+    let planes_there : Together (plane_in (d c)) (bytes c) planes-at (nh c) elements-at =
+    all_together _ _ _ _ _ _ c.many_of-2.ensures c.in-At-many_of.is in
+    no_elements (bytes c) (d c) (ne c) (nv c) (nh c) header _ points_there _ planes_there _
+    (all_broken _ _ _ _ _ c.many_of-3.ensures c.in_default-many_of-2.is) c.broken-in_default-many_of-2.ensures
+
+pub returns-then-end-bytes : goal.returns-then-end-bytes
+returns-then-end-bytes c = 
+    let planes-at : ℕ =
+    c.in-At.planes_at in
+    let elements-at : ℕ =
+    c.in-At-many_of.elements_at in
+    let end : ℕ =
+    c.in-At-many_of-2.end in
+    let begun : begins 0x48 0x44 8 c.args.bytes.now ≡ true =
+    sym c.begins_with.ensures ∙ c.if-not-begins_with.false in
+    let header : Header (bytes c) (d c) (ne c) (nv c) (nh c) =
+    record {
+  begun = begun;
+  dimension = c.two-dimension.ensures.value;
+  elements = c.two-elements.ensures.value;
+  vertices = c.two-vertices.ensures.value;
+  hyperplanes = c.two-hyperplanes.ensures.value;
+} in
+    let points_there : Together (point_in (d c)) (bytes c) header_size (nv c) planes-at =
+    all_together _ _ _ _ _ _ c.many_of.ensures c.in-At.is in
+    let planes_there : Together (plane_in (d c)) (bytes c) planes-at (nh c) elements-at =
+    all_together _ _ _ _ _ _ c.many_of-2.ensures c.in-At-many_of.is in
+    let elements_there : Together element_in (bytes c) elements-at (ne c) end =
+    all_together _ _ _ _ _ _ c.many_of-3.ensures c.in-At-many_of-2.is in
+    bytes_more (bytes c) (d c) (ne c) (nv c) (nh c) header _ points_there _ planes_there _ elements_there _ c.if-end-bytes.true c.broken-then-end-bytes.ensures
+
+pub returns : goal.returns
+returns c = 
+    let planes-at : ℕ =
+    c.in-At.planes_at in
+    let elements-at : ℕ =
+    c.in-At-many_of.elements_at in
+    let end : ℕ =
+    c.in-At-many_of-2.end in
+    let begun : begins 0x48 0x44 8 c.args.bytes.now ≡ true =
+    sym c.begins_with.ensures ∙ c.if-not-begins_with.false in
+    let header : Header (bytes c) (d c) (ne c) (nv c) (nh c) =
+    record {
+  begun = begun;
+  dimension = c.two-dimension.ensures.value;
+  elements = c.two-elements.ensures.value;
+  vertices = c.two-vertices.ensures.value;
+  hyperplanes = c.two-hyperplanes.ensures.value;
+} in
+    let points_there : Together (point_in (d c)) (bytes c) header_size (nv c) planes-at =
+    all_together _ _ _ _ _ _ c.many_of.ensures c.in-At.is in
+    let planes_there : Together (plane_in (d c)) (bytes c) planes-at (nh c) elements-at =
+    all_together _ _ _ _ _ _ c.many_of-2.ensures c.in-At-many_of.is in
+    let elements_there : Together element_in (bytes c) elements-at (ne c) end =
+    all_together _ _ _ _ _ _ c.many_of-3.ensures c.in-At-many_of-2.is in
+    all_told (bytes c) (d c) (ne c) (nv c) (nh c) header _ points_there _ planes_there _ elements_there c.if-end-bytes.false

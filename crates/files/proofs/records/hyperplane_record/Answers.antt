@@ -10,5 +10,17 @@ pub mark-end-requires : goal.mark-end-requires
 mark-end-requires c = let r = plane_room_lem c.args.d c.args.i c.args.planes.now c.requires.d_le_dimensions c.requires.row_ready in
     omega (arith, r)
 
+pub floats-last-requires : goal.floats-last-requires
+floats-last-requires c = let l = put_length c.mark-end.ensures in
+    let r = plane_room_lem c.args.d c.args.i c.args.planes.now c.requires.d_le_dimensions c.requires.row_ready in
+    record { part = plane_part c.args.d c.args.i c.args.planes.now c.requires.d_le_dimensions c.requires.row_ready; are_numbers = plane_numbers c.args.d c.args.i c.args.planes.now c.requires.d_le_dimensions c.requires.row_ready; fits_room = omega (arith, l, c.mark-end.ensures.place, r) }
+
+pub float-requires : goal.float-requires
+float-requires c = let l = put_length c.mark-end.ensures in
+    let k = put_length c.floats-last.ensures in
+    let w = floats_part c.args.planes.now (c.args.i * 5) (c.args.i * 5 + c.args.d) (plane_part c.args.d c.args.i c.args.planes.now c.requires.d_le_dimensions c.requires.row_ready).within in
+    let r = plane_room_lem c.args.d c.args.i c.args.planes.now c.requires.d_le_dimensions c.requires.row_ready in
+    record { is_number = distance_number c.args.d c.args.i c.args.planes.now c.requires.d_le_dimensions c.requires.row_ready; fits_room = omega (arith, l, c.mark-end.ensures.place, k, c.floats-last.ensures.place, w, r) }
+
 pub returns : goal.returns
 returns c = plane_put c.args.d c.args.i c.args.planes.now c.requires.d_le_dimensions c.requires.row_ready c.mark-end.ensures c.floats-last.ensures c.float.ensures

@@ -30,8 +30,8 @@ pub triangle-end-requires : goal.triangle-end-requires
 triangle-end-requires c = record {
       points = c.requires.points;
       first = (let x = c.requires.walk.low 0 (omega (arith, c.requires.walk.three)) in omega (arith, x, c.loop-k.invariant.1));
-      second = (let x = c.requires.walk.low (2 * c.loop-k.k) (search rules) in let c.loop-k.invariant.1 = c.wide-in-loop-k.ensures.value in omega (arith, x, c.loop-k.invariant.1));
-      third = (let x = c.requires.walk.low (2 * c.loop-k.k + 1) (search rules) in let c.loop-k.invariant.1 = c.wide-in-loop-k-2.ensures.value in omega (arith, x, c.loop-k.invariant.1));
+      second = (let x = c.requires.walk.low (2 * c.loop-k.k) (search rules) in omega (arith, x, c.wide-in-loop-k.ensures.value));
+      third = (let x = c.requires.walk.low (2 * c.loop-k.k + 1) (search rules) in omega (arith, x, c.wide-in-loop-k-2.ensures.value));
       fits = next_fits c.args.points.now c.args.list.now c.args.n c.requires.points c.requires.walk c.loop-k.k c.loop-k.invariant.0.rest (search rules) c.requires.fits c.loop-k.invariant.0.long;
     }
 
