@@ -1,5 +1,7 @@
 -- What has been met is what a search from row x on gives, in the rows of the table that the bytes say.
 use Prim.Native.Nat.{ℕ, ◌-◌, ◌<◌, ◌≤◌}
+use mathlib.Core.Bool.{true, false}
+use mathlib.Core.Logic.{inl, inr}
 use mathlib.Core.Path.{◌≡◌, sym, ap, subst, ◌∙◌}
 use native.Mathlib.Nat.{le_of_eq}
 use native.Mathlib.Omega.{arith}
@@ -16,6 +18,7 @@ use Rattle.space.specs.Chains.{key_of}
 use Rattle.files.specs.Laid.{Whole}
 use Rattle.files.proofs.KeptRows.{one_table, says_fits, says_few, says_room, kept_ready, kept_own}
 use Rattle.files.proofs.rows.last_kept.Goals as goal
+use Rattle.files.proofs.rows.last_kept.Goals.{then-same_as_kept, else-same_as_kept}
 
 pub loop-x-init : goal.loop-x-init
 loop-x-init c = λ t w.
@@ -63,3 +66,16 @@ loop-x-smaller c =
 
 pub returns : goal.returns
 returns c = record { found = λ t w. met_end (elements_of desk t) c.args.n c.args.row.now c.loop-x.met c.loop-x.x (c.loop-x.invariant t w) (omega (arith, c.loop-x-test.false)) }
+
+pub loop-x-preserved : goal.loop-x-preserved
+loop-x-preserved c = λ t w.
+    let m = c.loop-x.invariant t w in
+    let h : c.loop-x.x - 1 < c.args.n = (let r = m.room in omega (arith, r, c.loop-x-test.true)) in
+    let own = kept_own c.args.bytes.now c.args.laid t (c.requires.keeps t w) (subst (Fits desk) (one_table c.requires.says.whole w) (says_fits c.requires.says)) h (subst (λ (u : Table). c.args.n ≤ element_count u) (one_table c.requires.says.whole w) (says_few c.requires.says c.requires.few)) in
+    let same = c.same_as_kept.ensures ∙ ap (alike eqb c.args.row.now) own in
+    let on = met_on (elements_of desk t) c.args.n c.args.row.now c.args.index.now c.loop-x.met c.loop-x.x c.wide-x-in-loop-x.result (c.requires.earlier t w) m c.loop-x-test.true c.wide-x-in-loop-x.ensures.value
+        {P = c.same_as_kept.result ≡ true} {Q = c.same_as_kept.result ≡ false} c.if-same_as_kept.met in
+    elim c.if-same_as_kept.branch [
+      | then-same_as_kept w ↦ on (inl (w.if-same_as_kept.true, w.met-is)) (λ p. sym same ∙ p) (λ q. sym same ∙ q)
+      | else-same_as_kept w ↦ on (inr (w.if-same_as_kept.false, w.met-is)) (λ p. sym same ∙ p) (λ q. sym same ∙ q)
+    ]

@@ -54,3 +54,25 @@ returns c =
 } in
     file_put c.args.counts.now c.args.points.now c.args.planes.now c.args.elements.now c.requires.is_sound c.requires.fits_room told c.header-points_at.ensures c.vertices-planes_at.ensures
     c.hyperplanes-elements_at.ensures c.elements.ensures
+
+pub vertices-planes_at-requires : goal.vertices-planes_at-requires
+vertices-planes_at-requires c = 
+    let told : Counted c.args.counts.now c.wide-d.result c.wide-n.result c.wide-v.result c.wide-h.result =
+    record {
+  dimension = c.wide-d.ensures.value;
+  elements = c.wide-n.ensures.value;
+  vertices = c.wide-v.ensures.value;
+  hyperplanes = c.wide-h.ensures.value;
+} in
+    let r = points_ready c.args.counts.now c.args.points.now c.args.planes.now c.args.elements.now c.requires.is_sound c.requires.fits_room told c.header-points_at.ensures in record { d_le_dimensions = r.0; rows_ready = r.1 }
+
+pub hyperplanes-elements_at-requires : goal.hyperplanes-elements_at-requires
+hyperplanes-elements_at-requires c = 
+    let told : Counted c.args.counts.now c.wide-d.result c.wide-n.result c.wide-v.result c.wide-h.result =
+    record {
+  dimension = c.wide-d.ensures.value;
+  elements = c.wide-n.ensures.value;
+  vertices = c.wide-v.ensures.value;
+  hyperplanes = c.wide-h.ensures.value;
+} in
+    let r = planes_ready c.args.counts.now c.args.points.now c.args.planes.now c.args.elements.now c.requires.is_sound c.requires.fits_room told c.header-points_at.ensures c.vertices-planes_at.ensures in record { d_le_dimensions = r.0; rows_ready = r.1 }
