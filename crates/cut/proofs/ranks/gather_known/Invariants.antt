@@ -1,0 +1,22 @@
+-- The invariant: what is left to gather, from what the rules have gathered so far, is the whole of it.
+use Prim.Native.Nat.{ℕ, ◌-◌, ◌≤◌}
+use mathlib.Core.Path.{◌≡◌, refl, ◌∙◌}
+use mathlib.Core.List.{List}
+use native.Mathlib.Omega.{arith}
+use Rattle.gathered.specs.Sets.{Sized, warning_in}
+use Rattle.ends.proofs.EndsGathered.{sized_more}
+use Rattle.cut.proofs.Higher.{Filling, gather_row, gather_most, filling_start, known_low, known_room, filling_on, filled}
+use borrow.Author.Rules.{rules}
+use Rattle.cut.proofs.ranks.gather_known.Given as goal
+
+pub record Gathering (es ms : List ℕ) (s : List (List ℕ)) (e n i : ℕ) (r : List (List ℕ)) : Type 0 where
+  pub most : i ≤ n
+  pub sized : Sized r i
+  pub filling : Filling es ms e i r
+  pub warning : warning_in r ≡ warning_in s
+
+abbrev pub invariant-loop-i : goal.invariant-loop-i
+invariant-loop-i l = Gathering l.elements l.known l.initial.room l.e.0 l.n l.i l.room
+
+abbrev pub decreases-loop-i : goal.decreases-loop-i
+decreases-loop-i l = l.n - l.i
