@@ -7,23 +7,25 @@ mod print;
 mod read;
 mod table;
 
-fn main() {
-    cases::ones(&table::ONES);
-    cases::pairs(&table::PAIRS);
-    cases::clamps(&table::CLAMPS);
-    cases::ends(&table::ENDS);
-    cases::edges(&table::EDGES);
-    cases::normals(&table::NORMALS);
-    cases::plane_pairs(&table::PLANE_PAIRS);
-    search();
-    cases::narrowings(&table::NARROWINGS);
+use std::io;
+
+fn main(rt: HostRuntime) -> io::Result<()> {
+    cases::ones(&rt, &table::ONES)?;
+    cases::pairs(&rt, &table::PAIRS)?;
+    cases::clamps(&rt, &table::CLAMPS)?;
+    cases::ends(&rt, &table::ENDS)?;
+    cases::edges(&rt, &table::EDGES)?;
+    cases::normals(&rt, &table::NORMALS)?;
+    cases::plane_pairs(&rt, &table::PLANE_PAIRS)?;
+    search(&rt)?;
+    cases::narrowings(&rt, &table::NARROWINGS)
 }
 
 // The searches, over the rows that they read.
-fn search() {
+fn search(rt: &HostRuntime) -> io::Result<()> {
     let points = read::rows(&table::POINTS);
     let planes = read::rows(&table::PLANES);
-    cases::rows(&planes);
-    cases::vertices(&points, &table::VERTEX_SEARCHES);
-    cases::hyperplanes(&planes, &table::PLANE_SEARCHES);
+    cases::rows(rt, &planes)?;
+    cases::vertices(rt, &points, &table::VERTEX_SEARCHES)?;
+    cases::hyperplanes(rt, &planes, &table::PLANE_SEARCHES)
 }

@@ -2,106 +2,115 @@
 use hypermath::narrow::narrowed_bits;
 use hypermath::{DistanceKind, FoundHyperplane, FoundVertex};
 use rules::{Crossing, EdgeTest, Hyperplane, HyperplaneId, Side, VertexId};
+use std::io::{self, Write};
 
 // What starts a line.
-pub fn name(text: &[u8]) {
-    io::write_all(1, text);
+pub fn name(rt: &HostRuntime, text: &[u8]) -> io::Result<()> {
+    rt.stdout().write_all(text)
 }
 
-pub fn line_end() {
-    io::write_all(1, b"\n");
+pub fn line_end(rt: &HostRuntime) -> io::Result<()> {
+    rt.stdout().write_all(b"\n")
 }
 
 // 16 hexadecimal digits: a NaN has no bits to show.
-pub fn float(x: f64) {
+pub fn float(rt: &HostRuntime, x: f64) -> io::Result<()> {
     if x != x {
-        io::write_all(1, b" nan");
-        return;
+        rt.stdout().write_all(b" nan")?;
+        return Ok(());
     }
-    io::write_all(1, b" ");
-    io::print_hex(1, f64::to_bits(x), 16);
+    rt.stdout().write_all(b" ")?;
+    print!(rt; "{:016x}", f64::to_bits(x))?;
+    Ok(())
 }
 
 // The 8 hexadecimal digits of the nearest float of 32 bits.
-pub fn narrowed(x: f64) {
+pub fn narrowed(rt: &HostRuntime, x: f64) -> io::Result<()> {
     if x != x {
-        io::write_all(1, b" nan");
-        return;
+        rt.stdout().write_all(b" nan")?;
+        return Ok(());
     }
-    io::write_all(1, b" ");
-    io::print_hex(1, narrowed_bits(x), 8);
+    rt.stdout().write_all(b" ")?;
+    print!(rt; "{:08x}", narrowed_bits(x))?;
+    Ok(())
 }
 
-pub fn point(p: [f64; 4]) {
-    float(p[0]);
-    float(p[1]);
-    float(p[2]);
-    float(p[3]);
+pub fn point(rt: &HostRuntime, p: [f64; 4]) -> io::Result<()> {
+    float(rt, p[0])?;
+    float(rt, p[1])?;
+    float(rt, p[2])?;
+    float(rt, p[3])
 }
 
-pub fn hyperplane(h: Hyperplane) {
+pub fn hyperplane(rt: &HostRuntime, h: Hyperplane) -> io::Result<()> {
     let normal = h.normal;
-    point(normal);
-    float(h.distance);
+    point(rt, normal)?;
+    float(rt, h.distance)
 }
 
-pub fn test(answer: bool) {
+pub fn test(rt: &HostRuntime, answer: bool) -> io::Result<()> {
     if answer {
-        io::write_all(1, b" 1");
+        rt.stdout().write_all(b" 1")?;
     } else {
-        io::write_all(1, b" 0");
+        rt.stdout().write_all(b" 0")?;
     }
+    Ok(())
 }
 
-pub fn side(s: Side) {
+pub fn side(rt: &HostRuntime, s: Side) -> io::Result<()> {
     match s {
-        Side::Inside => io::write_all(1, b" inside"),
-        Side::On => io::write_all(1, b" on"),
-        Side::Outside => io::write_all(1, b" outside"),
+        Side::Inside => rt.stdout().write_all(b" inside")?,
+        Side::On => rt.stdout().write_all(b" on")?,
+        Side::Outside => rt.stdout().write_all(b" outside")?,
     };
+    Ok(())
 }
 
-pub fn kind(k: DistanceKind) {
+pub fn kind(rt: &HostRuntime, k: DistanceKind) -> io::Result<()> {
     match k {
-        DistanceKind::Unfit => io::write_all(1, b" unfit"),
-        DistanceKind::Finite => io::write_all(1, b" finite"),
-        DistanceKind::PlusInfinity => io::write_all(1, b" plus_infinity"),
-        DistanceKind::MinusInfinity => io::write_all(1, b" minus_infinity"),
+        DistanceKind::Unfit => rt.stdout().write_all(b" unfit")?,
+        DistanceKind::Finite => rt.stdout().write_all(b" finite")?,
+        DistanceKind::PlusInfinity => rt.stdout().write_all(b" plus_infinity")?,
+        DistanceKind::MinusInfinity => rt.stdout().write_all(b" minus_infinity")?,
     };
+    Ok(())
 }
 
 // The crossing, and the warning.
-pub fn edge(e: EdgeTest) {
+pub fn edge(rt: &HostRuntime, e: EdgeTest) -> io::Result<()> {
     let c = e.crossing;
     match c {
-        Crossing::None => none(),
+        Crossing::None => none(rt)?,
         Crossing::At(t) => {
-            io::write_all(1, b" at");
-            float(t);
+            rt.stdout().write_all(b" at")?;
+            float(rt, t)?;
         },
     }
-    test(e.warning);
+    test(rt, e.warning)
 }
 
-pub fn vertex(v: FoundVertex) {
+pub fn vertex(rt: &HostRuntime, v: FoundVertex) -> io::Result<()> {
     match v {
-        FoundVertex::None => none(),
-        FoundVertex::At(id) => found(id.0),
+        FoundVertex::None => none(rt)?,
+        FoundVertex::At(id) => found(rt, id.0)?,
     }
+    Ok(())
 }
 
-pub fn found_hyperplane(h: FoundHyperplane) {
+pub fn found_hyperplane(rt: &HostRuntime, h: FoundHyperplane) -> io::Result<()> {
     match h {
-        FoundHyperplane::None => none(),
-        FoundHyperplane::At(id) => found(id.0),
+        FoundHyperplane::None => none(rt)?,
+        FoundHyperplane::At(id) => found(rt, id.0)?,
     }
+    Ok(())
 }
 
-fn none() {
-    io::write_all(1, b" none");
+fn none(rt: &HostRuntime) -> io::Result<()> {
+    rt.stdout().write_all(b" none")
 }
 
-fn found(k: usize) {
-    io::write_all(1, b" at ");
-    io::print_decimal(1, k as u64);
+fn found(rt: &HostRuntime, k: usize) -> io::Result<()> {
+    rt.stdout().write_all(b" at ")?;
+    print!(rt; "{}", k as u64)?;
+    Ok(())
 }

@@ -3,98 +3,105 @@ ghost use Rattle.std.specs.Prelude.{◌≤◌, length};
 
 use rules::{CutReply, ElementCutOutput, ElementOrNone, ListReply, Side, SideTest};
 use space::words::wide;
+use std::io::{self, Write};
 
-pub fn text(words: &[u8]) {
-    io::write_all(1, words);
+pub fn text(rt: &HostRuntime, words: &[u8]) -> io::Result<()> {
+    rt.stdout().write_all(words)
 }
 
-pub fn number(n: u64) {
-    text(b" ");
-    io::print_decimal(1, n);
+pub fn number(rt: &HostRuntime, n: u64) -> io::Result<()> {
+    text(rt, b" ")?;
+    print!(rt; "{}", n)?;
+    Ok(())
 }
 
-pub fn line_end() {
-    text(b"\n");
+pub fn line_end(rt: &HostRuntime) -> io::Result<()> {
+    text(rt, b"\n")
 }
 
 // How many elements, vertices and hyperplanes are in use.
-pub fn counts(words: &[u16]) {
+pub fn counts(rt: &HostRuntime, words: &[u16]) -> io::Result<()> {
     if words.len() == 4 {
-        number(wide(words[1]) as u64);
-        number(wide(words[2]) as u64);
-        number(wide(words[3]) as u64);
+        number(rt, wide(words[1]) as u64)?;
+        number(rt, wide(words[2]) as u64)?;
+        number(rt, wide(words[3]) as u64)?;
     }
-    line_end();
+    line_end(rt)
 }
 
-fn element(e: ElementOrNone) {
+fn element(rt: &HostRuntime, e: ElementOrNone) -> io::Result<()> {
     match e {
-        ElementOrNone::None => text(b" -"),
-        ElementOrNone::Some(id) => number(id.0 as u64),
+        ElementOrNone::None => text(rt, b" -")?,
+        ElementOrNone::Some(id) => number(rt, id.0 as u64)?,
     }
+    Ok(())
 }
 
-fn output(a: ElementCutOutput) {
+fn output(rt: &HostRuntime, a: ElementCutOutput) -> io::Result<()> {
     match a {
-        ElementCutOutput::Flush => text(b"flush"),
+        ElementCutOutput::Flush => text(rt, b"flush")?,
         ElementCutOutput::NonFlush {
             inside,
             outside,
             intersection,
         } => {
-            text(b"cut");
-            element(inside);
-            element(outside);
-            element(intersection);
+            text(rt, b"cut")?;
+            element(rt, inside)?;
+            element(rt, outside)?;
+            element(rt, intersection)?;
         }
     }
+    Ok(())
 }
 
-pub fn reply(r: CutReply) {
+pub fn reply(rt: &HostRuntime, r: CutReply) -> io::Result<()> {
     match r {
         CutReply::Refused(no) => {
-            text(b"refused");
-            number(no as u64);
+            text(rt, b"refused")?;
+            number(rt, no as u64)?;
         }
         CutReply::Answered { output: a, warning } => {
-            output(a);
+            output(rt, a)?;
             if warning {
-                text(b" close");
+                text(rt, b" close")?;
             }
         }
     }
+    Ok(())
 }
 
-pub fn side(t: SideTest) {
+pub fn side(rt: &HostRuntime, t: SideTest) -> io::Result<()> {
     let s = t.side;
     match s {
-        Side::Inside => text(b" inside"),
-        Side::On => text(b" on"),
-        Side::Outside => text(b" outside"),
+        Side::Inside => text(rt, b" inside")?,
+        Side::On => text(rt, b" on")?,
+        Side::Outside => text(rt, b" outside")?,
     }
+    Ok(())
 }
 
 // The front of a list.
-fn list(words: &[u16], n: usize)
+fn list(rt: &HostRuntime, words: &[u16], n: usize) -> io::Result<()>
     requires { n ≤ length words.now }
 {
     for i in 0..n {
-        number(wide(words[i]) as u64);
+        number(rt, wide(words[i]) as u64)?;
     }
+    Ok(())
 }
 
 // The numbers that a question gave.
-pub fn list_reply(r: ListReply, words: &[u16]) {
+pub fn list_reply(rt: &HostRuntime, r: ListReply, words: &[u16]) -> io::Result<()> {
     match r {
         ListReply::Refused(no) => {
-            text(b" refused");
-            number(no as u64);
+            text(rt, b" refused")?;
+            number(rt, no as u64)?;
         }
         ListReply::Listed(n) => {
             if n <= words.len() {
-                list(words, n);
+                list(rt, words, n)?;
             }
         }
     }
-    line_end();
+    line_end(rt)
 }

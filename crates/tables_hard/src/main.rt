@@ -8,13 +8,15 @@ mod print;
 mod read;
 mod table;
 
+use std::io;
 // Each slice has one word more than its room, so that one too long can be lent.
-fn main() {
+fn main(rt: HostRuntime) -> io::Result<()> {
     let mut counts = [0u16; 5];
     let mut points = [0.0; 1025];
     let mut planes = [0.0; 321];
     let mut elements = [0u16; 18433];
     cases::all(
+        &rt,
         &table::SOUND_CASES,
         &table::CUBE_CASES,
         &table::RUNS,
@@ -23,5 +25,5 @@ fn main() {
         &mut points,
         &mut planes,
         &mut elements,
-    );
+    )
 }
