@@ -2,12 +2,12 @@
 // than one of each beside the table. What a record's line is, crate `session` says.
 #![tactic(auto)]
 
-ghost use Rattle.std.specs.Prelude.{◌+◌, ◌≤◌, length};
+ghost use Rattle.std.specs.Prelude.{◌+◌, ◌≤◌, length, IfOk};
 ghost use Rattle.cutlist.specs.Places.{AboveNeither, InBlock, InBlocks, InOrder, BlockFilled, LineWritten, Flushed, BetweenBlocks};
 
-use libc::{STDIN_FILENO, STDOUT_FILENO};
 use session::TurnReply;
 use space::words::{COUNTS, ELEMENT_WORDS, PLANE_FLOATS, POINT_FLOATS};
+use std::io::{self, Read, Write};
 
 // How many bytes are read or written at a time.
 const BLOCK: usize = 65536;
@@ -45,22 +45,18 @@ fn to_front(input: &mut [u8], from: usize, n: usize)
 }
 
 // Behind the rest of the block goes what there is to read; nothing is the end of the session.
-fn fill(at: Place, input: &mut [u8]) -> Place
+fn fill(rt: &HostRuntime, at: Place, input: &mut [u8]) -> io::Result<Place>
     requires { InBlock at (length input.old) }
-    ensures { BlockFilled at (length input.new) result }
+    ensures { IfOk result (BlockFilled at (length input.new)) }
 {
     let from = at.from;
     let rest = at.end - from;
     if RECORD <= rest || at.is_over {
-        return at;
+        return Ok(at);
     }
     to_front(input, from, rest);
-    let got = libc::read(STDIN_FILENO, &mut input[rest..]);
-    if got < 0 {
-        os::fail(b"cutlist");
-    }
-    let n = io::count(got, &input[rest..]);
-    Place {
+    let n = rt.stdin().read(&mut input[rest..])?;
+    Ok(Place {
         from: 0,
         end: rest + n,
         line: at.line,
@@ -68,7 +64,7 @@ fn fill(at: Place, input: &mut [u8]) -> Place
         stands: at.stands,
         is_over: n == 0,
         is_stopped: at.is_stopped,
-    }
+    })
 }
 
 // Whether there is a whole record, or the last one, and room for its line.
@@ -93,7 +89,7 @@ fn go_on(at: Place, room: usize, record: usize, line: usize, stands: bool) -> Pl
         from: at.from + read,
         end: at.end,
         line: at.line + written,
-        offset: std::num::wrapping_add_u64(at.offset, read as u64),
+        offset: at.offset.wrapping_add(read as u64),
         stands,
         is_over: at.is_over,
         is_stopped: false,
@@ -178,24 +174,21 @@ fn records(
 }
 
 // The lines so far are written out. Where they cannot be, or where nothing is left, the program stops.
-fn flush(at: Place, output: &[u8]) -> Place
+fn flush(rt: &HostRuntime, at: Place, output: &[u8]) -> io::Result<Place>
     requires { at.line ≤ length output.now }
-    ensures { Flushed at result }
+    ensures { IfOk result (Flushed at) }
 {
     let line = at.line;
-    let is_written = io::write_all(STDOUT_FILENO, &output[..line]);
-    if !is_written {
-        os::fail(b"cutlist");
-    }
-    Place {
+    rt.stdout().write_all(&output[..line])?;
+    Ok(Place {
         from: at.from,
         end: at.end,
         line: 0,
         offset: at.offset,
         stands: at.stands,
         is_over: at.is_over,
-        is_stopped: at.is_stopped || !is_written || at.is_over && at.from == at.end,
-    }
+        is_stopped: at.is_stopped || at.is_over && at.from == at.end,
+    })
 }
 
 fn goes_on(at: Place) -> bool {
@@ -204,6 +197,7 @@ fn goes_on(at: Place) -> bool {
 
 // One block: read, gone through, and written out.
 fn block(
+    rt: &HostRuntime,
     at: Place,
     input: &mut [u8],
     output: &mut [u8],
@@ -211,24 +205,25 @@ fn block(
     points: &mut [f64],
     planes: &mut [f64],
     elements: &mut [u16],
-) -> Place
+) -> io::Result<Place>
     requires { BetweenBlocks at (length input.old) }
-    ensures { BetweenBlocks result (length input.new) }
+    ensures { IfOk result (λ place. BetweenBlocks place (length input.new)) }
 {
-    let filled = fill(at, input);
+    let filled = fill(rt, at, input)?;
     let gone = records(filled, input, output, counts, points, planes, elements);
-    flush(gone, output)
+    flush(rt, gone, output)
 }
 
 // A proved loop has to end, and nothing says that a session does: it counts down from a number that no run uses up.
 fn run(
+    rt: &HostRuntime,
     input: &mut [u8],
     output: &mut [u8],
     counts: &mut [u16],
     points: &mut [f64],
     planes: &mut [f64],
     elements: &mut [u16],
-) {
+) -> io::Result<()> {
     let mut at = Place {
         from: 0,
         end: 0,
@@ -240,12 +235,13 @@ fn run(
     };
     let mut turns = u64::MAX;
     while turns > 0 && goes_on(at) {
-        at = block(at, input, output, counts, points, planes, elements);
+        at = block(rt, at, input, output, counts, points, planes, elements)?;
         turns -= 1;
     }
+    Ok(())
 }
 
-fn main() {
+fn main(rt: HostRuntime) -> io::Result<()> {
     let mut input = [0u8; BLOCK];
     let mut output = [0u8; BLOCK];
     let mut counts = [0u16; COUNTS];
@@ -253,11 +249,12 @@ fn main() {
     let mut planes = [0.0; PLANE_FLOATS];
     let mut elements = [0u16; ELEMENT_WORDS];
     run(
+        &rt,
         &mut input,
         &mut output,
         &mut counts,
         &mut points,
         &mut planes,
         &mut elements,
-    );
+    )
 }

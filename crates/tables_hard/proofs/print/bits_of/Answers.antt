@@ -1,0 +1,13 @@
+-- `tables_hard::print::bits_of` is safe: a float that equals itself has bits. Assumes nothing.
+use Rattle.std.proofs.Common.{◌≡◌, false, not, T, subst, rules}
+use lib.Ieee.{Float, nan, inf, fin, ne, eq, is_nan}
+use Rattle.tables_hard.proofs.print.bits_of.Goals as goal
+
+is_number : (x : Float) → ne x x ≡ false → T (not (is_nan x))
+unfolding ne eq is_nan
+is_number nan h = subst T h tt
+is_number (inf s) h = tt
+is_number (fin s m e) h = tt
+
+pub float_to_bits-result : goal.float_to_bits-result
+float_to_bits-result c = is_number _ c.if-x.false
