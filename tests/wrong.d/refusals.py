@@ -7,7 +7,7 @@ import re
 ERROR = re.compile(r"^(\S+?):\d+:\d+: error(?:\[[\w-]+\])?: (.*(?:\n  .*)*)", re.M)
 DECLARATION = re.compile(r"`([^`\s]+)`: ")
 # the checker goes on past a declaration that it refused
-FOLLOWS = "was not admitted ("
+FOLLOWS = re.compile(r"was not admitted \(|which was rejected, was not checked")
 # two types, values or sides are not the same; a tactic finds that the goal does not follow
 FACTS = re.compile(
     r"the two (?:types|values|sides) (?:first )?differ|the two (?:types|values|sides) are |expected type `|does not hold \(this comparison"
@@ -19,7 +19,7 @@ LEFT = re.compile(r"^fn (\S+): no proof: .*; `search` did not prove (.*)", re.M)
 def errors(said):
     """The refusals of a check, those that follow from others left out: file, declaration, words."""
     for path, text in ERROR.findall(said):
-        if FOLLOWS in text:
+        if FOLLOWS.search(text):
             continue
         name = DECLARATION.match(text)
         yield path, name.group(1) if name else "", text[name.end():] if name else text
