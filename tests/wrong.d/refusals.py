@@ -12,6 +12,8 @@ FOLLOWS = re.compile(r"was not admitted \(|which was rejected, was not checked")
 FACTS = re.compile(
     r"the two (?:types|values|sides) (?:first )?differ|the two (?:types|values|sides) are |expected type `|does not hold \(this comparison"
     r"|`omega`: the goal does not follow|`search`: no proof of|`grind`: |`cc`: ")
+# another step of the function stands where one is to be
+STEPS = re.compile(r"(?:expected type|but this has type) `\S+\.Lts\.\S")
 # a function whose search leaves some of its goals, with no answers of its own for them
 LEFT = re.compile(r"^fn (\S+): no proof: .*; `search` did not prove (.*)", re.M)
 
@@ -26,7 +28,7 @@ def errors(said):
 
 
 def is_fact(declaration, words):
-    return bool(declaration) and bool(FACTS.search(words))
+    return bool(declaration) and bool(FACTS.search(words)) and not STEPS.search(words)
 
 
 def left_by_search(said):

@@ -26,8 +26,10 @@ def renew(crate, room):
 
 
 def checked(crate):
-    """What a check of a crate says that does not find it proved."""
-    said = subprocess.run(["rt", "check"], cwd=crate, stdout=subprocess.PIPE, stderr=subprocess.STDOUT, text=True).stdout
-    if "logic=not-proved" not in said:
-        sys.exit(f"{crate.name}: no verdict that it is not proved\n" + said[-2000:])
-    return said
+    """What a check of a crate says that does not find it proved. One that ends with no verdict, as where it was killed for memory, is made once more."""
+    for _ in range(2):
+        ran = subprocess.run(["rt", "check"], cwd=crate, stdout=subprocess.PIPE, stderr=subprocess.STDOUT, text=True)
+        if "logic=not-proved" in ran.stdout:
+            return ran.stdout
+        print(f"{crate.name}: a check ended with {ran.returncode} and no verdict that it is not proved", file=sys.stderr)
+    sys.exit(ran.stdout[-2000:])
