@@ -211,7 +211,8 @@ module _ (d : ℕ) (radius : Float) (low : d ≤ 4) where
     count = let m = ap length (chosen_more is_vertex d e c) ∙ length-append (chosen is_vertex d e) (e ∷ []) in omega (arith, m, q);
     points = λ before. s
         ∙ ap₂ (λ (a : List Float) (n : ℕ). sets a (n * 4) (four p)) before q
-        ∙ sym (put_behind plus_zero 4 1024 (pad plus_zero 4) (λ n. cube_point radius (digits d n)) point_long (chosen is_vertex d e) e (four p) (four_is p (ap length r ∙ point_long e) ∙ r) (let m = corner_room d e low l c in omega (arith, m)))
+        ∙ sym (put_behind plus_zero 4 1024 (pad plus_zero 4) (λ n. cube_point radius (digits d n)) point_long (chosen is_vertex d e) e (four p) (four_is p (ap length r ∙ point_long e) ∙ r)
+            (let m = corner_room d e low l c in omega (arith, m)))
         ∙ ap (λ (a : List ℕ). laid plus_zero 1024 (pad plus_zero 4) (map (λ n. cube_point radius (digits d n)) a)) (sym (chosen_more is_vertex d e c));
   }
 

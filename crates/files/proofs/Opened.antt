@@ -8,7 +8,7 @@ use Rattle.rules.specs.Lists.{if◌then◌else◌}
 use Rattle.rules.specs.Sound.{sound}
 use Rattle.rules.specs.Memory.{Memory, encode, right_size}
 use Rattle.rules.specs.Questions.{no_answer, answer}
-use Rattle.rules.specs.Files.{layout, judged, table_in, opened, open_reply}
+use Rattle.rules.specs.Files.{judged, table_in, opened, open_reply}
 use Rattle.files.specs.Judged.{Says, Judged}
 use Rattle.files.specs.Laid.{LayoutTold, breaks, stands}
 use Rattle.files.specs.declared.layout.Laid.{Laid}

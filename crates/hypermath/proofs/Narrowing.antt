@@ -1,7 +1,7 @@
 -- The 32 bits of a narrowed float. Rounding keeps 24 digits of a magnitude and counts those it drops; the bits of q * 2 ^ k smallest values are k times the
 -- field's weight and q, also where rounding carried a digit out, since that digit adds one to the field.
 use Prim.Native.Nat.{ℕ, zero, suc, ◌+◌, ◌-◌, ◌*◌, ◌/◌, ◌%◌, ◌^◌, ◌≤◌, ◌<◌, compare, Ordering}
-use mathlib.Core.Bool.{Bool, true, false, not, cond, false≢true, true≢false}
+use mathlib.Core.Bool.{Bool, true, false, cond, false≢true, true≢false}
 use mathlib.Core.Logic.{◌⊎◌, inl, inr}
 use mathlib.Core.Path.{◌≡◌, refl, sym, ap, ◌∙◌, subst}
 use native.Mathlib.Nat.{le_refl, le_trans, le_of_eq, le_antisymm, zero-add, lt_of_lt_of_le, lt_of_le_of_lt, lt_of_not-le, not-le_of_lt, lt-suc_self, lt_irrefl, le_of_suc-le-suc, le_of_mul-le-mul_right, mod-lt}

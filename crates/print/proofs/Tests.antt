@@ -14,7 +14,7 @@ use Rattle.rules.specs.Lists.{if◌then◌else◌, any}
 use Rattle.rules.specs.Table.{Table, is_primordial, element, rank, boundary, element_count}
 use Rattle.rules.specs.Memory.{Memory, decode, sound_memory}
 use Rattle.rules.specs.Questions.{no_answer, answer, primordial_facet}
-use Rattle.rules.specs.Replies.{facet_number, facet_value, asked, listed, facet_answer, primordial_facet_reply}
+use Rattle.rules.specs.Replies.{facet_number, facet_value, listed, facet_answer, primordial_facet_reply}
 use Rattle.rules.specs.Held.{memory_of}
 use Rattle.rules.specs.Print.{vertex_at, print_file, unless_facet, printed, print_reply}
 use Rattle.rules.specs.declared.ListReply.{ListReply}

@@ -4,11 +4,10 @@ use Prim.Native.Nat.{ℕ, zero, suc, ◌+◌, ◌-◌, ◌≤◌, ◌<◌}
 use mathlib.Core.Path.{◌≡◌, refl, sym, ap, ap₂, ◌∙◌, subst}
 use mathlib.Core.Bool.{Bool, true, false, ◌&&◌, true≢false, false≢true}
 use mathlib.Core.List.{List, [], ◌∷◌, ◌++◌, map}
-use native.Mathlib.Nat.{not-suc-le-zero}
 use native.Mathlib.Omega.{arith}
 use lib.Dec.{eqb}
-use lib.ListN.{length, get_or, take, drop, length-append}
-use lib.Seq.{drop-cons, take-append-le, length-take-le}
+use lib.ListN.{length, take, drop, length-append}
+use lib.Seq.{drop-cons}
 use Rattle.rules.specs.Lists.{if◌then◌else◌, keep, joined, up_from}
 use Rattle.rules.specs.Print.{Triangle, Way, way_at, fan, sides_of, goes, Fanned}
 use Rattle.rules.specs.Asking.{Chain}

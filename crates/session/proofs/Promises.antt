@@ -51,7 +51,7 @@ module _ (stands : Bool) (m : Memory) (bs room : List ℕ) where
     goes_on = λ j n v e. subst (λ (v : ℕ × ℕ × Bool). TurnTaken stands bs room (sets room 0 (text line)) v.0 v.1 v.2) (ap (value_or (k, length (text line), later)) e) (record {
       some_bytes = p;
       in_bytes = l;
-      in_room_lem = le_trans w wide;
+      in_room = le_trans w wide;
       size = length-sets room 0 (text line);
       rest = drop_sets (text line) room 0 (length (text line)) (omega arith);
       table = t;

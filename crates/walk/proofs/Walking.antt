@@ -14,7 +14,7 @@ use Rattle.rules.specs.Held.{AllOf}
 use Rattle.rules.specs.Walk.{edges_at, other_end, other_edge, walk, first_edge}
 use Rattle.rules.specs.Questions.{pairs}
 use Rattle.rules.proofs.WalkSteps.{none_again}
-use Rattle.rules.proofs.Laws.{if_true, if_false, either, and_left, and_right, le_test, not_eq, eqb_self}
+use Rattle.rules.proofs.Laws.{if_true, if_false, either, and_left, not_eq, eqb_self}
 use Rattle.rules.proofs.VertexSet.{keep_rises}
 use Rattle.rules.proofs.WalkRound.{taken}
 use Rattle.walk.specs.Walks.{low_end, high_end, has_end, end_across, edge_beside, no_edge, first_way, numbers_from}
