@@ -38,7 +38,8 @@ use Rattle.rules.specs.declared.TouchReply.TheVariants.{Refused}
 use Rattle.rules.proofs.AreaReplies.{sheet_by, few, used, flat, sheet_by_lem}
 use Rattle.rules.proofs.Built.{RuleNumber, refused_number}
 use Rattle.rules.proofs.CubeCalls.{cube_done}
-use Rattle.rules.proofs.CutLists.{as_many, list_by, list_by_lem}
+use Rattle.rules.proofs.AfterList.{list_by, list_by_lem}
+use Rattle.rules.proofs.CutLists.{as_many}
 use Rattle.rules.proofs.FileReplies.{accepted, taken, open_accepted, opens_roomier, layout_alone}
 use Rattle.rules.proofs.Good.{sound_good}
 use Rattle.rules.proofs.Laws.{and_true, and_left, and_right, or_case, le_test, test_le, test_eq, eq_test, if_true}
