@@ -1,5 +1,6 @@
 -- One element of the cube more: its row, and its point or its hyperplane, stand behind the others.
 -- How many come before it is its number, so nothing is counted twice.
+use Rattle.std.specs.Prelude.{if◌then◌else◌}
 use Prim.Native.Nat.{ℕ, zero, suc, ◌+◌, ◌*◌, ◌^◌, ◌/◌, ◌-◌, ◌≤◌, ◌<◌}
 use mathlib.Core.Bool.{Bool, true, false, not, cond, ◌&&◌}
 use mathlib.Core.Option.{Option, some, none}
@@ -13,7 +14,7 @@ use lib.ListN.{length, get_or, set, take, drop, replicate, length-replicate, len
 use lib.Seq.{sets, sets-eq, drop-length, take-suc, take-length, length-take-le, take-append_seam}
 use lib.Ieee.{Float, neg}
 use Rattle.rules.specs.Limits.{desk, no_plane}
-use Rattle.rules.specs.Lists.{if◌then◌else◌, pad, up_to, keep}
+use Rattle.rules.specs.Lists.{pad, up_to, keep}
 use Rattle.rules.specs.Floats.{plus_zero, one}
 use Rattle.rules.specs.Table.{Element, corner, polytope, boundary_of, primordials}
 use Rattle.rules.specs.Memory.{element_row, plane_row, plane_named}

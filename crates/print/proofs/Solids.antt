@@ -1,4 +1,5 @@
 -- A piece put into the room, or 12: the head, and the faces behind it, are the file.
+use Rattle.std.specs.Prelude.{if◌then◌else◌}
 use Prim.Native.Nat.{ℕ, ◌+◌, ◌*◌, ◌≤◌, ◌<◌}
 use mathlib.Core.Path.{◌≡◌, sym, ap, ◌∙◌}
 use mathlib.Core.Bool.{Bool}
@@ -8,7 +9,7 @@ use native.Mathlib.Omega.{arith}
 use lib.ListN.{length, drop, replicate, length-append}
 use lib.Seq.{sets-eq}
 use lib.Ieee.{Float}
-use Rattle.rules.specs.Lists.{if◌then◌else◌, joined}
+use Rattle.rules.specs.Lists.{joined}
 use Rattle.rules.specs.Bytes.{bytes_of}
 use Rattle.rules.specs.Questions.{answer}
 use Rattle.rules.specs.Replies.{listed}

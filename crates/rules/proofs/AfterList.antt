@@ -1,4 +1,5 @@
 -- What each single cut keeps of the memory, a list of cuts keeps: a refused list leaves it, and each cut of one that is made goes on from the cut before it.
+use Rattle.std.specs.Prelude.{if◌then◌else◌}
 use Prim.Native.Nat.{ℕ, suc}
 use mathlib.Core.Bool.{Bool, true, false, not}
 use mathlib.Core.List.{List, [], ◌∷◌}
@@ -6,7 +7,6 @@ use mathlib.Core.Path.{◌≡◌, refl, sym, subst}
 use lib.Dec.{ltb}
 use lib.ListN.{length, set}
 use Rattle.rules.specs.Limits.{Limits}
-use Rattle.rules.specs.Lists.{if◌then◌else◌}
 use Rattle.rules.specs.Memory.{Memory, sound_memory}
 use Rattle.rules.specs.Replies.{output_word, cut_reply}
 use Rattle.rules.specs.CutLists.{CutList, list_fits, ListedCut, cuts_of, going_on, cuts_from, cut_list_reply}

@@ -1,5 +1,6 @@
 -- Demand 3 at the public replies, for whole sequences of calls: every memory that follows a sound one is sound and goes on from it,
 -- so what was answered once is answered again, from the table that is there.
+use Rattle.std.specs.Prelude.{if◌then◌else◌}
 use Prim.Native.Nat.{ℕ, ◌<◌, suc, zero}
 use mathlib.Core.Bool.{not, true, Bool, false}
 use mathlib.Core.List.{List, [], ◌∷◌}
@@ -8,7 +9,6 @@ use mathlib.Core.Path.{◌≡◌, refl, subst, sym, ◌∙◌, ap, ap₂}
 use native.Mathlib.Nat.{lt_irrefl, le_trans, suc-ne-zero}
 use lib.Ieee.{inf, fin, Float, nan}
 use Rattle.rules.specs.Limits.{Limits, Readable}
-use Rattle.rules.specs.Lists.{if◌then◌else◌}
 use Rattle.rules.specs.Table.{Table, rank}
 use Rattle.rules.specs.Memory.{Memory, sound_memory, decode}
 use Rattle.rules.specs.Cut.{Params, cut, done, cut_at_distance, corner_output}

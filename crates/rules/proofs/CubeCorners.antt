@@ -1,5 +1,6 @@
 -- No vertex of a cube matches an earlier one: two of its corners have other digits, so on some axis they lie a diameter apart.
 -- With what stays unmatched, a crossing is never entered as two corners.
+use Rattle.std.specs.Prelude.{if◌then◌else◌}
 use Prim.Native.Nat.{ℕ, zero, suc, ◌%◌, ◌/◌, ◌<◌, ◌^◌}
 use mathlib.Core.Bool.{true, Bool, false}
 use mathlib.Core.List.{◌∷◌, List, [], map}
@@ -9,7 +10,7 @@ use native.Mathlib.Omega.{arith}
 use lib.Dec.{ltb, eqb}
 use lib.Ieee.{Float}
 use lib.ListN.{length, get_or, length-map}
-use Rattle.rules.specs.Lists.{all, if◌then◌else◌, keep, up_to}
+use Rattle.rules.specs.Lists.{all, keep, up_to}
 use Rattle.rules.specs.Floats.{point_matches}
 use Rattle.rules.specs.Cube.{digits, is_vertex, radius_fits, chosen, cube, cube_point}
 use Rattle.rules.specs.Promises.{Unmatched}

@@ -1,4 +1,5 @@
 -- A print file that is given: its triangles are the fans of the faces, which are walked, and so many; each has 50 bytes, since a walk names vertices in use.
+use Rattle.std.specs.Prelude.{if◌then◌else◌}
 use Prim.Native.Nat.{ℕ, zero, suc, ◌+◌, ◌*◌, ◌-◌, ◌^◌, ◌≤◌, ◌<◌, zero-le}
 use mathlib.Core.Path.{◌≡◌, refl, sym, ap, ap₂, ◌∙◌, subst}
 use mathlib.Core.Bool.{Bool, true, false, not, ◌&&◌, false≢true}
@@ -10,7 +11,7 @@ use lib.Dec.{leb, ltb, eqb}
 use lib.ListN.{length, get_or, drop, replicate, length-append, length-map}
 use lib.Ieee.{Float, binary32, to_bits}
 use Rattle.rules.specs.Limits.{Limits, Fileable}
-use Rattle.rules.specs.Lists.{if◌then◌else◌, all, any, joined, member, up_from}
+use Rattle.rules.specs.Lists.{all, any, joined, member, up_from}
 use Rattle.rules.specs.Floats.{within, farthest}
 use Rattle.rules.specs.Bytes.{number_at, bytes_of}
 use Rattle.rules.specs.Table.{Element, corner, polytope, Table, vertex_of, is_primordial, element, rank, boundary, boundary_of, element_count}

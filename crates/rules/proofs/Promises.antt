@@ -1,4 +1,5 @@
 -- Every promise of specs/Promises holds, in every room that can be read back, has place for its cubes, and has numbers that a file can hold: the record is put together from the files that prove its parts.
+use Rattle.std.specs.Prelude.{if◌then◌else◌}
 use Prim.Native.Nat.{ℕ, zero, suc, ◌<◌}
 use mathlib.Core.Bool.{true, Bool, false}
 use mathlib.Core.Option.{none, some}
@@ -6,7 +7,6 @@ use mathlib.Core.Path.{◌≡◌, refl, ap, ◌∙◌, subst}
 use lib.Dec.{lit≤}
 use lib.ListN.{get_or}
 use Rattle.rules.specs.Limits.{Limits, HasCubes, Readable, Fileable, desk, large, Roomier}
-use Rattle.rules.specs.Lists.{if◌then◌else◌}
 use Rattle.rules.specs.Memory.{Memory, decode}
 use Rattle.rules.specs.Cut.{Outcome, refused, done, next, give, add_plane, corner_output}
 use Rattle.rules.specs.Replies.{cut_number, cut_values, output_values, element_value, is_kept, cut_by, params_of, written, cut_reply}

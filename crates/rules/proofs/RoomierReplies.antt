@@ -1,4 +1,5 @@
 -- Every public reply in a roomier room: the table is the same, so each reply's tests are, but for those that compare with the room.
+use Rattle.std.specs.Prelude.{if◌then◌else◌}
 use Prim.Native.Nat.{ℕ, ◌≤◌, ◌<◌, zero, suc, ◌+◌, ◌-◌, ◌*◌}
 use mathlib.Core.Bool.{Bool, true, false, not, ◌&&◌, ◌||◌, false≢true}
 use mathlib.Core.List.{List, [], ◌∷◌, ◌++◌, map}
@@ -11,7 +12,7 @@ use lib.IntN.{ℤ}
 use lib.ListN.{length, length-map, length-drop, take, drop, replicate}
 use lib.Seq.{length-take-le, take-append-le, drop-append-le}
 use Rattle.rules.specs.Limits.{Limits, Readable, HasCubes, Roomier}
-use Rattle.rules.specs.Lists.{if◌then◌else◌, all, member, up_from}
+use Rattle.rules.specs.Lists.{all, member, up_from}
 use Rattle.rules.specs.Floats.{plus_zero, same_bits, unit}
 use Rattle.rules.specs.Table.{Plane, Table, element_count}
 use Rattle.rules.specs.Memory.{Memory, plane_width, encode, decode, right_size, sound_memory}

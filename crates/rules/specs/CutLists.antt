@@ -1,8 +1,8 @@
 -- Document 02, order 5: a list of cuts in one call: the cuts that it asks for, the whole reply, and what is promised of it. Definitions only.
-use Rattle.std.specs.Prelude.{ℕ, suc, ◌*◌, ◌/◌, ◌%◌, ◌≤◌, ◌<◌, ◌≡◌, Bool, true, not, ◌&&◌, List, [], ◌∷◌, map, leb, ltb, eqb, length, get_or, set, take, drop, Float}
+use Rattle.std.specs.Prelude.{ℕ, suc, ◌*◌, ◌/◌, ◌%◌, ◌≤◌, ◌<◌, ◌≡◌, Bool, true, not, ◌&&◌, List, [], ◌∷◌, map, leb, ltb, eqb, length, get_or, set, take, drop, Float, if◌then◌else◌}
 use Rattle.std.proofs.Math.Option.{Option, none, some}
 use Rattle.rules.specs.Limits.{Limits}
-use Rattle.rules.specs.Lists.{if◌then◌else◌, member, up_to}
+use Rattle.rules.specs.Lists.{member, up_to}
 use Rattle.rules.specs.Floats.{plus_zero}
 use Rattle.rules.specs.Table.{ElementNumber}
 use Rattle.rules.specs.Memory.{Memory, plane_width, sound_memory}

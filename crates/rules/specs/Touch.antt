@@ -1,8 +1,8 @@
 -- Document 02, order 6: where the corners of an element lie to a plane, without a cut; the whole reply, and what is promised of it. Definitions only.
-use Rattle.std.specs.Prelude.{ℕ, suc, ◌≤◌, ◌<◌, ◌≡◌, Bool, true, false, not, ◌&&◌, ◌||◌, List, [], ◌∷◌, map, ltb, length, get_or, take, Float}
+use Rattle.std.specs.Prelude.{ℕ, suc, ◌≤◌, ◌<◌, ◌≡◌, Bool, true, false, not, ◌&&◌, ◌||◌, List, [], ◌∷◌, map, ltb, length, get_or, take, Float, if◌then◌else◌}
 use Rattle.std.specs.Float.{nan, inf, fin}
 use Rattle.rules.specs.Limits.{Limits}
-use Rattle.rules.specs.Lists.{if◌then◌else◌, any, member}
+use Rattle.rules.specs.Lists.{any, member}
 use Rattle.rules.specs.Floats.{signed_distance, side_of, close_call}
 use Rattle.rules.specs.Table.{ElementNumber, VertexNumber, Plane, Table, rank, element_count, point_at}
 use Rattle.rules.specs.Sound.{sound, sound_plane}

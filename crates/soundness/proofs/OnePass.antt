@@ -1,6 +1,7 @@
 -- The one loop over the rows in use. What is asked of all rows is asked of those that are rowsLeft, where k is the vertex that is
 -- to be named next: records, vertices in order and elements are three tests of the first row and of the rows after it. What
 -- stands past a boundary is asked for all rows at once, at the end.
+use Rattle.std.specs.Prelude.{if◌then◌else◌}
 use Prim.Native.Nat.{ℕ, suc, ◌+◌, ◌-◌, ◌*◌, ◌≤◌, ◌<◌}
 use mathlib.Core.Bool.{Bool, true, false, cond, ◌&&◌}
 use mathlib.Core.List.{List, ◌∷◌}
@@ -11,7 +12,7 @@ use native.Mathlib.Omega.{arith}
 use lib.Dec.{eqb}
 use lib.ListN.{get_or, take, drop}
 use Rattle.rules.specs.Limits.{desk}
-use Rattle.rules.specs.Lists.{all, rows, all_from, if◌then◌else◌}
+use Rattle.rules.specs.Lists.{all, rows, all_from}
 use Rattle.rules.proofs.Indexed.{rows_on}
 use Rattle.rules.proofs.Laws.{and_left, and_right, test_eq, not_eq}
 use Rattle.soundness.specs.Words.{record_words, head_words, past_blank, corner_named, in_order, element_sound, corners_sound, elements_sound, row_sound, rows_in_use}
