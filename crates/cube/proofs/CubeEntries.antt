@@ -213,7 +213,7 @@ module _ (d : ℕ) (radius : Float) (low : d ≤ 4) where
     points = λ before. s
         ∙ ap₂ (λ (a : List Float) (n : ℕ). sets a (n * 4) (four p)) before q
         ∙ sym (put_behind plus_zero 4 1024 (pad plus_zero 4) (λ n. cube_point radius (digits d n)) point_long (chosen is_vertex d e) e (four p) (four_is p (ap length r ∙ point_long e) ∙ r)
-            (let m = corner_room d e low l c in omega (arith, m)))
+        (let m = corner_room d e low l c in omega (arith, m)))
         ∙ ap (λ (a : List ℕ). laid plus_zero 1024 (pad plus_zero 4) (map (λ n. cube_point radius (digits d n)) a)) (sym (chosen_more is_vertex d e c));
   }
 

@@ -66,7 +66,7 @@ module _ (es : List ℕ) (d n v h : ℕ) where
   pass_no clear k i t l q =
       let o : ℕ = cond (eqb (get_or (row i) 0 0) 0) 1 0 in
       sym (t ∙ ap (λ (b : Bool). clear && b) (on k i o l refl ∙ ap (λ (b : Bool). (past_blank (row i) && b) && rows_left (k + o) (i + 1)) q ∙ ap (λ (b : Bool). b && rows_left (k + o) (i + 1)) (and_zero (past_blank (row i))))
-          ∙ and_zero clear)
+      ∙ and_zero clear)
 
   end : {reply : Bool} (clear : Bool) (k i : ℕ) → reply ≡ (clear && rows_left k i) → n ≤ i → (clear && eqb k v) ≡ reply
   end clear k i t l =

@@ -16,12 +16,12 @@ loop-k-init c = sought_start (λ row. divider_of c.args.d (hyperplane_of row)) (
 pub returns-then-hyperplanes_match : goal.returns-then-hyperplanes_match
 returns-then-hyperplanes_match c = let same = sym (ap (λ (g : Hyperplane). plane_matches (divider_of c.args.d g) (divider_of c.args.d c.args.h)) c.hyperplane_at-g.ensures) ∙ sym c.hyperplanes_match.ensures in
     sought_here (λ row. divider_of c.args.d (hyperplane_of row)) (λ g. plane_matches g (divider_of c.args.d c.args.h)) (1 + axes) c.args.n c.args.planes.now c.loop-k.k c.loop-k-test.true c.loop-k.invariant
-        (same ∙ c.if-hyperplanes_match.true)
+    (same ∙ c.if-hyperplanes_match.true)
 
 pub loop-k-preserved : goal.loop-k-preserved
 loop-k-preserved c = let same = sym (ap (λ (g : Hyperplane). plane_matches (divider_of c.args.d g) (divider_of c.args.d c.args.h)) c.hyperplane_at-g.ensures) ∙ sym c.hyperplanes_match.ensures in
     sought_on (λ row. divider_of c.args.d (hyperplane_of row)) (λ g. plane_matches g (divider_of c.args.d c.args.h)) (1 + axes) c.args.n c.args.planes.now c.loop-k.k c.loop-k-test.true c.loop-k.invariant
-        (same ∙ c.if-hyperplanes_match.false)
+    (same ∙ c.if-hyperplanes_match.false)
 
 pub returns : goal.returns
 returns c = sought_none (λ row. divider_of c.args.d (hyperplane_of row)) (λ g. plane_matches g (divider_of c.args.d c.args.h)) (1 + axes) c.args.n c.args.planes.now c.loop-k.k (omega arith) c.loop-k.invariant

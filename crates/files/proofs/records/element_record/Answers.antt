@@ -20,8 +20,11 @@ numbers-requires c = let l = put_length c.mark-end.ensures in
     let w = numbers_part 1 c.args.elements.now (c.args.e * 36) (c.args.e * 36 + 2) (omega (arith, c.requires.stored)) in
     let low = count_low c.args.e c.args.elements.now c.requires.stored c.requires.clear in
     let r = element_room_lem c.args.e c.args.elements.now c.requires in
-    record { part = record { rising = omega arith; within = omega (arith, c.wide-n.ensures.value, c.requires.stored, low) }; fits_room = omega
-        (arith, c.wide-n.ensures.value, l, c.mark-end.ensures.place, k, c.numbers-middle.ensures.place, w, r) }
+    record {
+      part = record { rising = omega arith; within = omega (arith, c.wide-n.ensures.value, c.requires.stored, low) };
+      fits_room = omega
+          (arith, c.wide-n.ensures.value, l, c.mark-end.ensures.place, k, c.numbers-middle.ensures.place, w, r);
+    }
 
 pub returns : goal.returns
 returns c = element_put c.args.e c.args.elements.now c.requires _ c.wide-n.ensures.value c.mark-end.ensures c.numbers-middle.ensures c.numbers.ensures

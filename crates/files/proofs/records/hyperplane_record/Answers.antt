@@ -12,8 +12,12 @@ mark-end-requires c = let r = plane_room_lem c.args.d c.args.i c.args.planes.now
 pub floats-last-requires : goal.floats-last-requires
 floats-last-requires c = let l = put_length c.mark-end.ensures in
     let r = plane_room_lem c.args.d c.args.i c.args.planes.now c.requires.d_le_dimensions c.requires.row_ready in
-    record { part = plane_part c.args.d c.args.i c.args.planes.now c.requires.d_le_dimensions c.requires.row_ready; are_numbers =
-        plane_numbers c.args.d c.args.i c.args.planes.now c.requires.d_le_dimensions c.requires.row_ready; fits_room = omega (arith, l, c.mark-end.ensures.place, r) }
+    record {
+      part = plane_part c.args.d c.args.i c.args.planes.now c.requires.d_le_dimensions c.requires.row_ready;
+      are_numbers =
+          plane_numbers c.args.d c.args.i c.args.planes.now c.requires.d_le_dimensions c.requires.row_ready;
+      fits_room = omega (arith, l, c.mark-end.ensures.place, r);
+    }
 
 pub float-requires : goal.float-requires
 float-requires c = let l = put_length c.mark-end.ensures in

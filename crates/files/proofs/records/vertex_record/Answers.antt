@@ -11,8 +11,12 @@ mark-end-requires c = let r = point_room_lem c.args.d c.args.i c.args.points.now
 pub floats-requires : goal.floats-requires
 floats-requires c = let l = put_length c.mark-end.ensures in
     let r = point_room_lem c.args.d c.args.i c.args.points.now c.requires.d_le_dimensions c.requires.row_ready in
-    record { part = front_part 4 c.args.i c.args.points.now c.requires.row_ready.stored c.args.d c.requires.d_le_dimensions; are_numbers =
-        point_numbers c.args.d c.args.i c.args.points.now c.requires.d_le_dimensions c.requires.row_ready; fits_room = omega (arith, l, c.mark-end.ensures.place, r) }
+    record {
+      part = front_part 4 c.args.i c.args.points.now c.requires.row_ready.stored c.args.d c.requires.d_le_dimensions;
+      are_numbers =
+          point_numbers c.args.d c.args.i c.args.points.now c.requires.d_le_dimensions c.requires.row_ready;
+      fits_room = omega (arith, l, c.mark-end.ensures.place, r);
+    }
 
 pub returns : goal.returns
 returns c = point_put c.args.d c.args.i c.args.points.now c.requires.d_le_dimensions c.requires.row_ready c.mark-end.ensures c.floats.ensures

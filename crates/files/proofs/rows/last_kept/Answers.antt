@@ -30,7 +30,7 @@ same_as_kept-requires c =
     c.loop-x.invariant c.requires.says.table c.requires.says.whole in
     let m = met.room in
     kept_ready c.args.bytes.now c.args.laid c.requires.says.table (c.requires.keeps c.requires.says.table c.requires.says.whole) (says_fits c.requires.says) (omega (arith, m, c.loop-x-test.true))
-        (says_few c.requires.says c.requires.few) c.args.row.now c.requires.long
+    (says_few c.requires.says c.requires.few) c.args.row.now c.requires.long
 
 pub overflow_add-x : goal.overflow_add-x
 overflow_add-x c =
@@ -71,7 +71,7 @@ loop-x-preserved c = λ t w.
     let m = c.loop-x.invariant t w in
     let h : c.loop-x.x - 1 < c.args.n = (let r = m.room in omega (arith, r, c.loop-x-test.true)) in
     let own = kept_own c.args.bytes.now c.args.laid t (c.requires.keeps t w) (subst (Fits desk) (one_table c.requires.says.whole w) (says_fits c.requires.says)) h
-        (subst (λ (u : Table). c.args.n ≤ element_count u) (one_table c.requires.says.whole w) (says_few c.requires.says c.requires.few)) in
+    (subst (λ (u : Table). c.args.n ≤ element_count u) (one_table c.requires.says.whole w) (says_few c.requires.says c.requires.few)) in
     let same = c.same_as_kept.ensures ∙ ap (alike eqb c.args.row.now) own in
     let on = met_on (elements_of desk t) c.args.n c.args.row.now c.args.index.now c.loop-x.met c.loop-x.x c.wide-x-in-loop-x.result (c.requires.earlier t w) m c.loop-x-test.true c.wide-x-in-loop-x.ensures.value
     {P = c.same_as_kept.result ≡ true} {Q = c.same_as_kept.result ≡ false} c.if-same_as_kept.met in

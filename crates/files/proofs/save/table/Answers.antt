@@ -75,4 +75,4 @@ hyperplanes-elements_at-requires c =
       hyperplanes = c.wide-h.ensures.value;
     } in
     let r = planes_ready c.args.counts.now c.args.points.now c.args.planes.now c.args.elements.now c.requires.is_sound c.requires.fits_room told c.header-points_at.ensures c.vertices-planes_at.ensures in record
-        { d_le_dimensions = r.0; rows_ready = r.1 }
+    { d_le_dimensions = r.0; rows_ready = r.1 }

@@ -32,8 +32,15 @@ loop-i-init c = record {
 }
 
 pub stored_row_sound-requires : goal.stored_row_sound-requires
-stored_row_sound-requires c = record { long = c.requires.long; in_room = omega (arith, c.requires.fits, c.loop-i-test.true); edges = c.loop-i.invariant.edges; unmet = c.loop-i.invariant.unmet; mask =
-    c.loop-i.invariant.mask; places = c.loop-i.invariant.places }
+stored_row_sound-requires c = record {
+  long = c.requires.long;
+  in_room = omega (arith, c.requires.fits, c.loop-i-test.true);
+  edges = c.loop-i.invariant.edges;
+  unmet = c.loop-i.invariant.unmet;
+  mask =
+      c.loop-i.invariant.mask;
+  places = c.loop-i.invariant.places;
+}
 
 pub shape_of-index-then-not-stored_row_sound : goal.shape_of-index-then-not-stored_row_sound
 shape_of-index-then-not-stored_row_sound c = c.loop-i.invariant.indexed.long ∙ sym c.requires.empty.long

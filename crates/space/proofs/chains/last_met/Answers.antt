@@ -39,7 +39,7 @@ loop-x-smaller c = met_less c.args.elements.now c.args.n (take row_width (drop c
 pub loop-x-preserved : goal.loop-x-preserved
 loop-x-preserved c =
     let on = met_on c.args.elements.now c.args.n (take row_width (drop c.args.from c.args.words.now)) c.args.index.now c.loop-x.met c.loop-x.x c.wide-x-in-loop-x.result c.requires.index c.loop-x.invariant c.loop-x-test.true
-        c.wide-x-in-loop-x.ensures.value
+    c.wide-x-in-loop-x.ensures.value
     {P = c.same_row.result ≡ true} {Q = c.same_row.result ≡ false} c.if-same_row.met in
     elim c.if-same_row.branch [
       | then-same_row w ↦ on (inl (w.if-same_row.true, w.met-is)) (λ p. sym c.same_row.ensures ∙ p) (λ q. sym c.same_row.ensures ∙ q)
