@@ -8,6 +8,7 @@ import math
 import struct
 import sys
 import unittest
+from ctypes import c_double, c_uint8, c_uint16, c_uint64
 from fractions import Fraction
 
 import spoonvelvet
@@ -241,6 +242,22 @@ class Lists(Case):
         self.assertEqual(t, square())
         t._counts[0] = 5
         self.stopped(3, None, t.cut_all, [ListedCut.slice(at_x(0.0), SQUARE)] * 65)
+
+    def test_3_then_26_then_12(self):
+        def reply(t, kept, roots, room):
+            dividers = (c_double * (raw.PLANE_WIDTH * kept))(*[1.0, 0.0, 0.0, 0.0, 0.0] * kept)
+            answers = (c_uint64 * room)(*[7] * room)
+            lent = table._pairs(dividers, (c_uint8 * kept)(*[3] * kept), (c_uint16 * roots)(*[8] * roots), answers)
+            number = raw.cut_all(*t._lent(), *lent)
+            self.assertEqual(answers[:], [7] * room)
+            return number
+
+        t = square()
+        lists = (65, 65, 64), (65, 65, 65), (2, 1, 0), (64, 64, 63), (2, 2, 1)
+        self.assertEqual([reply(t, *lengths) for lengths in lists], [26, 26, 26, 12, 12])
+        self.assertEqual(t, square())
+        t._counts[0] = 5
+        self.assertEqual([reply(t, *lengths) for lengths in lists], [3] * 5)
 
     def test_it_is_a_refusal_with_words(self):
         self.refused(4, square().cut_all, [ListedCut.slice(at_x(0.0), ElementId(9))])

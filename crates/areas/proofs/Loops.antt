@@ -1,5 +1,6 @@
 -- Loops over lists: what is left to go over, with what has been, makes up the whole. Laws over plain lists.
-use Rattle.std.proofs.Common.{◌≡◌, ℕ, zero, suc, ◌+◌, ◌-◌, ◌*◌, ◌^◌, ◌<◌, ◌≤◌, Bool, true, false, ◌&&◌, List, [], ◌∷◌, ◌++◌, map, length, get_or, take, drop, set, ℤ, pos, ◌+ℤ◌, nat_abs, sym, refl, ap, ◌∙◌, subst, ap₂, le_trans, le_of_eq, add-zero, add_assoc, zero-add, add-one, arith, drop_of_length-le, length-take-le, drop-cons, get_or-take, take-suc}
+use Rattle.std.proofs.Common.{◌≡◌, ℕ, suc, ◌+◌, ◌*◌, ◌^◌, ◌<◌, ◌≤◌, Bool, true, false, ◌&&◌, List, [], ◌∷◌, ◌++◌, map, length, get_or, take, drop, set, ℤ, ◌+ℤ◌, nat_abs, sym, ap, ◌∙◌, ap₂, le_trans}
+use Rattle.std.proofs.Common.{le_of_eq, add-zero, add_assoc, zero-add, add-one, arith, drop_of_length-le, length-take-le, drop-cons, get_or-take}
 use lib.IntN.{+ℤ_assoc, +ℤ_idr}
 use lib.Ieee.{Float}
 use lib.Seq.{sets}

@@ -1,9 +1,7 @@
 -- The parts of a ring: the cut is walked once each way, and a corner in line with its edge adds nothing. The rest is the order of a sum.
-use Rattle.std.proofs.Common.{◌≡◌, ℕ, suc, ◌+◌, true, false, List, [], ◌∷◌, ◌++◌, ℤ, pos, negsuc, ◌+ℤ◌, ◌-ℤ◌, ◌*ℤ◌, neg_ℤ, nat_abs, sym, refl, ap, ◌∙◌, ap₂, true≢false, arith}
+use Rattle.std.proofs.Common.{◌≡◌, suc, ◌+◌, List, [], ◌∷◌, ◌++◌, ℤ, pos, negsuc, ◌+ℤ◌, ◌*ℤ◌, neg_ℤ, sym, refl, ap, ◌∙◌, ap₂, true≢false, arith}
 use mathlib.Core.Bool.{false≢true}
 use lib.IntN.{+ℤ_idl, +ℤ_idr, +ℤ_assoc, +ℤ_comm, +ℤ_invr, +ℤ_invl, neg_ℤ-neg_ℤ, neg_ℤ-+ℤ}
-use lib.Signed.{non_neg}
-use Rattle.rules.specs.Areas.{turn}
 use Rattle.areas.specs.Promises.{Spot, turn_to, turns_to, ring_area, last_of, InLine, PartsAddUp, SizesAddUp, Promises}
 
 -- ---- the order of a sum

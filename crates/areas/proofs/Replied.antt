@@ -1,17 +1,19 @@
 -- The reply of an area sheet, test by test: each way the code goes is a case of it.
-use Rattle.std.proofs.Common.{◌≡◌, ℕ, zero, suc, ◌+◌, ◌*◌, ◌<◌, ◌≤◌, Bool, true, false, not, ◌&&◌, eqb, ltb, List, [], ◌∷◌, ◌++◌, map, length, get_or, drop, ℤ, sym, refl, ap, ◌∙◌, le_trans, le_of_eq, le_of_suc-le-suc, not-suc-le-zero, zero-add, length-append}
+use Rattle.std.specs.Prelude.{if◌then◌else◌}
+use Rattle.std.proofs.Common.{◌≡◌, ℕ, zero, suc, ◌+◌, ◌*◌, ◌<◌, ◌≤◌, Bool, true, false, not, ◌&&◌, eqb, ltb, List, [], ◌∷◌, ◌++◌, map, length, get_or, drop, ℤ, sym, refl, ap, ◌∙◌, le_trans, le_of_eq}
+use Rattle.std.proofs.Common.{le_of_suc-le-suc, not-suc-le-zero, zero-add, length-append}
 use lib.ListN.{length-map}
 use lib.Ieee.{Float}
 use lib.Seq.{sets, sets-eq}
 use Rattle.rules.specs.Limits.{desk}
-use Rattle.rules.specs.Lists.{if◌then◌else◌, all}
+use Rattle.rules.specs.Lists.{all}
 use Rattle.rules.specs.Table.{Table, element_count, rank}
 use Rattle.rules.specs.Sound.{sound}
 use Rattle.rules.specs.Memory.{sound_memory}
 use Rattle.rules.specs.Held.{Holds, memory_of}
 use Rattle.rules.specs.Questions.{Asked, no_answer, answer}
 use Rattle.rules.specs.Replies.{listed}
-use Rattle.rules.specs.Areas.{most_pieces, piece_on_grid, sheet, areas_reply}
+use Rattle.rules.specs.Areas.{most_pieces, piece_on_grid, areas_reply}
 use Rattle.rules.specs.declared.ListReply.{ListReply}
 use Rattle.rules.specs.declared.ListReply.TheVariants.{Refused, Listed}
 use Rattle.rules.proofs.AreaReplies.{sheet_by, few, used, flat, sheet_by_lem}

@@ -1,8 +1,9 @@
 -- A sound memory's words say what its table does: the corners of a piece, its walk and its area, and so the sheet; then the reply, test by test.
-use Rattle.std.proofs.Common.{◌≡◌, ℕ, zero, suc, ◌+◌, ◌*◌, ◌<◌, ◌≤◌, Bool, true, false, not, ◌&&◌, eqb, ltb, leb, List, [], ◌∷◌, ◌++◌, map, length, get_or, ℤ, pos, ◌+ℤ◌, sym, refl, ap, ◌∙◌, subst, ap₂, suc-le-suc, zero-le, le_trans, le_of_eq, le_of_suc-le-suc, not-suc-le-zero, add-zero, arith, lit≤}
+use Rattle.std.proofs.Common.{◌≡◌, ℕ, zero, suc, ◌+◌, ◌*◌, ◌<◌, ◌≤◌, Bool, true, false, ◌&&◌, eqb, ltb, List, [], ◌∷◌, ◌++◌, map, length, get_or, ℤ, pos, ◌+ℤ◌, sym, refl, ap, ◌∙◌, subst, ap₂}
+use Rattle.std.proofs.Common.{suc-le-suc, zero-le, le_trans, le_of_eq, le_of_suc-le-suc, not-suc-le-zero, add-zero, arith, lit≤}
 use lib.Ieee.{Float, nan}
 use Rattle.rules.specs.Limits.{desk}
-use Rattle.rules.specs.Lists.{if◌then◌else◌, all, joined}
+use Rattle.rules.specs.Lists.{all, joined}
 use Rattle.rules.specs.Floats.{plus_zero, within, farthest}
 use Rattle.rules.specs.Table.{Table, Element, corner, polytope, element, element_count, rank, rank_of, boundary, vertex_of}
 use Rattle.rules.specs.Sound.{sound, sound_point}

@@ -1,5 +1,6 @@
 -- Signed numbers of 64 bits: one that is small enough is read back from its bits as it was.
-use Rattle.std.proofs.Common.{◌≡◌, ℕ, zero, suc, ◌+◌, ◌*◌, ◌^◌, ◌<◌, ◌≤◌, true, false, ltb, ℤ, pos, negsuc, ◌+ℤ◌, ◌-ℤ◌, ◌*ℤ◌, neg_ℤ, nat_abs, sym, refl, ap, ◌∙◌, subst, ap₂, true≢false, le_trans, le_of_eq, arith, lit≤, ltb→lt, to_z-of_z, w64, SFits, to_z, of_z}
+use Rattle.std.proofs.Common.{◌≡◌, ℕ, zero, suc, ◌+◌, ◌*◌, ◌^◌, ◌<◌, ◌≤◌, true, false, ltb, ℤ, pos, negsuc, ◌+ℤ◌, ◌-ℤ◌, ◌*ℤ◌, neg_ℤ, nat_abs, sym, refl, ap, ◌∙◌, subst, ap₂, true≢false, le_trans}
+use Rattle.std.proofs.Common.{le_of_eq, arith, lit≤, ltb→lt, to_z-of_z, w64, SFits, to_z, of_z}
 use lib.IntN.{+ℤ_idl}
 use lib.Signed.{lt_z}
 use Rattle.rules.specs.Areas.{turn}

@@ -1,5 +1,8 @@
 -- A coordinate in whole units. Multiplied by 1,024 a float only moves its exponent, so the product is exact; its whole part is below 2^27, so it is exact as a float again.
-use Rattle.std.proofs.Common.{◌≡◌, ℕ, zero, suc, ◌+◌, ◌-◌, ◌*◌, ◌/◌, ◌%◌, ◌^◌, ◌<◌, ◌≤◌, min, Bool, true, false, cond, ◌&&◌, ◌||◌, T, eqb, ltb, leb, ◌⊎◌, ℤ, pos, negsuc, neg_ℤ, nat_abs, sym, refl, ap, ◌∙◌, subst, ap₂, inl, inr, ⊎_elim, le_trans, le_of_eq, lt_of_lt_of_le, le_of_suc-le-suc, lt_of_le_of_lt, mul-le-mul_right, mul_assoc, mul_comm, add-mul, mul-pos, one-mul, lt_of_not-le, div-add-mod', zero-mul, mul-one, mul_right_comm, not-le_of_lt, le_of_mul-le-mul_right, arith, lit≤, le→leb, ltb→lt, lt→ltb, leb→le, pow_pos, pow_mono, pow-add, shl_lt}
+use Rattle.std.proofs.Common.{◌≡◌, ℕ, zero, suc, ◌+◌, ◌-◌, ◌*◌, ◌/◌, ◌%◌, ◌^◌, ◌<◌, ◌≤◌, min, Bool, true, false, cond, ◌&&◌, ◌||◌, T, eqb, ltb, leb, ◌⊎◌, ℤ, pos, negsuc, neg_ℤ, nat_abs, sym, refl, ap}
+use Rattle.std.proofs.Common.{◌∙◌, subst, ap₂, inl, inr, ⊎_elim, le_trans, le_of_eq, lt_of_lt_of_le, le_of_suc-le-suc, lt_of_le_of_lt, mul-le-mul_right, mul_assoc, mul_comm, add-mul, mul-pos, one-mul}
+use Rattle.std.proofs.Common.{lt_of_not-le, div-add-mod', zero-mul, mul-one, mul_right_comm, not-le_of_lt, le_of_mul-le-mul_right, arith, lit≤, le→leb, ltb→lt, lt→ltb, leb→le, pow_pos, pow_mono}
+use Rattle.std.proofs.Common.{pow-add, shl_lt}
 use mathlib.Core.Bool.{beq, false≢true}
 use native.Mathlib.Nat.{eq_of_mul-eq-mul_right, div-le_of_le-mul}
 use lib.Pow.{pow-lt}

@@ -1,5 +1,5 @@
 -- The walk of a piece in a list of 64 numbers: its front is the walk, whose corners fit, and so is its area small.
-use Rattle.std.proofs.Common.{◌≡◌, ℕ, zero, suc, ◌+◌, ◌*◌, ◌^◌, ◌<◌, ◌≤◌, List, [], ◌∷◌, map, length, get_or, take, nat_abs, sym, refl, ap, ◌∙◌, subst, suc-le-suc, zero-le, le_trans, le_of_eq, zero-add, arith, get_or-take, take_at}
+use Rattle.std.proofs.Common.{◌≡◌, ℕ, suc, ◌+◌, ◌*◌, ◌^◌, ◌<◌, ◌≤◌, List, [], ◌∷◌, map, length, get_or, take, nat_abs, sym, refl, ap, ◌∙◌, subst, suc-le-suc, zero-le, le_trans, le_of_eq, zero-add, arith, get_or-take, take_at}
 use lib.Ieee.{Float}
 use lib.Seq.{sets, sets-eq, length-sets}
 use Rattle.rules.specs.Areas.{sizes}
@@ -8,7 +8,7 @@ use Rattle.walk.specs.Boundaries.{row_boundary, BoundaryFits}
 use Rattle.walk.specs.Walks.{words_in_order, lowest_end, no_edge, first_way}
 use Rattle.walk.proofs.Boundaries.{row_size}
 use Rattle.walk.proofs.Orders.{two_each}
-use Rattle.areas.specs.Words.{corner_turn, turns_along, walk_of, word_area, CornerFits, CornersFit, StepFits, StepsFit, PieceFits, PiecesFit}
+use Rattle.areas.specs.Words.{corner_turn, turns_along, walk_of, word_area, CornerFits, CornersFit, StepsFit, PieceFits, PiecesFit}
 use Rattle.areas.proofs.Loops.{corner_turn_few}
 
 -- ---- a walk whose corners fit

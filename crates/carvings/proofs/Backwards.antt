@@ -32,7 +32,7 @@ module _ (L : Limits) (old : ℕ) (t u : Table) (f : ElementNumber → ElementNu
       go false e = absurd (let w = not_le (suc x) (element_count u) e in let z : ⊥ = omega (arith, w, l) in z)
 
   undone : (e : ElementNumber) → e < element_count t → back (f e) ≡ e
-  undone e l = let c = comes_from (f e) (h.in_use_lem e l) in h.once (back (f e)) e c.0 l c.1
+  undone e l = let c = comes_from (f e) (h.in_use e l) in h.once (back (f e)) e c.0 l c.1
 
   old_back : (e : ElementNumber) → e < old → back e ≡ e
   old_back e l =
@@ -61,9 +61,9 @@ module _ (L : Limits) (old : ℕ) (t u : Table) (f : ElementNumber → ElementNu
     count = sym h.count;
     old_stays = old_back;
     appended = λ x l k. appended_back x l k (ltb (back x) old) refl;
-    in_use_lem = λ x l. (comes_from x l).0;
+    in_use = λ x l. (comes_from x l).0;
     once = λ x y l k e. sym (comes_from x l).1 ∙ ap f e ∙ (comes_from y k).1;
-    onto = λ e l. (f e, h.in_use_lem e l, undone e l);
+    onto = λ e l. (f e, h.in_use e l, undone e l);
     elements = λ x l. let c = comes_from x l in sym (element_back (back x) c.0) ∙ ap (λ (y : ElementNumber). renumbered back (element u y)) c.1;
   }
 

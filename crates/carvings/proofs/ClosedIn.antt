@@ -1,5 +1,6 @@
 -- Test 7 is the same for a boundary and for that boundary renumbered: a corner lies on as many of the edges, and they hang together.
 -- A renumbering may change which corner is the lowest and which neighbour is the lower; one ring, as RingWalked says it, does not name either.
+use Rattle.std.specs.Prelude.{if◌then◌else◌}
 use Prim.Native.Nat.{ℕ, suc, zero, ◌+◌, ◌<◌, suc-le-suc, zero-le}
 use mathlib.Core.Bool.{Bool, true, false, true≢false, ◌||◌, ◌&&◌}
 use mathlib.Core.List.{List, [], ◌∷◌, ◌++◌}
@@ -8,7 +9,7 @@ use native.Mathlib.Nat.{le_of_lt, not-suc-le-zero}
 use native.Mathlib.Omega.{arith}
 use lib.Dec.{ltb, eqb}
 use lib.ListN.{length, length-append}
-use Rattle.rules.specs.Lists.{if◌then◌else◌, all, keep, member, occurrences, with_member, rises, any}
+use Rattle.rules.specs.Lists.{all, keep, member, occurrences, with_member, rises, any}
 use Rattle.rules.specs.Table.{Table, element, element_count, boundary, boundary_of}
 use Rattle.rules.specs.Walk.{ends_of, around, each_once, each_twice}
 use Rattle.rules.specs.Sound.{closed}

@@ -1,5 +1,6 @@
 -- A table B that both carvings leave as it is has, renumbered, all that a cut adds to a table inside it, whichever sides that cut keeps; and so that cut is not refused.
 -- Here one step after another, and one entry; the rules of the cut are in ContainsCut.
+use Rattle.std.specs.Prelude.{if◌then◌else◌}
 use Prim.Native.Nat.{ℕ, suc, ◌<◌, ◌≤◌}
 use mathlib.Core.Bool.{Bool, true, false}
 use mathlib.Core.List.{List, [], ◌∷◌, ◌++◌, append_assoc}
@@ -11,7 +12,7 @@ use lib.Dec.{ltb, leb, eqb}
 use lib.Ieee.{Float}
 use lib.ListN.{length}
 use Rattle.rules.specs.Limits.{Limits}
-use Rattle.rules.specs.Lists.{if◌then◌else◌, find, rises, member}
+use Rattle.rules.specs.Lists.{find, rises, member}
 use Rattle.rules.specs.Floats.{point_matches}
 use Rattle.rules.specs.Table.{Element, corner, polytope, Table, element, element_count, boundary_of, same_element, rank, boundary}
 use Rattle.rules.specs.Sound.{closed}

@@ -1,4 +1,5 @@
 -- Rules 4 to 7 on a table inside B: the cut of an element adds only what B has, and is not refused. By induction over the rank.
+use Rattle.std.specs.Prelude.{if◌then◌else◌}
 use Prim.Native.Nat.{◌-◌, ℕ, suc, zero, ◌<◌, suc-le-suc, zero-le}
 use mathlib.Core.Bool.{Bool, true, false}
 use mathlib.Core.List.{List, [], ◌∷◌, map}
@@ -9,7 +10,6 @@ use lib.Dec.{eqb}
 use lib.Ieee.{Float}
 use lib.ListN.{get_or}
 use Rattle.rules.specs.Limits.{Limits}
-use Rattle.rules.specs.Lists.{if◌then◌else◌}
 use Rattle.rules.specs.Floats.{crossing_point, crossing_of, side_of, side_test}
 use Rattle.rules.specs.Table.{Element, Plane, Table, element, element_count, boundary_of, point_at, rank_of, plane_of, is_primordial}
 use Rattle.rules.specs.Cut.{done, give, keeping, Step, next, add_polytope, add_vertex, Cutting, Gathered, gathering, nothing_yet, including, side_of_cut, rule7, rule6, new_intersection}

@@ -70,7 +70,7 @@ module _ (T t u : Table) (f g : ℕ → ℕ) (at : Apart t) (au : Apart u) (hf :
     count = let x = no_more f (element_count t) (element_count u) hf.used hf.once in let y = no_more g (element_count u) (element_count t) hg.used hg.once in omega (arith, x, y);
     old_stays = hf.old;
     appended = λ e l k. appended e l k (ltb (f e) (element_count T)) refl;
-    in_use_lem = hf.used;
+    in_use = hf.used;
     once = hf.once;
     onto = λ x l. (g x, hg.used x l, comes_back T u t g f au hg hf (suc x) x (le_refl (suc x)) l);
     elements = hf.content;

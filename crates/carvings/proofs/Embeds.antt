@@ -1,5 +1,6 @@
 -- One table inside another, by a renumbering: each element of the first stands in the second with its boundary renumbered.
 -- It goes on when the first gets an element that the second has.
+use Rattle.std.specs.Prelude.{if◌then◌else◌}
 use Prim.Native.Nat.{ℕ, suc, zero, ◌<◌, ◌≤◌}
 use mathlib.Core.Bool.{Bool, true, false, false≢true}
 use mathlib.Core.List.{List, [], ◌∷◌}
@@ -11,7 +12,7 @@ use lib.Dec.{ltb, eqb}
 use lib.ListN.{length, get_or}
 use lib.Seq.{get_or-append_seam}
 use Rattle.rules.specs.Limits.{Limits}
-use Rattle.rules.specs.Lists.{if◌then◌else◌, find_from, find, rises}
+use Rattle.rules.specs.Lists.{find_from, find, rises}
 use Rattle.rules.specs.Table.{Element, corner, polytope, Table, element, element_count, boundary, boundary_of, same_element}
 use Rattle.rules.specs.Sound.{sound_element}
 use Rattle.rules.specs.Cut.{Outcome, done, refused, add_element, share_element, with_element}

@@ -1,4 +1,5 @@
 -- A set of numbers renumbered, and an element renumbered: two sets with the same members are one list, so what is renumbered and put in order again is known by its members.
+use Rattle.std.specs.Prelude.{if◌then◌else◌}
 use Prim.Native.Nat.{ℕ, suc, ◌<◌}
 use mathlib.Core.Bool.{Bool, true, false, ◌||◌, false≢true, true≢false}
 use mathlib.Core.List.{List, [], ◌∷◌}
@@ -7,7 +8,7 @@ use native.Mathlib.Nat.{lt_irrefl}
 use native.Mathlib.Omega.{arith}
 use lib.Dec.{ltb, eqb}
 use lib.ListN.{length}
-use Rattle.rules.specs.Lists.{if◌then◌else◌, all, any, member, with_member, rises}
+use Rattle.rules.specs.Lists.{all, any, member, with_member, rises}
 use Rattle.rules.specs.Table.{Element, corner, polytope, boundary_of}
 use Rattle.carvings.specs.Renumbered.{image, renumbered}
 use Rattle.rules.proofs.Extends.{Below}

@@ -252,8 +252,8 @@ module _ (L : Limits) (h : Plane) (root : ℕ) (t : Table) (can : Sliceable L h 
     on_T = record {
       good = kept.good;
       planes = kept.value;
-      used = le_trans can.in_use_lem (count_more kept.extends);
-      ranked = rank_same t T root kept.extends can.in_use_lem ∙ (one_more_lem (rank t root) can.no_corner).1;
+      used = le_trans can.in_use (count_more kept.extends);
+      ranked = rank_same t T root kept.extends can.in_use ∙ (one_more_lem (rank t root) can.no_corner).1;
     }
 
     -- it finds the hyperplane again on every later table

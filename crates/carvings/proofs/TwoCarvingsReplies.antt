@@ -70,7 +70,7 @@ module _ (L : Limits) (R : Readable L) where
     is_sound = sound_table L m p.sound;
     divider = divider_sound L (decode L m).dimension h (le_test (decode L m).dimension L.dimensions good.high) p.fits (not_infinite h.distance finite);
     finite = finite;
-    in_use_lem = p.used;
+    in_use = p.used;
     no_corner = ranked;
   }
 

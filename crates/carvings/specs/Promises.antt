@@ -20,7 +20,7 @@ pub record Sliceable (L : Limits) (h : Plane) (root : ElementNumber) (t : Table)
   pub is_sound : sound L t ≡ true
   pub divider : sound_plane t.dimension h ≡ true
   pub finite : Finite h.distance
-  pub in_use_lem : root < element_count t
+  pub in_use : root < element_count t
   pub no_corner : 0 < rank t root
 
 -- where none of the three cuts is refused, carving for the inside and after it for the outside leaves the slice's table

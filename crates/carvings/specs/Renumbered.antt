@@ -39,7 +39,7 @@ pub record Renumbering (old : ℕ) (t u : Table) (f : ElementNumber → ElementN
   pub count : element_count u ≡ element_count t
   pub old_stays : (e : ElementNumber) → e < old → f e ≡ e
   pub appended : (e : ElementNumber) → old ≤ e → e < element_count t → old ≤ f e
-  pub in_use_lem : (e : ElementNumber) → e < element_count t → f e < element_count u
+  pub in_use : (e : ElementNumber) → e < element_count t → f e < element_count u
   pub once : (e e' : ElementNumber) → e < element_count t → e' < element_count t → f e ≡ f e' → e ≡ e'
   pub onto : (x : ElementNumber) → x < element_count u → (e : ElementNumber) × (e < element_count t) × (f e ≡ x)
   pub elements : (e : ElementNumber) → e < element_count t → element u (f e) ≡ renumbered f (element t e)

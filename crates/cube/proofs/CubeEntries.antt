@@ -1,5 +1,6 @@
 -- One element of the cube more: its row, and its point or its hyperplane, stand behind the others.
 -- How many come before it is its number, so nothing is counted twice.
+use Rattle.std.specs.Prelude.{if◌then◌else◌}
 use Prim.Native.Nat.{ℕ, zero, suc, ◌+◌, ◌*◌, ◌^◌, ◌/◌, ◌-◌, ◌≤◌, ◌<◌}
 use mathlib.Core.Bool.{Bool, true, false, not, cond, ◌&&◌}
 use mathlib.Core.Option.{Option, some, none}
@@ -13,7 +14,7 @@ use lib.ListN.{length, get_or, set, take, drop, replicate, length-replicate, len
 use lib.Seq.{sets, sets-eq, drop-length, take-suc, take-length, length-take-le, take-append_seam}
 use lib.Ieee.{Float, neg}
 use Rattle.rules.specs.Limits.{desk, no_plane}
-use Rattle.rules.specs.Lists.{if◌then◌else◌, pad, up_to, keep}
+use Rattle.rules.specs.Lists.{pad, up_to, keep}
 use Rattle.rules.specs.Floats.{plus_zero, one}
 use Rattle.rules.specs.Table.{Element, corner, polytope, boundary_of, primordials}
 use Rattle.rules.specs.Memory.{element_row, plane_row, plane_named}
@@ -211,7 +212,8 @@ module _ (d : ℕ) (radius : Float) (low : d ≤ 4) where
     count = let m = ap length (chosen_more is_vertex d e c) ∙ length-append (chosen is_vertex d e) (e ∷ []) in omega (arith, m, q);
     points = λ before. s
         ∙ ap₂ (λ (a : List Float) (n : ℕ). sets a (n * 4) (four p)) before q
-        ∙ sym (put_behind plus_zero 4 1024 (pad plus_zero 4) (λ n. cube_point radius (digits d n)) point_long (chosen is_vertex d e) e (four p) (four_is p (ap length r ∙ point_long e) ∙ r) (let m = corner_room d e low l c in omega (arith, m)))
+        ∙ sym (put_behind plus_zero 4 1024 (pad plus_zero 4) (λ n. cube_point radius (digits d n)) point_long (chosen is_vertex d e) e (four p) (four_is p (ap length r ∙ point_long e) ∙ r)
+        (let m = corner_room d e low l c in omega (arith, m)))
         ∙ ap (λ (a : List ℕ). laid plus_zero 1024 (pad plus_zero 4) (map (λ n. cube_point radius (digits d n)) a)) (sym (chosen_more is_vertex d e c));
   }
 

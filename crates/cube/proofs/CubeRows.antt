@@ -1,5 +1,6 @@
 -- A cube's element read digit by digit: its digits from the lowest axis up, its boundary from the highest axis down.
 -- A digit's place is worth a power of 3, so a face is the element's number less one or two of them.
+use Rattle.std.specs.Prelude.{if◌then◌else◌}
 use Prim.Native.Nat.{ℕ, suc, ◌+◌, ◌-◌, ◌*◌, ◌^◌, ◌/◌, ◌%◌, ◌≤◌, ◌<◌}
 use mathlib.Core.Bool.{Bool, true, false}
 use mathlib.Core.Path.{◌≡◌, refl, sym, ap, ap₂, subst, ◌∙◌}
@@ -10,7 +11,7 @@ use native.Mathlib.Omega.{arith}
 use lib.Dec.{eqb}
 use lib.ListN.{length, get_or, set, take, drop, replicate, length-append, length-drop, length-map, get_or-append}
 use lib.Seq.{take-suc, drop-cons, drop-length, length-take-le, take-length, split_at}
-use Rattle.rules.specs.Lists.{if◌then◌else◌, pad}
+use Rattle.rules.specs.Lists.{pad}
 use Rattle.rules.specs.Cube.{digits, of_digits, faces}
 use Rattle.rules.proofs.CubeDigits.{digits_length, of_digits_lem}
 use Rattle.rules.proofs.Growing.{length_snoc}

@@ -1,7 +1,7 @@
 -- For contracts over the elements of the primordial cube, their boundaries and their floats. Definitions only.
-use Rattle.std.specs.Prelude.{ℕ, ◌-◌, ◌*◌, ◌^◌, ◌<◌, ◌≤◌, ◌≡◌, List, [], ◌∷◌, ◌++◌, eqb, length, Float}
+use Rattle.std.specs.Prelude.{ℕ, ◌-◌, ◌*◌, ◌^◌, ◌<◌, ◌≤◌, ◌≡◌, List, [], ◌∷◌, ◌++◌, eqb, length, Float, if◌then◌else◌}
 use Rattle.std.specs.Float.Ieee.{neg}
-use Rattle.rules.specs.Lists.{if◌then◌else◌, pad}
+use Rattle.rules.specs.Lists.{pad}
 use Rattle.rules.specs.Floats.{plus_zero, one}
 use Rattle.rules.specs.Cube.{digits, twos}
 use Rattle.cube.specs.declared.Faces.{Faces}

@@ -1,4 +1,5 @@
 -- A file has few enough bytes for their count to stand above the reply's number.
+use Rattle.std.specs.Prelude.{if◌then◌else◌}
 use Prim.Native.Nat.{ℕ, ◌≤◌}
 use mathlib.Core.Bool.{Bool, true, false, not}
 use mathlib.Core.List.{List, ◌++◌}
@@ -6,7 +7,6 @@ use mathlib.Core.Path.{◌≡◌, refl}
 use lib.Dec.{leb}
 use lib.ListN.{length, drop}
 use Rattle.rules.specs.Limits.{desk}
-use Rattle.rules.specs.Lists.{if◌then◌else◌}
 use Rattle.rules.specs.Memory.{Memory, decode, sound_memory}
 use Rattle.rules.specs.Questions.{no_answer, answer}
 use Rattle.rules.specs.Replies.{listed}

@@ -1,5 +1,6 @@
 -- No list that a question gives has more numbers than there is room for elements, and no file more bytes than two of them count: its size fits above the reply's number.
-use Prim.Native.Nat.{ℕ, zero, suc, ◌+◌, ◌*◌, ◌≤◌, ◌<◌}
+use Rattle.std.specs.Prelude.{if◌then◌else◌}
+use Prim.Native.Nat.{ℕ, zero, suc, ◌*◌, ◌≤◌, ◌<◌}
 use mathlib.Core.Bool.{Bool, true, false, not, ◌&&◌}
 use mathlib.Core.List.{List, [], ◌∷◌, ◌++◌, map}
 use mathlib.Core.Path.{◌≡◌, refl, sym, ap, subst, ◌∙◌}
@@ -8,11 +9,11 @@ use native.Mathlib.Omega.{arith}
 use lib.Dec.{leb, ltb, eqb, lit≤}
 use lib.ListN.{length, drop, length-map}
 use Rattle.rules.specs.Limits.{desk}
-use Rattle.rules.specs.Lists.{if◌then◌else◌, all, keep, up_to, joined}
+use Rattle.rules.specs.Lists.{all, keep, up_to, joined}
 use Rattle.rules.specs.Table.{Table, vertex_of, element, rank, boundary, boundary_of, corner, element_count}
 use Rattle.rules.specs.Memory.{Memory, decode, sound_memory}
 use Rattle.rules.specs.Questions.{Asked, no_answer, answer, is_below, sub_elements, with_rank, vertex_set, common_with_rank, some_or, greatest_from, greatest_common, pairs, edges_in_order}
-use Rattle.rules.specs.Walk.{walk, other_end, other_edge, first_edge, start_of, each_once}
+use Rattle.rules.specs.Walk.{walk, first_edge, start_of, each_once}
 use Rattle.rules.specs.Replies.{asked, listed, sub_elements_reply, with_rank_reply, vertex_set_reply, greatest_common_reply, in_numbers, edges_in_order_reply}
 use Rattle.rules.specs.declared.ListReply.{ListReply}
 use Rattle.rules.specs.declared.ListReply.TheVariants.{Refused, Listed}

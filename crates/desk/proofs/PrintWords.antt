@@ -1,8 +1,7 @@
 -- A print file has few enough bytes for their count to stand above the reply's number: 32 faces of at most 30 triangles.
-use Prim.Native.Nat.{ℕ, ◌+◌, ◌*◌, ◌-◌, ◌≤◌, zero-le}
+use Prim.Native.Nat.{ℕ, ◌*◌, ◌-◌, ◌≤◌, zero-le}
 use mathlib.Core.Bool.{Bool, true, false, not}
 use mathlib.Core.List.{List, [], ◌∷◌, map}
-use mathlib.Core.Option.{none, some}
 use mathlib.Core.Path.{◌≡◌, refl, sym, ap, ◌∙◌}
 use native.Mathlib.Omega.{arith}
 use lib.Dec.{lit≤, leb}
@@ -11,9 +10,8 @@ use Rattle.rules.specs.Limits.{desk, Fileable}
 use Rattle.rules.specs.Table.{corner, Table, boundary_of, boundary}
 use Rattle.rules.specs.Memory.{Memory, decode, sound_memory}
 use Rattle.rules.specs.Questions.{Asked, no_answer}
-use Rattle.rules.specs.Replies.{asked, list_size, listed}
-use Rattle.rules.specs.Lists.{if◌then◌else◌, all}
-use Rattle.rules.specs.Print.{total_of, triangle_count, printed, print_reply}
+use Rattle.rules.specs.Replies.{list_size, listed}
+use Rattle.rules.specs.Print.{total_of, print_reply}
 use Rattle.rules.specs.declared.ListReply.{ListReply}
 use Rattle.rules.specs.declared.ListReply.TheVariants.{Refused, Listed}
 use Rattle.rules.proofs.Each.{all_get_d}

@@ -1,4 +1,5 @@
 -- No element has a rank above the dimension, so every rank from 5 on has the same list, the empty one: 255 and all that no byte holds.
+use Rattle.std.specs.Prelude.{if◌then◌else◌}
 use Prim.Native.Nat.{ℕ, zero, suc, ◌≤◌, ◌<◌, zero-le}
 use mathlib.Core.Bool.{Bool, true, false, not, cond}
 use mathlib.Core.List.{List, [], ◌∷◌}
@@ -7,7 +8,7 @@ use native.Mathlib.Omega.{arith}
 use lib.Dec.{leb, ltb, eqb, lit≤}
 use lib.ListN.{get_or}
 use Rattle.rules.specs.Limits.{desk}
-use Rattle.rules.specs.Lists.{if◌then◌else◌, all, keep, all_from}
+use Rattle.rules.specs.Lists.{all, keep, all_from}
 use Rattle.rules.specs.Table.{Table, Element, corner, polytope, rank_of, rank, element_count}
 use Rattle.rules.specs.Sound.{sound_element}
 use Rattle.rules.specs.Memory.{Memory, decode, sound_memory}

@@ -1,4 +1,5 @@
 -- No more corners are tested than there is room for elements, so their count fits above the answer.
+use Rattle.std.specs.Prelude.{if◌then◌else◌}
 use Prim.Native.Nat.{ℕ, suc, ◌+◌, ◌*◌, ◌≤◌}
 use mathlib.Core.Bool.{Bool, true, false, not, ◌&&◌, ◌||◌}
 use mathlib.Core.List.{List, [], ◌∷◌}
@@ -9,7 +10,6 @@ use lib.Dec.{ltb, lit≤}
 use lib.Ieee.{Float, nan, inf, fin}
 use lib.ListN.{length, length-map}
 use Rattle.rules.specs.Limits.{desk}
-use Rattle.rules.specs.Lists.{if◌then◌else◌}
 use Rattle.rules.specs.Table.{Table, Plane, vertex_of, element, element_count}
 use Rattle.rules.specs.Memory.{Memory, decode, sound_memory}
 use Rattle.rules.specs.Questions.{with_rank, vertex_set}

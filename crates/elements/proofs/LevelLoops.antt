@@ -10,7 +10,7 @@ use lib.Count.{count_trailing_zeros}
 use lib.Dec.{eqb, ltb}
 use lib.ListN.{length, get_or}
 use Rattle.rules.specs.Limits.{desk}
-use Rattle.rules.specs.Lists.{all, any, member, up_to}
+use Rattle.rules.specs.Lists.{all, member, up_to}
 use Rattle.rules.specs.Table.{Table, element_count, rank, boundary}
 use Rattle.rules.specs.Questions.{is_below}
 use Rattle.rules.specs.Asking.{Reaches, itself, lower, border}

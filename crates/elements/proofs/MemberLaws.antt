@@ -1,5 +1,6 @@
 -- The numbers of a set are those that are marked, in rising order; there are as many as digits that are 1; and trailing zeros lead to the lowest.
 -- The width of a word is a variable here: a list of 64 entries is never written out.
+use Rattle.std.specs.Prelude.{if◌then◌else◌}
 use Prim.Native.Nat.{ℕ, zero, suc, ◌+◌, ◌*◌, ◌-◌, ◌/◌, ◌%◌, ◌^◌, ◌<◌, ◌≤◌}
 use mathlib.Core.Bool.{Bool, true, false, false≢true}
 use mathlib.Core.List.{List, [], ◌∷◌, ◌++◌, append-nil}
@@ -10,7 +11,7 @@ use native.Mathlib.Omega.{arith}
 use lib.Count.{ones, ones_step, count_trailing_zeros, under}
 use lib.Dec.{eqb, ltb}
 use lib.ListN.{length, get_or}
-use Rattle.rules.specs.Lists.{if◌then◌else◌, all, keep, member, up_from, up_to}
+use Rattle.rules.specs.Lists.{all, keep, member, up_from, up_to}
 use Rattle.rules.proofs.Common.{member_kept}
 use Rattle.rules.proofs.Growing.{keep_append}
 use Rattle.rules.proofs.Laws.{le_test, not_le}

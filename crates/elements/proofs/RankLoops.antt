@@ -1,4 +1,5 @@
 -- Marks by rank, downwards from one marked element to the next; those that are left have no mark yet. The numbers of a level are the sub-elements of its rank.
+use Rattle.std.specs.Prelude.{if◌then◌else◌}
 use Prim.Native.Nat.{ℕ, ◌+◌, ◌*◌, ◌-◌, ◌<◌, ◌≤◌}
 use mathlib.Core.Bool.{Bool, true, false, ◌&&◌, ◌||◌}
 use mathlib.Core.List.{List, [], ◌∷◌, map}
@@ -7,7 +8,7 @@ use native.Mathlib.Omega.{arith}
 use lib.Dec.{eqb, leb}
 use lib.ListN.{length, get_or}
 use Rattle.rules.specs.Limits.{desk}
-use Rattle.rules.specs.Lists.{if◌then◌else◌, keep, up_to}
+use Rattle.rules.specs.Lists.{keep, up_to}
 use Rattle.rules.specs.Table.{Table, Element, corner, polytope, element, element_count, rank, vertex_of}
 use Rattle.rules.specs.Held.{elements_of}
 use Rattle.rules.specs.Questions.{is_below, sub_elements, with_rank, vertex_set}

@@ -1,4 +1,5 @@
 -- What is left of the corners makes of what was tested so far what all of them make of nothing; and that is what the rules read from the sides of the vertex set.
+use Rattle.std.specs.Prelude.{if◌then◌else◌}
 use Prim.Native.Nat.{ℕ, suc, ◌+◌, ◌*◌, ◌-◌, ◌/◌, ◌^◌, ◌<◌, ◌≤◌}
 use mathlib.Core.Bool.{Bool, true, false, ◌&&◌, ◌||◌, true≢false}
 use mathlib.Core.List.{List, [], ◌∷◌, ◌++◌, map}
@@ -10,7 +11,7 @@ use lib.Dec.{eqb, lit≤}
 use lib.ListN.{length, get_or, take}
 use lib.Ieee.{Float, nan}
 use Rattle.rules.specs.Limits.{desk}
-use Rattle.rules.specs.Lists.{if◌then◌else◌, any, member, pad}
+use Rattle.rules.specs.Lists.{any, member, pad}
 use Rattle.rules.specs.Floats.{plus_zero, signed_distance, side_of}
 use Rattle.rules.specs.Table.{Table, Element, corner, polytope, element, element_count, rank, vertex_of}
 use Rattle.rules.specs.Sound.{sound, sound_point}

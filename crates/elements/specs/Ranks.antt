@@ -1,6 +1,6 @@
 -- Marks by rank, marks common to all of some roots, and the vertices that are named. Definitions only.
-use Rattle.std.specs.Prelude.{ℕ, ◌*◌, ◌<◌, ◌≤◌, Bool, true, ◌&&◌, ◌≡◌, List, eqb, ltb, length, get_or, take}
-use Rattle.rules.specs.Lists.{if◌then◌else◌, all}
+use Rattle.std.specs.Prelude.{ℕ, ◌*◌, ◌<◌, ◌≤◌, Bool, true, ◌&&◌, ◌≡◌, List, eqb, ltb, length, get_or, take, if◌then◌else◌}
+use Rattle.rules.specs.Lists.{all}
 use Rattle.rules.specs.Table.{Table, element_count}
 use Rattle.rules.specs.Questions.{is_below, greatest_from}
 use Rattle.elements.specs.Marks.{is_marked, marking, marked_numbers}

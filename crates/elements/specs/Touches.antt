@@ -1,7 +1,7 @@
 -- How the corners of an element are tested against a plane, in rising order, by their marks. Definitions only.
-use Rattle.std.specs.Prelude.{ℕ, ◌+◌, ◌<◌, ◌≤◌, true, false, ◌&&◌, ◌≡◌, List, [], ◌∷◌, map, length, Float}
+use Rattle.std.specs.Prelude.{ℕ, ◌+◌, ◌<◌, ◌≤◌, true, false, ◌&&◌, ◌≡◌, List, [], ◌∷◌, map, length, Float, if◌then◌else◌}
 use Rattle.rules.specs.Limits.{desk}
-use Rattle.rules.specs.Lists.{if◌then◌else◌, member}
+use Rattle.rules.specs.Lists.{member}
 use Rattle.rules.specs.Floats.{side_of}
 use Rattle.rules.specs.Table.{Table, element_count}
 use Rattle.rules.specs.Sound.{sound}

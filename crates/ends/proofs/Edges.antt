@@ -1,9 +1,9 @@
 -- Rule 4: the two numbers of an edge's row are its ends, and each call is at a table that goes on from the one before.
-use Prim.Native.Nat.{ℕ, ◌+◌, ◌*◌, ◌≤◌, ◌<◌}
+use Prim.Native.Nat.{ℕ, ◌+◌, ◌*◌, ◌<◌}
 use mathlib.Core.Bool.{Bool, ◌||◌}
 use mathlib.Core.Path.{◌≡◌, refl, sym, ap, ap₂, ◌∙◌, subst}
 use mathlib.Core.List.{List, [], ◌∷◌}
-use native.Mathlib.Nat.{le_trans, le_of_eq}
+use native.Mathlib.Nat.{le_trans}
 use native.Mathlib.Omega.{arith}
 use lib.Dec.{lit≤}
 use lib.ListN.{length, get_or, take}
@@ -37,7 +37,7 @@ use Rattle.space.specs.declared.rows.Placed.TheVariants as placed
 use Rattle.space.proofs.Room.{list_of, list_bound, list_word_lem}
 use Rattle.space.proofs.VertexMemo.{dimension_is}
 use Rattle.space.proofs.Slices.{slices}
-use Rattle.gathered.specs.Sets.{warning_in, Gathers, Shaped, Sized, Noted}
+use Rattle.gathered.specs.Sets.{warning_in, Shaped, Noted}
 use Rattle.gathered.specs.Cutting.{Fit, cut_of, answered_by, Rule6Fit, Rule6Ready, Rule6Done}
 use Rattle.rules.specs.declared.Cutter.{Cutter}
 use Rattle.gathered.proofs.Steps.{told_by}

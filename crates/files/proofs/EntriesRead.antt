@@ -1,5 +1,6 @@
 -- What the reading of a record says of its bytes: the floats or the numbers that stand behind its mark, and that it ends behind them.
 -- A record that is read had begun; and its bytes are there, or it would have broken.
+use Rattle.std.specs.Prelude.{if◌then◌else◌}
 use Prim.Native.Nat.{ℕ, zero, suc, ◌+◌, ◌*◌, ◌≤◌, ◌<◌}
 use mathlib.Core.Bool.{Bool, true, false}
 use mathlib.Core.List.{List, [], ◌∷◌, ◌++◌}
@@ -9,7 +10,7 @@ use native.Mathlib.Omega.{arith}
 use lib.Dec.{leb, ltb}
 use lib.ListN.{length, set, drop, replicate}
 use lib.Ieee.{Float, binary64, of_bits}
-use Rattle.rules.specs.Lists.{if◌then◌else◌, pad}
+use Rattle.rules.specs.Lists.{pad}
 use Rattle.rules.specs.Floats.{plus_zero}
 use Rattle.rules.specs.Bytes.{number_at, float_at, floats_at}
 use Rattle.rules.specs.Table.{Element, Plane}

@@ -1,14 +1,14 @@
 -- The reply of opening, by the tests in turn: the layout, the size of the lent room, and whether the table that the bytes say is sound.
+use Rattle.std.specs.Prelude.{if◌then◌else◌}
 use Prim.Native.Nat.{ℕ}
 use mathlib.Core.Bool.{Bool, true, false, false≢true}
 use mathlib.Core.List.{List}
 use mathlib.Core.Path.{◌≡◌, refl, sym, ap, ◌∙◌}
 use Rattle.rules.specs.Limits.{desk}
-use Rattle.rules.specs.Lists.{if◌then◌else◌}
 use Rattle.rules.specs.Sound.{sound}
 use Rattle.rules.specs.Memory.{Memory, encode, right_size}
 use Rattle.rules.specs.Questions.{no_answer, answer}
-use Rattle.rules.specs.Files.{layout, judged, table_in, opened, open_reply}
+use Rattle.rules.specs.Files.{judged, table_in, opened, open_reply}
 use Rattle.files.specs.Judged.{Says, Judged}
 use Rattle.files.specs.Laid.{LayoutTold, breaks, stands}
 use Rattle.files.specs.declared.layout.Laid.{Laid}

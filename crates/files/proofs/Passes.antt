@@ -1,5 +1,6 @@
 -- What a pass over a record tells, by what was tested of it: too short, another mark, a head that does not fit, or it ends behind its bytes.
 -- And over many: each begins where the one before it ends, up to the first that breaks.
+use Rattle.std.specs.Prelude.{if◌then◌else◌}
 use Prim.Native.Nat.{ℕ, ◌+◌, ◌*◌, ◌≤◌, ◌<◌}
 use mathlib.Core.Bool.{Bool, true, false, ◌&&◌}
 use mathlib.Core.List.{List, [], ◌∷◌, ◌++◌}
@@ -9,7 +10,6 @@ use lib.Dec.{leb, eqb}
 use lib.ListN.{length, drop, length-append, length-drop}
 use lib.Seq.{drop-drop}
 use Rattle.rules.specs.Limits.{no_plane}
-use Rattle.rules.specs.Lists.{if◌then◌else◌}
 use Rattle.rules.specs.Bytes.{number_at}
 use Rattle.rules.specs.Table.{Element}
 use Rattle.rules.specs.Memory.{read_element}

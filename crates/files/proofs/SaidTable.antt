@@ -1,4 +1,5 @@
 -- A table that a file says, and whose counts and boundaries fit the room: its rows fit, and those of its elements stand in the file, record by record.
+use Rattle.std.specs.Prelude.{if◌then◌else◌}
 use Prim.Native.Nat.{ℕ, ◌+◌, ◌*◌, ◌-◌, ◌<◌}
 use mathlib.Core.Bool.{Bool, true, false}
 use mathlib.Core.List.{List, [], map}
@@ -8,7 +9,7 @@ use lib.Dec.{eqb}
 use lib.ListN.{length, get_or, take, drop, replicate, length-map, get_or-map}
 use lib.Seq.{drop-cons}
 use Rattle.rules.specs.Limits.{desk}
-use Rattle.rules.specs.Lists.{if◌then◌else◌, pad, joined, rows}
+use Rattle.rules.specs.Lists.{pad, joined, rows}
 use Rattle.rules.specs.Table.{Element, corner, polytope, Table, element, element_count}
 use Rattle.rules.specs.Memory.{read_element, plane_named}
 use Rattle.rules.specs.Held.{Fits, element_words, elements_of, fitting}

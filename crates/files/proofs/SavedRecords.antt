@@ -1,6 +1,6 @@
 -- The records of single rows: how long each is, and that its parts, put one behind another, make it.
 use Prim.Native.Nat.{ℕ, zero, suc, ◌+◌, ◌*◌, ◌-◌, ◌≤◌, ◌<◌}
-use mathlib.Core.Bool.{Bool, true, false, not, ◌&&◌}
+use mathlib.Core.Bool.{true, false, not}
 use mathlib.Core.List.{List, [], ◌∷◌, ◌++◌}
 use mathlib.Core.Path.{◌≡◌, refl, sym, ap, ap₂, ◌∙◌}
 use native.Mathlib.Nat.{le_of_suc-le-suc, not-suc-le-zero}
@@ -8,7 +8,6 @@ use native.Mathlib.Omega.{arith}
 use lib.ListN.{length, get_or, set, take, drop, length-append, length-drop}
 use lib.Seq.{length-take-le, take-take, take_all, drop-drop, get_or-take, get_or-drop}
 use lib.Ieee.{Float, nan, binary64, to_bits, is_nan}
-use Rattle.rules.specs.Limits.{desk}
 use Rattle.rules.specs.Floats.{plus_zero}
 use Rattle.rules.specs.Bytes.{bytes_of, number_bytes, float_byte8, float_bytes}
 use Rattle.rules.specs.Memory.{read_plane}
@@ -19,7 +18,7 @@ use Rattle.lent_bytes.specs.Lent.{Put, Part}
 use Rattle.lent_bytes.proofs.Fronts.{drop_front}
 use Rattle.lent_bytes.proofs.Puts.{then, put_as}
 use Rattle.lent_bytes.proofs.Rests.{joined_long, part_long}
-use Rattle.files.specs.Saved.{header_saved, point_saved, plane_saved, row_saved, are_numbers, point_clear, plane_clear, count_fits, row_at, RowReady, HeaderReady}
+use Rattle.files.specs.Saved.{header_saved, point_saved, plane_saved, row_saved, are_numbers, point_clear, plane_clear, count_fits, row_at, RowReady}
 
 -- ---- numbers and floats
 

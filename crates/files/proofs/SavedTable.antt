@@ -1,4 +1,5 @@
 -- The words of a sound memory can be written, and the records that are written of them are the one file of its table.
+use Rattle.std.specs.Prelude.{if◌then◌else◌}
 use Prim.Native.Nat.{ℕ, suc, ◌+◌, ◌*◌, ◌≤◌, ◌<◌}
 use mathlib.Core.Bool.{Bool, true, false, not, ◌&&◌, cond}
 use mathlib.Core.List.{List, [], ◌∷◌, ◌++◌, map}
@@ -10,7 +11,7 @@ use lib.ListN.{length, get_or, take, drop, length-append, length-map}
 use lib.Seq.{take-append_seam, sets-eq}
 use lib.Ieee.{Float, is_nan}
 use Rattle.rules.specs.Limits.{desk, no_plane}
-use Rattle.rules.specs.Lists.{if◌then◌else◌, all, joined, rows}
+use Rattle.rules.specs.Lists.{all, joined, rows}
 use Rattle.rules.specs.Bytes.{number_bytes}
 use Rattle.rules.specs.Table.{Element, corner, polytope, Plane}
 use Rattle.rules.specs.Memory.{plane_number, element_row, read_element, read_plane, decode, right_size, sound_memory}

@@ -1,5 +1,6 @@
 -- How a reading goes by lengths alone: one that takes a number of bytes reads where they are there, and breaks where they are not.
 -- Floats, numbers, and many of them, take so many each; a head of numbers wants so many at least, whatever stands behind it.
+use Rattle.std.specs.Prelude.{if◌then◌else◌}
 use Prim.Native.Nat.{ℕ, zero, suc, ◌+◌, ◌*◌, ◌≤◌, ◌<◌}
 use mathlib.Core.Bool.{Bool, true, false, ◌&&◌}
 use mathlib.Core.List.{List, [], ◌∷◌}
@@ -10,7 +11,7 @@ use lib.Dec.{leb, eqb}
 use lib.ListN.{length, get_or, take, drop, length-take, length-drop}
 use lib.Seq.{drop-drop, drop-cons}
 use lib.Ieee.{binary64, of_bits}
-use Rattle.rules.specs.Lists.{if◌then◌else◌, alike}
+use Rattle.rules.specs.Lists.{alike}
 use Rattle.rules.specs.Bytes.{little_endian, number_at}
 use Rattle.rules.specs.Files.{Reading, broken, got, and_then, after_mark, many, number, float, plane_after}
 use Rattle.rules.proofs.ByteLaws.{and_then_lem}

@@ -1,7 +1,7 @@
 // One record of a file as a row of the lent room: read where it stands, and filled up with zeros.
-ghost use Rattle.std.specs.Prelude.{◌+◌, ◌*◌, ◌≤◌, ◌<◌, ◌≡◌, ltb, length};
+ghost use Rattle.std.specs.Prelude.{◌+◌, ◌*◌, ◌≤◌, ◌<◌, ◌≡◌, ltb, length, if◌then◌else◌};
 ghost use Rattle.rules.specs.Limits.{desk};
-ghost use Rattle.rules.specs.Lists.{if◌then◌else◌, pad};
+ghost use Rattle.rules.specs.Lists.{pad};
 ghost use Rattle.rules.specs.Floats.{plus_zero};
 ghost use Rattle.rules.specs.Bytes.{float_at, floats_at};
 ghost use Rattle.space.specs.Numbers.{row_width};

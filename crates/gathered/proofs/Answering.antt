@@ -21,7 +21,6 @@ use Rattle.rules.proofs.Laws.{test_le}
 use Rattle.rules.proofs.Ranked.{set_later, some_later}
 use Rattle.rules.proofs.Stays.{Kept, Stays}
 use Rattle.rules.proofs.StaysCut.{new_intersection_stays, side_stays}
-use Rattle.space.specs.Chains.{Indexed}
 use Rattle.space.specs.declared.memo.Added.{Added}
 use Rattle.space.specs.declared.memo.Added.TheVariants as added
 use Rattle.gathered.specs.declared.answer.ElementReply.{ElementReply}

@@ -1,4 +1,5 @@
 -- A number put into a set that lent words hold. A search passes the numbers below x; at its place x stands already, or the rest moves up by one.
+use Rattle.std.specs.Prelude.{if◌then◌else◌}
 use Prim.Native.Nat.{ℕ, suc, ◌+◌, ◌-◌, ◌≤◌, ◌<◌}
 use mathlib.Core.Path.{◌≡◌, refl, sym, ap, ap₂, ◌∙◌, subst}
 use mathlib.Core.Bool.{Bool}
@@ -12,7 +13,7 @@ use lib.Dec.{eqb}
 use lib.ListN.{length, get_or, take, drop, set, length-append, length-drop, length-set, take-append-drop}
 use lib.Seq.{sets, sets-eq, length-sets, drop-cons, take-suc, take_at, get_or-take, get_or-drop, length-take-le, take-take, take_all, append_snoc}
 use lib.Seq.{get_or-set_same, get_or-set_other, set-set, set-get_or, take-set-le}
-use Rattle.rules.specs.Lists.{if◌then◌else◌, with_member}
+use Rattle.rules.specs.Lists.{with_member}
 use Rattle.rules.specs.declared.ElementOrNone.{ElementOrNone}
 use Rattle.rules.specs.declared.ElementOrNone.TheVariants.{None, Some}
 use Rattle.space.proofs.RowWords.{sets_more}

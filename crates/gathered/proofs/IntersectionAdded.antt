@@ -1,4 +1,5 @@
 -- The gathered intersections, added as an element of the rank below: the call of rule 8 is the step of the rules.
+use Rattle.std.specs.Prelude.{if◌then◌else◌}
 use Prim.Native.Nat.{ℕ, ◌-◌, ◌≤◌, ◌<◌}
 use mathlib.Core.Path.{◌≡◌, refl, sym, ap, ◌∙◌, subst}
 use mathlib.Core.Bool.{Bool, true, false}
@@ -11,7 +12,6 @@ use lib.ListN.{length, get_or, take}
 use lib.Ieee.{Float}
 use borrow.Author.Tests.{lt-leb, ne_eqb}
 use Rattle.rules.specs.Limits.{desk, no_plane}
-use Rattle.rules.specs.Lists.{if◌then◌else◌}
 use Rattle.rules.specs.Table.{Table}
 use Rattle.rules.specs.Memory.{plane_named}
 use Rattle.rules.specs.Held.{Holds, Came, Ranked, AllOf}

@@ -1,7 +1,6 @@
 // Rules 6 to 8: what a cut adds for an element whose boundary has answered, and the element's own answer.
-ghost use Rattle.std.specs.Prelude.{◌≡◌, eqb, get_or};
+ghost use Rattle.std.specs.Prelude.{◌≡◌, eqb, get_or, if◌then◌else◌};
 ghost use Rattle.rules.specs.Limits.{no_plane};
-ghost use Rattle.rules.specs.Lists.{if◌then◌else◌};
 ghost use Rattle.rules.specs.Replies.{is_kept};
 ghost use Rattle.gathered.specs.Cutting.{PlaneReady, IntersectionReady, IntersectionMade, RowReadable, OwnTold, SideReady, SideMade, Rule7Ready, Rule7Done, Rule6Ready, Rule6Done};
 

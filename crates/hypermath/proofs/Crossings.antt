@@ -1,4 +1,5 @@
 -- Crossings: the edge test, the clamp by its tests, and the point axis by axis, filled from the front over zeros.
+use Rattle.std.specs.Prelude.{if◌then◌else◌}
 use Prim.Native.Nat.{ℕ, zero, suc, ◌+◌, ◌-◌, ◌≤◌, ◌<◌}
 use mathlib.Core.Path.{◌≡◌, refl, sym, ap, ◌∙◌, subst}
 use mathlib.Core.Bool.{Bool, true, false, ◌&&◌, ◌||◌}
@@ -8,7 +9,7 @@ use native.Mathlib.Numerals.{add-one}
 use native.Mathlib.Omega.{arith}
 use lib.ListN.{length, get_or, set, take, replicate}
 use lib.Ieee.{Float, nan, fin, binary64, add, sub, mul, div, lt, ne}
-use Rattle.rules.specs.Lists.{if◌then◌else◌, pad}
+use Rattle.rules.specs.Lists.{pad}
 use Rattle.rules.specs.Floats.{plus_zero, within, side_of, side_test, opposite, crossing_of, edge_test, greater, lesser, clamp, crossing_point}
 use Rattle.rules.specs.Promises.{Between}
 use Rattle.rules.specs.declared.Crossing.{Crossing}

@@ -1,7 +1,8 @@
 -- The 32 bits of a narrowed float. Rounding keeps 24 digits of a magnitude and counts those it drops; the bits of q * 2 ^ k smallest values are k times the
 -- field's weight and q, also where rounding carried a digit out, since that digit adds one to the field.
+use Rattle.std.specs.Prelude.{if◌then◌else◌}
 use Prim.Native.Nat.{ℕ, zero, suc, ◌+◌, ◌-◌, ◌*◌, ◌/◌, ◌%◌, ◌^◌, ◌≤◌, ◌<◌, compare, Ordering}
-use mathlib.Core.Bool.{Bool, true, false, not, cond, false≢true, true≢false}
+use mathlib.Core.Bool.{Bool, true, false, cond, false≢true, true≢false}
 use mathlib.Core.Logic.{◌⊎◌, inl, inr}
 use mathlib.Core.Path.{◌≡◌, refl, sym, ap, ◌∙◌, subst}
 use native.Mathlib.Nat.{le_refl, le_trans, le_of_eq, le_antisymm, zero-add, lt_of_lt_of_le, lt_of_le_of_lt, lt_of_not-le, not-le_of_lt, lt-suc_self, lt_irrefl, le_of_suc-le-suc, le_of_mul-le-mul_right, mod-lt}
@@ -17,7 +18,6 @@ use lib.Ieee.Fits.{round_is, nearest-le, down_pos}
 use lib.Ieee.Nearest.{closest, closest_same, nearest-ge}
 use lib.Ieee.Exact.{HasValue, odd_sign, units_val}
 use lib.Ieee.Scale.{round_same}
-use Rattle.rules.specs.Lists.{if◌then◌else◌}
 use Rattle.rules.specs.Print.{narrowed}
 use Rattle.rules.proofs.Laws.{truly, le_test, test_le, not_le, test_above, test_eq, not_eq, eq_test, if_true, if_false}
 use Rattle.hypermath.specs.Narrow.{with_leading, narrowed_size, NumberUnder}

@@ -1,11 +1,12 @@
 -- Ranges, sides, unit normals and distances: each test of the code is one of the definition, so the answer is read off the tests that were taken.
+use Rattle.std.specs.Prelude.{if◌then◌else◌}
 use Prim.Native.Nat.{ℕ}
 use mathlib.Core.Path.{◌≡◌, refl, sym, ap, ◌∙◌}
 use mathlib.Core.Bool.{Bool, true, false, not, ◌&&◌, false≢true, true≢false}
 use mathlib.Core.List.{List}
 use lib.ListN.{take, drop}
 use lib.Ieee.{Float, nan, inf, fin, binary64, neg, add, sub, lt, le, eq}
-use Rattle.rules.specs.Lists.{if◌then◌else◌, all}
+use Rattle.rules.specs.Lists.{all}
 use Rattle.rules.specs.Floats.{plus_zero, one, tolerance, farthest_plane, close_bound, within, same_bits, dot, side_of, close_call, side_test, unit}
 use Rattle.rules.specs.declared.Side.{Side}
 use Rattle.rules.specs.declared.Side.TheVariants.{Inside, On, Outside}

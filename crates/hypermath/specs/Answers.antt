@@ -1,9 +1,9 @@
 -- What each answer of this crate says, in the words of the rules. Definitions only.
-use Rattle.std.specs.Prelude.{ℕ, ◌+◌, ◌*◌, Bool, true, false, ◌&&◌, ◌≡◌, List, map, get_or, take, drop, ℤ, Float}
+use Rattle.std.specs.Prelude.{ℕ, ◌+◌, ◌*◌, Bool, true, false, ◌&&◌, ◌≡◌, List, map, get_or, take, drop, ℤ, Float, if◌then◌else◌}
 use Rattle.std.proofs.Math.Option.{Option, none, some}
 use Rattle.std.specs.Float.{nan, inf, fin}
 use Rattle.std.specs.Float.Ieee.{is_nan}
-use Rattle.rules.specs.Lists.{if◌then◌else◌, all, rows}
+use Rattle.rules.specs.Lists.{all, rows}
 use Rattle.rules.specs.Floats.{plus_zero, same_bits, within, farthest_plane, signed_distance, side_of, unit, clamp}
 use Rattle.rules.specs.Table.{VertexNumber, HyperplaneNumber, Plane}
 use Rattle.rules.specs.Replies.{divider_of}

@@ -1,7 +1,6 @@
 -- The 32 bits of a narrowed float, by the fields of its 64. Definitions only.
-use Rattle.std.specs.Prelude.{ℕ, ◌+◌, ◌-◌, ◌*◌, ◌^◌, ◌<◌, ◌≡◌, ltb}
+use Rattle.std.specs.Prelude.{ℕ, ◌+◌, ◌-◌, ◌*◌, ◌^◌, ◌<◌, ◌≡◌, ltb, if◌then◌else◌}
 use Rattle.std.specs.Float.Ieee.Nearest.{closest}
-use Rattle.rules.specs.Lists.{if◌then◌else◌}
 
 -- q with its leading digit, from the digits below it
 abbrev pub with_leading : ℕ → ℕ

@@ -1,30 +1,26 @@
 -- A loop over the faces of a piece: each can be walked, and what is left from the face at i on is its own and what is left from the next one on.
 use Prim.Native.Nat.{ℕ, zero, suc, ◌+◌, ◌*◌, ◌-◌, ◌≤◌, ◌<◌}
 use mathlib.Core.Path.{◌≡◌, refl, sym, ap, ◌∙◌, subst}
-use mathlib.Core.Bool.{Bool, true, false, false≢true}
 use mathlib.Core.List.{List, [], ◌∷◌, ◌++◌, map}
-use native.Mathlib.Nat.{le_trans, le_of_eq}
 use native.Mathlib.Omega.{arith}
 use lib.Dec.{leb}
 use lib.ListN.{length, get_or, drop, replicate, length-append}
 use lib.Ieee.{Float}
-use Rattle.rules.specs.Limits.{desk}
-use Rattle.rules.specs.Lists.{if◌then◌else◌, joined}
+use Rattle.rules.specs.Lists.{joined}
 use Rattle.rules.specs.Held.{AllOf}
 use Rattle.rules.specs.Questions.{answer}
 use Rattle.rules.specs.Replies.{listed}
 use Rattle.rules.specs.Print.{triangle_bytes, total_of}
 use Rattle.rules.specs.declared.ListReply.{ListReply}
-use Rattle.rules.specs.declared.ListReply.TheVariants.{Refused, Listed}
 use Rattle.rules.proofs.Laws.{if_true, test_le}
 use Rattle.lent_bytes.specs.Lent.{Put}
 use Rattle.lent_bytes.proofs.Rests.{Rest, less_left, none_left, left_as}
 use Rattle.space.specs.Ready.{ElementReady}
-use Rattle.walk.specs.Boundaries.{row_boundary, BoundaryFits}
-use Rattle.walk.specs.Walks.{numbers_from, words_in_order, lowest_end, first_way, no_edge, FaceFits}
+use Rattle.walk.specs.Boundaries.{row_boundary}
+use Rattle.walk.specs.Walks.{words_in_order, lowest_end, first_way, no_edge}
 use Rattle.walk.proofs.Boundaries.{row_size, row_on, row_end}
 use Rattle.walk.proofs.Orders.{two_each}
-use Rattle.print.specs.Pieces.{point_in, fan_in, walk_in, edges_in, face_in, count_in, PointsReady, WalkLow, FanReady, FaceWalks, FaceReady, FacesReady}
+use Rattle.print.specs.Pieces.{point_in, fan_in, walk_in, edges_in, face_in, count_in, PointsReady, WalkLow, FaceWalks, FacesReady}
 use Rattle.print.proofs.Fanning.{fan_fifty, fan_same}
 
 -- ---- the walk of a face, in a list that was zeros

@@ -1,12 +1,11 @@
 -- The triangles of a walk, put one behind another: what a triangle asks and how long it is, and what is left of a fan from edge k on.
 use Prim.Native.Nat.{ℕ, zero, suc, ◌+◌, ◌*◌, ◌-◌, ◌≤◌, ◌<◌}
-use mathlib.Core.Path.{◌≡◌, refl, sym, ap, ap₂, ◌∙◌, subst}
-use mathlib.Core.Bool.{Bool, true, false, not, ◌&&◌}
+use mathlib.Core.Path.{◌≡◌, refl, ap, ap₂, ◌∙◌}
+use mathlib.Core.Bool.{true, not}
 use mathlib.Core.List.{List, [], ◌∷◌, ◌++◌, map}
-use native.Mathlib.Nat.{le_trans, le_of_eq}
 use native.Mathlib.Omega.{arith}
 use lib.Dec.{ltb}
-use lib.ListN.{length, get_or, take, drop, replicate, length-append}
+use lib.ListN.{length, get_or, take, replicate, length-append}
 use lib.Seq.{length-slice}
 use lib.Ieee.{Float, is_nan, binary32, to_bits}
 use Rattle.rules.specs.Limits.{desk}
@@ -21,7 +20,7 @@ use Rattle.rules.proofs.Printed.{all_below, triangle_long, all_long}
 use Rattle.lent_bytes.specs.Lent.{Put, Part}
 use Rattle.lent_bytes.proofs.Puts.{then, put_as, put_length}
 use Rattle.lent_bytes.proofs.Rests.{Rest, less_left, none_left, left_as, joined_long}
-use Rattle.print.specs.Pieces.{point_in, triangle_at, fan_in, PointsReady, CornerReady, TriangleReady, WalkLow, FanReady}
+use Rattle.print.specs.Pieces.{point_in, triangle_at, fan_in, PointsReady, WalkLow}
 
 -- ---- zeros
 

@@ -1,7 +1,7 @@
 -- In a sound memory the words of a piece are its print file: each face can be walked, its walk's numbers are the rules' pairs, and a vertex's row is its point.
 use Prim.Native.Nat.{ℕ, zero, suc, ◌+◌, ◌*◌, ◌-◌, ◌≤◌, ◌<◌}
 use mathlib.Core.Path.{◌≡◌, refl, sym, ap, ap₂, ◌∙◌, subst}
-use mathlib.Core.Bool.{Bool, true, false, not, ◌&&◌}
+use mathlib.Core.Bool.{Bool, true, not, ◌&&◌}
 use mathlib.Core.List.{List, [], ◌∷◌, ◌++◌, map, append_assoc}
 use native.Mathlib.Nat.{le_of_suc-le-suc, suc-mul, add_comm}
 use native.Mathlib.Omega.{arith}
@@ -23,12 +23,12 @@ use Rattle.rules.proofs.Boxes.{point_numbers}
 use Rattle.rules.proofs.Good.{Good, sound_good}
 use Rattle.rules.proofs.Growing.{map_append}
 use Rattle.rules.proofs.Laws.{le_test, and_left, and_right, and_true}
-use Rattle.rules.proofs.Printed.{all_below, all_long, fan_below, ways, walked, ways_used, ways_long, three_ways, face_is, triangles_below, vertex_long}
+use Rattle.rules.proofs.Printed.{all_below, all_long, ways, walked, ways_used, ways_long, three_ways, face_is, triangles_below, vertex_long}
 use Rattle.space.proofs.Slices.{slices}
 use Rattle.walk.specs.Boundaries.{row_boundary}
 use Rattle.walk.proofs.Boundaries.{row_size, bounds, boundary_fits, boundary_is}
 use Rattle.walk.proofs.Orders.{face_fits, order_is}
-use Rattle.print.specs.Pieces.{point_in, triangle_at, fan_in, walk_in, edges_in, face_in, count_in, file_in, PointsReady, WalkLow, FaceWalks, FacesReady, SolidReady}
+use Rattle.print.specs.Pieces.{point_in, triangle_at, fan_in, walk_in, edges_in, face_in, count_in, file_in, PointsReady, FaceWalks, SolidReady}
 use Rattle.print.proofs.Facing.{faces_long}
 
 -- ---- the numbers of a walk, two for each edge

@@ -1,4 +1,5 @@
 -- The reply, test by test: what the question after a primordial facet tells, and then the dimension.
+use Rattle.std.specs.Prelude.{if◌then◌else◌}
 use Prim.Native.Nat.{ℕ, ◌*◌, ◌<◌}
 use mathlib.Core.Path.{◌≡◌, refl, sym, ap, ◌∙◌}
 use mathlib.Core.Bool.{Bool, true, false, not, ◌&&◌}
@@ -10,11 +11,11 @@ use lib.Dec.{ltb, eqb}
 use lib.ListN.{length, get_or, take, drop}
 use lib.Ieee.{Float}
 use Rattle.rules.specs.Limits.{desk}
-use Rattle.rules.specs.Lists.{if◌then◌else◌, any}
+use Rattle.rules.specs.Lists.{any}
 use Rattle.rules.specs.Table.{Table, is_primordial, element, rank, boundary, element_count}
 use Rattle.rules.specs.Memory.{Memory, decode, sound_memory}
 use Rattle.rules.specs.Questions.{no_answer, answer, primordial_facet}
-use Rattle.rules.specs.Replies.{facet_number, facet_value, asked, listed, facet_answer, primordial_facet_reply}
+use Rattle.rules.specs.Replies.{facet_number, facet_value, listed, facet_answer, primordial_facet_reply}
 use Rattle.rules.specs.Held.{memory_of}
 use Rattle.rules.specs.Print.{vertex_at, print_file, unless_facet, printed, print_reply}
 use Rattle.rules.specs.declared.ListReply.{ListReply}

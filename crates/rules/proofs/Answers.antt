@@ -1,4 +1,4 @@
--- The tables of specs/Examples, Sessions, FileExamples, TouchExamples and AreaExamples: what the rules give is what the documents say. antt computes both sides.
+-- The tables of specs/Examples, Sessions, FileExamples, TouchExamples, ListExamples and AreaExamples: what the rules give is what the documents say. antt computes both sides.
 -- The table of M1 to M11 has its theorem in crate marked, which no edit of the rules checks again.
 use mathlib.Core.Path.{◌≡◌, refl}
 use mathlib.Core.List.{List, map}
@@ -23,6 +23,8 @@ use Rattle.rules.specs.FileExamples.{files}
 use Rattle.rules.specs.TouchExamples.{near_corner, straight, dart, touches}
 use Rattle.rules.specs.Areas.{on_grid, units, piece_on_grid, twice_area, sheet, area_sheet, areas_reply}
 use Rattle.rules.specs.AreaExamples.{whole, once, twice, matched, Slices, area_sheets, tight_q, tight_off, area_replies}
+use Rattle.rules.specs.CutLists.{list_fits, cuts_of, cut_list_reply}
+use Rattle.rules.specs.ListExamples.{cut_lists}
 
 -- every row of a table says the same on both sides
 abbrev pub Agree : List (Shown × Shown) → Type 0
@@ -104,3 +106,10 @@ unfolding neg add sub mul div lt eq le is_nan within dot_from dot unit same_elem
     element_row plane_row encode read_element read_plane decode right_size same_memory sound_memory cube cube_element cube_point facet_normal facet_plane square
     walk edges_in_order on_grid units piece_on_grid twice_area sheet area_sheet areas_reply tight_q tight_off area_replies
 area_replies_hold = refl
+
+pub cut_lists_hold : Agree cut_lists
+unfolding neg add sub mul div lt eq le is_nan within dot_from dot signed_distance side_of close_call unit crossing_of clamp crossing_point matches point_matches
+    same_element sound room_fits sound_point sound_plane corners_in_order sound_boundary sound_facet element_row plane_row encode read_element read_plane decode
+    right_size same_memory sound_memory cube cube_element cube_point facet_normal facet_plane add_element add_polytope add_vertex plane_matches
+    add_plane cut_corner rule7 rule6 cut_ends cut_edge cut_higher cut_element cut walk divider_fits cut_reply list_fits cuts_of cut_list_reply small_q square cut_lists
+cut_lists_hold = refl

@@ -1,5 +1,6 @@
 -- No two elements of a sound table are equal. So from three dimensions on no two edges share both ends:
 -- an edge names no hyperplane there and has no mark, and so its ends are all that it is.
+use Rattle.std.specs.Prelude.{if◌then◌else◌}
 use Prim.Native.Nat.{ℕ, ◌+◌, ◌<◌}
 use mathlib.Core.Bool.{Bool, true, false, not, ◌&&◌, false≢true}
 use mathlib.Core.List.{List}
@@ -7,7 +8,7 @@ use mathlib.Core.Option.{Option, none, some}
 use mathlib.Core.Path.{◌≡◌, refl, ap, sym, ◌∙◌, subst}
 use native.Mathlib.Nat.{zero-add}
 use native.Mathlib.Omega.{arith}
-use Rattle.rules.specs.Lists.{if◌then◌else◌, find_from, distinct}
+use Rattle.rules.specs.Lists.{find_from, distinct}
 use Rattle.rules.specs.Table.{Element, corner, polytope, Table, element, element_count, boundary, boundary_of, rank_of, same_element}
 use Rattle.rules.specs.Sound.{names_plane, names_none, sound_facet, sound_element}
 use Rattle.rules.proofs.Good.{whole}

@@ -1,25 +1,24 @@
 -- The promises of an area sheet. Its reply is what `listed` makes of it, so what holds of every list holds of it; its numbers are by cases on its tests.
-use Prim.Native.Nat.{ℕ, suc, ◌+◌, ◌*◌, ◌^◌, ◌≤◌, ◌<◌}
+use Rattle.std.specs.Prelude.{if◌then◌else◌}
+use Prim.Native.Nat.{ℕ, suc, ◌^◌, ◌≤◌}
 use mathlib.Core.Bool.{Bool, true, false, not, ◌&&◌}
 use mathlib.Core.List.{List, [], ◌∷◌, ◌++◌, map}
 use mathlib.Core.Option.{some}
 use mathlib.Core.Path.{◌≡◌, refl, sym, ap, ◌∙◌, subst}
-use native.Mathlib.Nat.{le_trans, le_of_eq, mul-le-mul_right}
-use native.Mathlib.Omega.{arith}
+use native.Mathlib.Nat.{le_trans, mul-le-mul_right}
 use lib.Dec.{leb, ltb, eqb, lit≤}
 use lib.IntN.{ℤ, pos, nat_abs}
 use lib.ListN.{length}
 use Rattle.rules.specs.Limits.{Limits}
-use Rattle.rules.specs.Lists.{if◌then◌else◌, all}
+use Rattle.rules.specs.Lists.{all}
 use Rattle.rules.specs.Table.{Table, rank, element_count}
 use Rattle.rules.specs.Sound.{sound}
 use Rattle.rules.specs.Memory.{Memory, decode, sound_memory}
 use Rattle.rules.specs.Questions.{Asked, no_answer, answer}
-use Rattle.rules.specs.Replies.{list_number, list_size, listed}
-use Rattle.rules.specs.Calls.{Filled}
+use Rattle.rules.specs.Replies.{list_size, listed}
 use Rattle.rules.specs.Areas.{most_pieces, piece_on_grid, twice_area, sizes, sheet, area_sheet, areas_reply, AreasNumbers, RefusedAreasLeave, AreasFillFront, AreasFit}
 use Rattle.rules.proofs.AreaSizes.{area_few, sizes_few}
-use Rattle.rules.proofs.Laws.{and_true, either, le_test, test_le, none_some}
+use Rattle.rules.proofs.Laws.{and_true, le_test, test_le, none_some}
 use Rattle.rules.proofs.OneCall.{sound_table}
 use Rattle.rules.proofs.Refusals.{RefusedIn, listed_refused, listed_fills, listed_in, listed_by}
 

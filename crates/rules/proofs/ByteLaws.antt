@@ -1,5 +1,6 @@
 -- Numbers and floats as bytes, there and back: what was written is read, and what is read of bytes was written so.
 -- A float needs that its format holds it, one way, and that it is no NaN, the other; the kit's laws of bit patterns do the rest.
+use Rattle.std.specs.Prelude.{if◌then◌else◌}
 use Prim.Native.Nat.{ℕ, zero, suc, ◌+◌, ◌*◌, ◌/◌, ◌%◌, ◌^◌, ◌<◌}
 use mathlib.Core.Bool.{Bool, true, false, false≢true}
 use mathlib.Core.List.{List, [], ◌∷◌, ◌++◌, append_assoc, map}
@@ -11,7 +12,7 @@ use lib.ListN.{length, take, drop, length-append, take-append-drop}
 use lib.Seq.{take_at, drop_at, length-take-le}
 use lib.Ieee.{Float, binary64, of_bits, to_bits, fits, is_nan, top}
 use lib.Ieee.Bits.{of_bits-to_bits, to_bits-lt, to_bits-of_bits}
-use Rattle.rules.specs.Lists.{if◌then◌else◌, all, joined, alike}
+use Rattle.rules.specs.Lists.{all, joined, alike}
 use Rattle.rules.specs.Bytes.{little_endian, are_bytes, bytes_of, float_byte8}
 use Rattle.rules.specs.Files.{Reading, broken, got, and_then, after_mark, many, number, float}
 use Rattle.rules.proofs.Laws.{and_left, and_right, and_true, le_test, test_le, truly, falsely, if_true}

@@ -1,5 +1,6 @@
 -- Demand 3 at the public replies, for whole sequences of calls: every memory that follows a sound one is sound and goes on from it,
 -- so what was answered once is answered again, from the table that is there.
+use Rattle.std.specs.Prelude.{if◌then◌else◌}
 use Prim.Native.Nat.{ℕ, ◌<◌, suc, zero}
 use mathlib.Core.Bool.{not, true, Bool, false}
 use mathlib.Core.List.{List, [], ◌∷◌}
@@ -8,7 +9,6 @@ use mathlib.Core.Path.{◌≡◌, refl, subst, sym, ◌∙◌, ap, ap₂}
 use native.Mathlib.Nat.{lt_irrefl, le_trans, suc-ne-zero}
 use lib.Ieee.{inf, fin, Float, nan}
 use Rattle.rules.specs.Limits.{Limits, Readable}
-use Rattle.rules.specs.Lists.{if◌then◌else◌}
 use Rattle.rules.specs.Table.{Table, rank}
 use Rattle.rules.specs.Memory.{Memory, sound_memory, decode}
 use Rattle.rules.specs.Cut.{Params, cut, done, cut_at_distance, corner_output}
@@ -81,28 +81,31 @@ pub record Follows (L : Limits) (m m' : Memory) : Type 0 where
   pub extends : Extends (decode L m) (decode L m')
 
 module _ (L : Limits) (R : Readable L) where
-  pub call_follows : (c : Call) (m : Memory) → sound_memory L m ≡ true → LeavesTable L c m → Follows L m (after L c m)
-  call_follows asking m s n = record { sound_after = s; extends = extends_refl (decode L m) }
-  call_follows (cubing d radius) m s n =
-      subst (λ (x : Memory). Follows L m x) (sym (refused_cube_leaves L d radius m n)) (record { sound_after = s; extends = extends_refl (decode L m) })
-  call_follows (opening bs) m s n =
-      subst (λ (x : Memory). Follows L m x) (sym (refused_open_leaves L bs m n)) (record { sound_after = s; extends = extends_refl (decode L m) })
-  call_follows (cutting p root) m s n = go (cut_reply L p root m).0 (cut_reply L p root m).1 refl
+  pub follows_itself : (m : Memory) → sound_memory L m ≡ true → Follows L m m
+  follows_itself m s = record { sound_after = s; extends = extends_refl (decode L m) }
+
+  pub cut_follows : (p : CutParams) (root : ℕ) (m : Memory) → sound_memory L m ≡ true → Follows L m (cut_reply L p root m).1
+  cut_follows p root m s = go (cut_reply L p root m).0 (cut_reply L p root m).1 refl
     where
       go : (r : CutReply) (m' : Memory) → cut_reply L p root m ≡ (r, m') → Follows L m m'
-      go (Refused n) m' e =
-          subst (λ (x : Memory). Follows L m x) (sym (refused_leaves L p root m m' n e)) (record { sound_after = s; extends = extends_refl (decode L m) })
+      go (Refused n) m' e = subst (λ (x : Memory). Follows L m x) (sym (refused_leaves L p root m m' n e)) (follows_itself m s)
       go (Answered a w) m' e = record {
         sound_after = memory_sound L R p root m (record { output = a; warning = w }) m' e;
         extends = built_extends (memory_built L R p root m (record { output = a; warning = w }) m' e);
       }
 
+  pub follows_on : {a b c : Memory} → Follows L a b → Follows L b c → Follows L a c
+  follows_on f g = record { sound_after = g.sound_after; extends = extends_trans f.extends g.extends }
+
+  pub call_follows : (c : Call) (m : Memory) → sound_memory L m ≡ true → LeavesTable L c m → Follows L m (after L c m)
+  call_follows asking m s n = follows_itself m s
+  call_follows (cubing d radius) m s n = subst (λ (x : Memory). Follows L m x) (sym (refused_cube_leaves L d radius m n)) (follows_itself m s)
+  call_follows (opening bs) m s n = subst (λ (x : Memory). Follows L m x) (sym (refused_open_leaves L bs m n)) (follows_itself m s)
+  call_follows (cutting p root) m s n = cut_follows p root m s
+
   pub calls_follow : (cs : List Call) (m : Memory) → sound_memory L m ≡ true → TableStays L cs m → Follows L m (after_calls L cs m)
-  calls_follow [] m s n = record { sound_after = s; extends = extends_refl (decode L m) }
-  calls_follow (c ∷ cs) m s n =
-      let f = call_follows c m s n.0 in
-      let g = calls_follow cs (after L c m) f.sound_after n.1 in
-      record { sound_after = g.sound_after; extends = extends_trans f.extends g.extends }
+  calls_follow [] m s n = follows_itself m s
+  calls_follow (c ∷ cs) m s n = let f = call_follows c m s n.0 in follows_on f (calls_follow cs (after L c m) f.sound_after n.1)
 
   -- ---- an answer, replayed
 

@@ -1,10 +1,10 @@
 -- A clamped coordinate lies between its ends, and keeps every bound that both ends keep: by comparisons alone, whatever was clamped, a NaN too.
+use Rattle.std.specs.Prelude.{if◌then◌else◌}
 use Prim.Native.Nat.{ℕ, ◌*◌}
 use mathlib.Core.Bool.{false, true, false≢true, true≢false, Bool, ◌&&◌, ◌||◌}
 use mathlib.Core.Path.{◌≡◌, refl, ◌∙◌}
 use lib.Ieee.{le, Float, fin, is_nan, lt, neg, eq, nan, inf, up, down}
 use lib.IntN.{ℤ}
-use Rattle.rules.specs.Lists.{if◌then◌else◌}
 use Rattle.rules.specs.Floats.{clamp, within, greater, lesser}
 use Rattle.rules.specs.Promises.{Between}
 use Rattle.rules.proofs.Comparisons.{fin_chain, test, turned, le_self, not_below}

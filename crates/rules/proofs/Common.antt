@@ -1,5 +1,6 @@
 -- What lists of kept numbers hold; that sub-elements are the least set; that the vertex set is the union over boundaries;
 -- and that the greatest common sub-elements are the common ones of the highest rank that has some.
+use Rattle.std.specs.Prelude.{if◌then◌else◌}
 use Prim.Native.Nat.{ℕ, zero, suc, ◌+◌, ◌<◌, ◌≤◌, zero-le}
 use mathlib.Core.Bool.{Bool, true, false, ◌&&◌, false≢true}
 use mathlib.Core.List.{List, [], ◌∷◌, map}
@@ -9,7 +10,7 @@ use native.Mathlib.Omega.{arith}
 use lib.Dec.{eqb, ltb, leb}
 use lib.ListN.{length}
 use Rattle.rules.specs.Limits.{Limits}
-use Rattle.rules.specs.Lists.{if◌then◌else◌, all, any, keep, member, up_to, up_from}
+use Rattle.rules.specs.Lists.{all, any, keep, member, up_to, up_from}
 use Rattle.rules.specs.Table.{Table, vertex_of, element, boundary, rank, element_count}
 use Rattle.rules.specs.Sound.{sound}
 use Rattle.rules.specs.Questions.{reaches, is_below, sub_elements, with_rank, vertex_set, common_with_rank, some_or, greatest_from, greatest_common, Asked, answer, no_answer}

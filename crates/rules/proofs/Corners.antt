@@ -1,4 +1,5 @@
 -- Vertex elements name the vertices in order: so a vertex in use has its element, the next vertex has none yet, and a corner names a vertex in use.
+use Rattle.std.specs.Prelude.{if◌then◌else◌}
 use Prim.Native.Nat.{ℕ, suc, ◌≤◌, ◌<◌, ◌+◌, zero, zero-le}
 use mathlib.Core.Bool.{Bool, ◌||◌, true, false, false≢true, true≢false}
 use mathlib.Core.List.{List, map, [], ◌∷◌}
@@ -9,7 +10,7 @@ use native.Mathlib.Omega.{arith}
 use lib.Dec.{eqb, T, ltb}
 use lib.ListN.{length, get_or}
 use Rattle.rules.specs.Limits.{Limits}
-use Rattle.rules.specs.Lists.{if◌then◌else◌, find, find_from, any, keep, up_from}
+use Rattle.rules.specs.Lists.{find, find_from, any, keep, up_from}
 use Rattle.rules.specs.Table.{corner, Element, same_element, vertex_of, is_corner, polytope, Table, element, element_count}
 use Rattle.rules.proofs.Fine.{Fine, Names}
 use Rattle.rules.proofs.Good.{Good, all_below_lem, whole_at}

@@ -1,5 +1,6 @@
 -- The two coordinates of a cube never match: -r and r lie 2r apart, at least 2, which rounds to no less than 1, and 1 is above the tolerance.
 -- So two corners of a cube match only where their digits are the same.
+use Rattle.std.specs.Prelude.{if◌then◌else◌}
 use Prim.Native.Nat.{ℕ, zero, suc, ◌*◌, ◌^◌, ◌+◌, ◌≤◌, ◌<◌}
 use mathlib.Core.Bool.{true, false, Bool, cond, false≢true}
 use mathlib.Core.List.{List, [], ◌∷◌}
@@ -11,7 +12,7 @@ use lib.Ieee.{round, odd, neg, units, Format, lt, low, emax, prec, inf, le, fin,
 use lib.Ieee.Fits.{round_is, down_pos}
 use lib.Ieee.Order.{round_mono}
 use lib.IntN.{ℤ, pos, negsuc}
-use Rattle.rules.specs.Lists.{if◌then◌else◌, all}
+use Rattle.rules.specs.Lists.{all}
 use Rattle.rules.specs.Floats.{tolerance, one, within, matches, farthest, point_matches}
 use Rattle.rules.specs.Cube.{radius_fits, cube_point}
 use Rattle.rules.proofs.Comparisons.{fact, fin_chain, test}

@@ -1,5 +1,6 @@
 -- The numbers below n that pass a test: how many there are, and what holds of a list made over the numbers from k up.
 -- By induction on n; a count grows at its last number.
+use Rattle.std.specs.Prelude.{if◌then◌else◌}
 use Prim.Native.Nat.{ℕ, zero, suc, ◌+◌, ◌*◌, ◌-◌, ◌≤◌, ◌<◌}
 use mathlib.Core.Bool.{Bool, true, false, not}
 use mathlib.Core.List.{List, [], ◌∷◌, ◌++◌, map}
@@ -7,7 +8,7 @@ use mathlib.Core.Path.{◌≡◌, refl, sym, ap, ◌∙◌, subst, fun_ext}
 use native.Mathlib.Nat.{add-zero, zero-add, le_of_eq, le_refl, le_of_suc-le-suc, not-suc-le-zero}
 use native.Mathlib.Omega.{arith}
 use lib.ListN.{length, get_or, length-append}
-use Rattle.rules.specs.Lists.{if◌then◌else◌, all, any, keep, all_from, distinct, up_from, up_to}
+use Rattle.rules.specs.Lists.{all, any, keep, all_from, distinct, up_from, up_to}
 use Rattle.rules.proofs.Growing.{keep_append, up_from_snoc}
 use Rattle.rules.proofs.Laws.{and_true, neither}
 

@@ -1,5 +1,6 @@
 -- No vertex of a cube matches an earlier one: two of its corners have other digits, so on some axis they lie a diameter apart.
 -- With what stays unmatched, a crossing is never entered as two corners.
+use Rattle.std.specs.Prelude.{if◌then◌else◌}
 use Prim.Native.Nat.{ℕ, zero, suc, ◌%◌, ◌/◌, ◌<◌, ◌^◌}
 use mathlib.Core.Bool.{true, Bool, false}
 use mathlib.Core.List.{◌∷◌, List, [], map}
@@ -7,9 +8,9 @@ use mathlib.Core.Path.{◌≡◌, refl, subst, ap₂, ◌∙◌}
 use native.Mathlib.Nat.{suc-ne-zero, le_of_eq, zero-add, not-suc-le-zero, le_of_suc-le-suc, le_trans, le_of_lt}
 use native.Mathlib.Omega.{arith}
 use lib.Dec.{ltb, eqb}
-use lib.Ieee.{Float, up}
+use lib.Ieee.{Float}
 use lib.ListN.{length, get_or, length-map}
-use Rattle.rules.specs.Lists.{all, if◌then◌else◌, keep, up_to}
+use Rattle.rules.specs.Lists.{all, keep, up_to}
 use Rattle.rules.specs.Floats.{point_matches}
 use Rattle.rules.specs.Cube.{digits, is_vertex, radius_fits, chosen, cube, cube_point}
 use Rattle.rules.specs.Promises.{Unmatched}
@@ -17,7 +18,6 @@ use Rattle.rules.proofs.Borders.{rise_at}
 use Rattle.rules.proofs.CornersApart.{points_apart}
 use Rattle.rules.proofs.CubeDigits.{digits_inj}
 use Rattle.rules.proofs.Growing.{all_get}
-use Rattle.rules.proofs.Later.{same}
 use Rattle.rules.proofs.Laws.{eq_test, unlike_eq, and_true, test_le, le_test}
 use Rattle.rules.proofs.VertexSet.{keep_all, up_under, each_kept, keep_rises, up_rises}
 

@@ -1,5 +1,6 @@
 -- Numbers in base 3: the digits of a number and the number of some digits undo one another below 3 ^ d.
 -- So different numbers below 3 ^ d have different digits.
+use Rattle.std.specs.Prelude.{if◌then◌else◌}
 use Prim.Native.Nat.{ℕ, zero, suc, ◌+◌, ◌*◌, ◌^◌, ◌/◌, ◌%◌, ◌≤◌, ◌<◌}
 use mathlib.Core.Bool.{Bool, true, false}
 use mathlib.Core.List.{List, [], ◌∷◌}
@@ -8,7 +9,7 @@ use native.Mathlib.Nat.{pow-suc, le_refl}
 use native.Mathlib.Omega.{arith}
 use lib.Dec.{eqb}
 use lib.ListN.{length}
-use Rattle.rules.specs.Lists.{if◌then◌else◌, keep}
+use Rattle.rules.specs.Lists.{keep}
 use Rattle.rules.specs.Cube.{digits, of_digits, twos}
 use Rattle.rules.proofs.Extends.{Below}
 

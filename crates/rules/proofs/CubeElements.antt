@@ -1,5 +1,6 @@
 -- The cube's elements pass the tests of a table: each by its digits, and no two are equal.
 -- Corners differ by how many come before them, and polytopes by their boundaries, which tell their numbers.
+use Rattle.std.specs.Prelude.{if◌then◌else◌}
 use Prim.Native.Nat.{ℕ, ◌<◌, ◌*◌, ◌≤◌, ◌^◌, zero, suc, ◌+◌}
 use mathlib.Core.Bool.{Bool, true, ◌&&◌, false, not, true≢false, beq}
 use mathlib.Core.List.{List, [], ◌∷◌, map, ◌++◌, append-nil}
@@ -11,7 +12,7 @@ use native.Mathlib.Omega.{arith}
 use lib.Dec.{eqb, leb, ltb}
 use lib.Ieee.{Float}
 use lib.ListN.{length, length-map}
-use Rattle.rules.specs.Lists.{if◌then◌else◌, alike, all, member, up_to, keep, distinct, all_from}
+use Rattle.rules.specs.Lists.{alike, all, member, up_to, keep, distinct, all_from}
 use Rattle.rules.specs.Table.{polytope, Element, is_corner, boundary_of, same_element, corner, same_plane, rank, rank_of, vertex_of, element, boundary}
 use Rattle.rules.specs.Walk.{ends_of, around, each_once, each_twice}
 use Rattle.rules.specs.Sound.{closed, sound_facet, names_plane, names_none, sound_element}

@@ -1,5 +1,6 @@
 -- The boundary of an element of the cube, as numbers: how many, that they rise and are below the element's own, their ranks, and that they tell the element.
 -- By induction on the digits: a digit in front multiplies the numbers by 3, and a 2 in front adds two at the end.
+use Rattle.std.specs.Prelude.{if◌then◌else◌}
 use Prim.Native.Nat.{ℕ, ◌+◌, ◌*◌, ◌<◌, zero, suc}
 use mathlib.Core.Bool.{true, Bool, false}
 use mathlib.Core.List.{List, map, ◌∷◌, [], append-nil, ◌++◌}
@@ -7,7 +8,7 @@ use mathlib.Core.Path.{ap, ◌≡◌, refl, ◌∙◌, subst, sym}
 use native.Mathlib.Omega.{arith}
 use lib.Dec.{ltb, eqb}
 use lib.ListN.{length, length-map, length-append}
-use Rattle.rules.specs.Lists.{rises, all, if◌then◌else◌, keep}
+use Rattle.rules.specs.Lists.{rises, all, keep}
 use Rattle.rules.specs.Cube.{digits, of_digits, faces, twos}
 use Rattle.rules.specs.Held.{AllOf}
 use Rattle.rules.proofs.CubeDigits.{digits_step, digits_of}

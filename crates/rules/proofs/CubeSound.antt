@@ -1,5 +1,6 @@
 -- The cube of every dimension that the room allows, of every radius in range, is sound.
 -- What is left here is the floats: the coordinates are the radius and its negative, and a facet's normal has one component that is not +0.
+use Rattle.std.specs.Prelude.{if◌then◌else◌}
 use Prim.Native.Nat.{ℕ, zero, suc, ◌*◌, ◌^◌, ◌≤◌, zero-le}
 use mathlib.Core.Bool.{Bool, true, false, not, false≢true}
 use mathlib.Core.List.{List, [], ◌∷◌, map}
@@ -11,7 +12,7 @@ use lib.Ieee.{Float, nan, inf, fin, binary64, neg, add, sub, mul, le, lt, eq, up
 use lib.IntN.{pos}
 use lib.ListN.{length, length-map}
 use Rattle.rules.specs.Limits.{Limits, HasCubes}
-use Rattle.rules.specs.Lists.{if◌then◌else◌, all, up_to}
+use Rattle.rules.specs.Lists.{all, up_to}
 use Rattle.rules.specs.Floats.{plus_zero, one, tolerance, farthest, farthest_plane, within, dot_from, dot, unit}
 use Rattle.rules.specs.Table.{element_count, primordials}
 use Rattle.rules.specs.Sound.{sound_point, sound_plane, sound}

@@ -1,5 +1,6 @@
 -- The cube's elements of rank 2, squares, are rings: each vertex met lies on exactly two edges, and the edges hang together.
 -- By induction on the digits: one in front that is no 2 keeps how often a vertex is met, and what hangs together; a 2 in front of an edge with ends a < b makes the four vertices below.
+use Rattle.std.specs.Prelude.{if◌then◌else◌}
 use Prim.Native.Nat.{ℕ, zero, suc, ◌+◌, ◌*◌, ◌^◌, ◌<◌}
 use mathlib.Core.Bool.{Bool, true, false, ◌&&◌, false≢true}
 use mathlib.Core.List.{List, [], ◌∷◌, ◌++◌, map}
@@ -7,7 +8,7 @@ use mathlib.Core.Path.{◌≡◌, refl, sym, ap, ap₂, ◌∙◌, subst}
 use native.Mathlib.Omega.{arith}
 use lib.Dec.{eqb, ltb}
 use lib.ListN.{length}
-use Rattle.rules.specs.Lists.{if◌then◌else◌, all, keep, joined, member, occurrences, rises}
+use Rattle.rules.specs.Lists.{all, keep, joined, member, occurrences, rises}
 use Rattle.rules.specs.Cube.{digits, of_digits, twos}
 use Rattle.rules.proofs.Common.{member_mapped, mapped_member}
 use Rattle.rules.proofs.CubeDigits.{digits_step, digits_of, digit_low, of_digits_lem, below_power}

@@ -1,31 +1,33 @@
 -- A list of cuts is the single cuts in turn: by induction over the cuts that are left, from any position, with the room filled before it.
+-- Made again, each of its cuts meets a memory that goes on from the one that it left, so it answers the same and adds nothing.
 use Prim.Native.Nat.{ℕ, zero, suc, ◌+◌, ◌≤◌, ◌<◌, zero-le}
-use mathlib.Core.Bool.{Bool, true, false, not}
+use mathlib.Core.Bool.{Bool, true, false}
 use mathlib.Core.List.{List, [], ◌∷◌, map}
 use mathlib.Core.Path.{◌≡◌, refl, sym, ap, subst, ◌∙◌}
 use native.Mathlib.Nat.{le_refl, le_trans, not-suc-le-zero, le_of_suc-le-suc, suc-ne-zero, add-zero, zero-add}
 use native.Mathlib.Omega.{arith}
-use lib.Dec.{ltb}
-use lib.ListN.{length, length-map, length-set, get_or, set, take, drop}
-use lib.Seq.{get_or-set_same, get_or-set_other, drop-set-lt}
+use lib.Dec.{leb, ltb}
+use lib.ListN.{length, length-map, length-set, get_or, set, take, drop, get_or-map}
+use lib.Seq.{get_or-set_same, get_or-set_other, drop-set-lt, get_or-take, take-take, length-take-le}
 use Rattle.rules.specs.Limits.{Limits, Readable}
-use Rattle.rules.specs.Lists.{if◌then◌else◌, member, up_to}
+use Rattle.rules.specs.Lists.{member, up_to}
 use Rattle.rules.specs.Memory.{Memory, sound_memory}
 use Rattle.rules.specs.Replies.{output_word, cut_reply}
-use Rattle.rules.specs.Calls.{after_calls, TableStays}
 use Rattle.rules.specs.CutLists.{CutList, list_fits, ListedCut, cut_at, cuts_of, going_on, cuts_from, cut_list_reply, answers_written}
+use Rattle.rules.specs.Calls.{Call, after, after_calls, TableStays}
 use Rattle.rules.specs.CutLists.{call_of, calls_of, after_first, singly, AnsweredAs, MadeSingly, EndsAs, CutListNumbers, RefusedCutListLeaves, CutListIsCuts, StoppedAtTheRefused}
+use Rattle.rules.specs.CutLists.{going_on_by, CutListGoesOn, AnsweredAgain, CutListAgain}
+use Rattle.rules.specs.declared.ElementAnswer.{ElementAnswer}
 use Rattle.rules.specs.declared.CutReply.{CutReply}
 use Rattle.rules.specs.declared.CutReply.TheVariants as one
 use Rattle.rules.specs.declared.CutListReply.{CutListReply}
 use Rattle.rules.specs.declared.CutListReply.TheVariants.{Refused, Stopped, Answered}
-use Rattle.rules.proofs.Calls.{calls_follow}
+use Rattle.rules.proofs.AfterList.{Result, list_by, list_by_lem, after_cuts, after_list}
+use Rattle.rules.proofs.Calls.{Follows, follows_itself, follows_on, cut_follows, calls_follow, same_sides}
 use Rattle.rules.proofs.Counting.{length_up, getD_up}
-use Rattle.rules.proofs.Laws.{not_le}
+use Rattle.rules.proofs.Laws.{le_test, not_le, test_above}
+use Rattle.rules.proofs.OneCall.{memory_sound}
 use Rattle.rules.proofs.Refusals.{refused_leaves, sound_refusal_number}
-
-abbrev Result : Type 0
-Result = CutListReply × List ℕ × Memory
 
 -- ---- some cuts, from a position on
 
@@ -141,26 +143,19 @@ module _ (L : Limits) (l : CutList) where
   cut_at_lem i h = getD_up (cut_at L l) first 0 (length l.roots) i h ∙ ap (cut_at L l) (zero-add i)
 
   module _ (room : List ℕ) (m : Memory) where
-    abbrev pub list_by : Bool → Bool → Bool → Result
-    list_by s f k = if not s then (Refused 3, room, m) else if not f then (Refused 26, room, m) else if k then (Refused 12, room, m) else cuts_from L (cuts_of L l) 0 room m
-
-    pub list_by_lem : cut_list_reply L l room m ≡ list_by (sound_memory L m) (list_fits L l) (ltb (length room) (length l.roots))
-    unfolding cut_list_reply
-    list_by_lem = refl
-
     -- refused before any cut, or the cuts are made of a sound memory, with room for all answers
     data Way : Type 0 where
       unmade : (n : ℕ) → member n (3 ∷ 26 ∷ 12 ∷ []) ≡ true → cut_list_reply L l room m ≡ (Refused n, room, m) → Way
-      making : sound_memory L m ≡ true → length l.roots ≤ length room → cut_list_reply L l room m ≡ cuts_from L (cuts_of L l) 0 room m → Way
+      making : sound_memory L m ≡ true → list_fits L l ≡ true → length l.roots ≤ length room → cut_list_reply L l room m ≡ cuts_from L (cuts_of L l) 0 room m → Way
 
     way : Way
-    way = go (sound_memory L m) (list_fits L l) (ltb (length room) (length l.roots)) refl refl list_by_lem
+    way = go (sound_memory L m) (list_fits L l) (ltb (length room) (length l.roots)) refl refl refl (list_by_lem L l room m)
       where
-        go : (s f k : Bool) → sound_memory L m ≡ s → ltb (length room) (length l.roots) ≡ k → cut_list_reply L l room m ≡ list_by s f k → Way
-        go false f k p q e = unmade 3 refl e
-        go true false k p q e = unmade 26 refl e
-        go true true true p q e = unmade 12 refl e
-        go true true false p q e = making p (le_of_suc-le-suc (not_le (suc (length room)) (length l.roots) q)) e
+        go : (s f k : Bool) → sound_memory L m ≡ s → list_fits L l ≡ f → ltb (length room) (length l.roots) ≡ k → cut_list_reply L l room m ≡ list_by L l room m s f k → Way
+        go false f k p t q e = unmade 3 refl e
+        go true false k p t q e = unmade 26 refl e
+        go true true true p t q e = unmade 12 refl e
+        go true true false p t q e = making p t (le_of_suc-le-suc (not_le (suc (length room)) (length l.roots) q)) e
 
     made_of : length l.roots ≤ length room → Ran L first (cuts_of L l) 0 room m (cuts_from L (cuts_of L l) 0 room m)
     made_of h = ran L first (cuts_of L l) 0 room m (let k = as_many in let z : 0 + length (cuts_of L l) ≤ length room = omega (arith, h, k) in z)
@@ -213,14 +208,14 @@ cut_list_numbers L R l room m = go (way L l room m)
   where
     go : Way L l room m → EndsAs (length l.roots) (cut_list_reply L l room m).0
     go (unmade n k e) = subst (λ (r : Result). EndsAs (length l.roots) r.0) (sym e) k
-    go (making s h e) = subst (λ (r : Result). EndsAs (length l.roots) r.0) (sym e) (ends L l room m s R _ (made_of L l room m h))
+    go (making s t h e) = subst (λ (r : Result). EndsAs (length l.roots) r.0) (sym e) (ends L l room m s R _ (made_of L l room m h))
 
 pub refused_cut_list_leaves : (L : Limits) → RefusedCutListLeaves L
 refused_cut_list_leaves L l room m n w = go (way L l room m)
   where
     go : Way L l room m → cut_list_reply L l room m ≡ (Refused n, room, m)
     go (unmade k h e) = let z = ap (λ (r : Result). r.0) e in let q : k ≡ n = cc in e ∙ (λ j. (Refused (q j), room, m))
-    go (making s h e) =
+    go (making s t h e) =
         absurd (subst (Ended L (first L l) (cuts_of L l) (made_of L l room m h).made m (cuts_from L (cuts_of L l) 0 room m).2)
         (sym (ap (λ (r : Result). r.0) e) ∙ w) (made_of L l room m h).ended)
 
@@ -234,12 +229,144 @@ cut_list_is_cuts L l room m = go (way L l room m)
     go (unmade n k e) =
         subst Made (sym e)
         (record { few = zero-le; answers = λ i h. absurd (not-suc-le-zero h); memory = refl; calls = tt; behind = record { fits = zero-le; size = refl; rest = refl } })
-    go (making s h e) = subst Made (sym e) (singly_made L l room m _ (made_of L l room m h) h)
+    go (making s t h e) = subst Made (sym e) (singly_made L l room m _ (made_of L l room m h) h)
 
 pub stopped_at_the_refused : (L : Limits) → StoppedAtTheRefused L
 stopped_at_the_refused L l room m n i w = go (way L l room m)
   where
     go : Way L l room m → singly L l i m ≡ (one.Refused n, (cut_list_reply L l room m).2)
     go (unmade k h e) = let z = ap (λ (r : Result). r.0) e in let q : ◌≡◌ {A = ℕ} 0 1 = cc in absurd (suc-ne-zero 0 (sym q))
-    go (making s h e) =
+    go (making s t h e) =
         stopped L l room m _ (made_of L l room m h) n i (sym (ap (λ (r : Result). r.0) e) ∙ w) ∙ (λ j. (one.Refused n, (sym e j).2))
+
+-- ---- a list goes on after each of its cuts
+
+module _ (L : Limits) where
+  -- calls from one of them on
+  split : (cs : List Call) (i : ℕ) (d : Call) (m : Memory) → i < length cs → TableStays L cs m
+      → let there = after L (get_or cs i d) (after_calls L (take i cs) m) in (after_calls L (drop (suc i) cs) there ≡ after_calls L cs m) × TableStays L (drop (suc i) cs) there
+  split [] i d m h s = absurd (not-suc-le-zero h)
+  split (c ∷ cs) zero d m h s = (refl, s.1)
+  split (c ∷ cs) (suc i) d m h s = split cs i d (after L c m) (le_of_suc-le-suc h) s.1
+
+  pub cut_list_goes_on : CutListGoesOn L
+  cut_list_goes_on l room m i h =
+      let q = cut_list_is_cuts L l room m in
+      let k = answers_written (cut_list_reply L l room m).0 in
+      let made = take k (calls_of L l) in
+      let few = q.few in
+      let many = as_many L l in
+      let listed = length-map (cuts_of L l) call_of in
+      let long = length-take-le k (calls_of L l) (omega (arith, few, many, listed)) in
+      let x = split made i (call_of (first L l)) m (omega (arith, h, long)) q.calls in
+      let here : after L (get_or made i (call_of (first L l))) (after_calls L (take i made) m) ≡ (singly L l i m).1 =
+      (λ j. after L (get_or-take k (calls_of L l) i (call_of (first L l)) h j) (after_calls L (take-take i k (calls_of L l) (omega (arith, h)) j) m))
+      ∙ ap (λ (c : Call). after L c (after_first L l i m)) (get_or-map call_of (cuts_of L l) i (first L l) ∙ ap call_of (cut_at_lem L l i (le_trans h few))) in
+      record {
+        memory = ap (after_calls L (going_on_by L l k i)) (sym here) ∙ x.0 ∙ sym q.memory;
+        calls = subst (TableStays L (going_on_by L l k i)) here x.1;
+      }
+
+-- ---- the same list again
+
+module _ (L : Limits) (R : Readable L) where
+  -- some cuts from a position on, again: those from there on are answered as they were, and what stands before it stays
+  record Again (i k : ℕ) (filled room : List ℕ) (m : Memory) (r : Result) : Type 0 where
+    pub reply : r.0 ≡ Answered k
+    pub memory : r.2 ≡ m
+    pub front : (j : ℕ) → j < i → get_or r.1 j 0 ≡ get_or room j 0
+    pub answers : (j : ℕ) → i ≤ j → j < k → get_or r.1 j 0 ≡ get_or filled j 0
+
+  -- a list that stopped was not answered
+  not_stopped : {A : Type 0} (n i k : ℕ) → Stopped n i ≡ Answered k → A
+  not_stopped n i k e = let z : ◌≡◌ {A = ℕ} 0 1 = cc in absurd (suc-ne-zero 0 (sym z))
+
+  again : (d : ListedCut) (cs : List ListedCut) (i k : ℕ) (room room' : List ℕ) (m later : Memory) → sound_memory L m ≡ true → i + length cs ≤ length room → i + length cs ≤ length room'
+      → (cuts_from L cs i room m).0 ≡ Answered k → Follows L (cuts_from L cs i room m).2 later → Again i k (cuts_from L cs i room m).1 room' later (cuts_from L cs i room' later)
+  again d [] i k room room' m later s h h' e f = record {
+    reply = e;
+    memory = refl;
+    front = λ j low. refl;
+    answers = λ j from low. let z : i ≡ k = cc in absurd (omega (arith, from, low, z));
+  }
+  again d (c ∷ cs) i k room room' m later s h h' e f =
+      go (cut_reply L c.params c.root m).0 (cut_reply L c.params c.root m).1 refl e f (λ word m'. again d cs (suc i) k (set room i word) (set room' i word) m' later)
+    where
+      Next : ℕ → Memory → Type 0
+      Next word m' = sound_memory L m' ≡ true → suc i + length cs ≤ length (set room i word) → suc i + length cs ≤ length (set room' i word)
+          → (cuts_from L cs (suc i) (set room i word) m').0 ≡ Answered k → Follows L (cuts_from L cs (suc i) (set room i word) m').2 later
+          → Again (suc i) k (cuts_from L cs (suc i) (set room i word) m').1 (set room' i word) later (cuts_from L cs (suc i) (set room' i word) later)
+
+      go : (r : CutReply) (m' : Memory) → cut_reply L c.params c.root m ≡ (r, m') → (going_on i room (r, m') (cuts_from L cs (suc i))).0 ≡ Answered k
+          → Follows L (going_on i room (r, m') (cuts_from L cs (suc i))).2 later → ((word : ℕ) (m' : Memory) → Next word m')
+          → Again i k (going_on i room (r, m') (cuts_from L cs (suc i))).1 room' later (cuts_from L (c ∷ cs) i room' later)
+      go (one.Refused n) m' q e f rest = not_stopped n i k e
+      go (one.Answered a w) m' q e f rest =
+          subst (λ (r : CutReply × Memory). Again i k (cuts_from L cs (suc i) (set room i word) m').1 room' later (going_on i room' r (cuts_from L cs (suc i))))
+          (sym (same_sides L R c.params c.root m answer m' q later follows))
+          (record { reply = y.reply; memory = y.memory; front = λ j low. y.front j (omega (arith, low)) ∙ get_or-set_other room' i j word 0 (λ x. absurd (omega (arith, low, x))); answers = answers })
+        where
+          word : ℕ
+          word = output_word a w
+
+          answer : ElementAnswer
+          answer = record { output = a; warning = w }
+
+          sound_next : sound_memory L m' ≡ true
+          sound_next = memory_sound L R c.params c.root m answer m' q
+
+          follows : Follows L m' later
+          follows =
+              follows_on L R (after_cuts L (Follows L m') (λ p root x g. follows_on L R g (cut_follows L R p root x g.sound_after)) cs (suc i) (set room i word) m' (follows_itself L R m' sound_next)) f
+
+          fits : suc i + length cs ≤ length (set room i word)
+          fits = let z = length-set room i word in omega (arith, h, z)
+
+          y : Again (suc i) k (cuts_from L cs (suc i) (set room i word) m').1 (set room' i word) later (cuts_from L cs (suc i) (set room' i word) later)
+          y = rest word m' sound_next fits (let z = length-set room' i word in omega (arith, h', z)) e f
+
+          -- the word at position i is this answer, both times
+          here : get_or (cuts_from L cs (suc i) (set room' i word) later).1 i 0 ≡ get_or (cuts_from L cs (suc i) (set room i word) m').1 i 0
+          here =
+              y.front i (le_refl (suc i)) ∙ get_or-set_same room' i word 0 (omega (arith, h'))
+              ∙ sym ((ran L d cs (suc i) (set room i word) m' fits).front i (le_refl (suc i)) ∙ get_or-set_same room i word 0 (omega (arith, h)))
+
+          answers : (j : ℕ) → i ≤ j → j < k → get_or (cuts_from L cs (suc i) (set room' i word) later).1 j 0 ≡ get_or (cuts_from L cs (suc i) (set room i word) m').1 j 0
+          answers j from low = by (leb (suc i) j) refl
+            where
+              by : (b : Bool) → leb (suc i) j ≡ b → get_or (cuts_from L cs (suc i) (set room' i word) later).1 j 0 ≡ get_or (cuts_from L cs (suc i) (set room i word) m').1 j 0
+              by true t = y.answers j (le_test (suc i) j t) low
+              by false t =
+                  let z = not_le (suc i) j t in
+                  let at : i ≡ j = omega (arith, from, z) in
+                  subst (λ (n : ℕ). get_or (cuts_from L cs (suc i) (set room' i word) later).1 n 0 ≡ get_or (cuts_from L cs (suc i) (set room i word) m').1 n 0) at here
+
+  pub cut_list_again : CutListAgain L
+  cut_list_again l room m k e cs n room' h' = go (way L l room m)
+    where
+      later : Memory
+      later = after_calls L cs (cut_list_reply L l room m).2
+
+      go : Way L l room m → AnsweredAgain k (cut_list_reply L l room m).1 later (cut_list_reply L l room' later)
+      go (unmade x q r) = let z = sym (ap (λ (y : Result). y.0) r) ∙ e in let w : ◌≡◌ {A = ℕ} 0 1 = cc in absurd (suc-ne-zero 0 (sym w))
+      go (making s t h r) =
+          record {
+            reply = ap (λ (y : Result). y.0) made ∙ x.reply;
+            answers = λ i low. ap (λ (y : Result). get_or y.1 i 0) made ∙ x.answers i zero-le low ∙ ap (λ (y : Result). get_or y.1 i 0) (sym r);
+            memory = ap (λ (y : Result). y.2) made ∙ x.memory;
+          }
+        where
+          follows : Follows L (cut_list_reply L l room m).2 later
+          follows = calls_follow L R cs (cut_list_reply L l room m).2 (after_list L (Follows L m) (λ p root x f. follows_on L R f (cut_follows L R p root x f.sound_after)) l room m (follows_itself L R m s)).sound_after n
+
+          short : ltb (length room') (length l.roots) ≡ false
+          short = test_above (suc (length room')) (length l.roots) (let z : length l.roots < suc (length room') = omega (arith, h') in z)
+
+          made : cut_list_reply L l room' later ≡ cuts_from L (cuts_of L l) 0 room' later
+          made = list_by_lem L l room' later ∙ (λ j. list_by L l room' later (follows.sound_after j) (t j) (short j))
+
+          few : (r : List ℕ) → length l.roots ≤ length r → 0 + length (cuts_of L l) ≤ length r
+          few r low = let z = as_many L l in omega (arith, low, z)
+
+          x : Again 0 k (cuts_from L (cuts_of L l) 0 room m).1 room' later (cuts_from L (cuts_of L l) 0 room' later)
+          x = again (first L l) (cuts_of L l) 0 k room room' m later s (few room h) (few room' h') (sym (ap (λ (y : Result). y.0) r) ∙ e) (subst (λ (y : Result). Follows L y.2 later) r follows)

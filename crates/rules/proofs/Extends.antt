@@ -1,5 +1,6 @@
 -- One table goes on from another: the same dimension, and each list begins with the old one.
 -- So an old entry keeps its number and content, and what looks only at old entries sees the same.
+use Rattle.std.specs.Prelude.{if◌then◌else◌}
 use Prim.Native.Nat.{◌+◌, ◌≤◌, ℕ, ◌<◌, zero, suc}
 use mathlib.Core.Bool.{Bool, true, false, not, ◌&&◌}
 use mathlib.Core.List.{List, [], append-nil, ◌++◌, append_assoc, ◌∷◌}
@@ -9,7 +10,7 @@ use native.Mathlib.Omega.{arith}
 use lib.Dec.{ltb, eqb}
 use lib.Ieee.{Float}
 use lib.ListN.{length, length-append, get_or, get_or-append}
-use Rattle.rules.specs.Lists.{if◌then◌else◌, with_member, all, keep, member, occurrences}
+use Rattle.rules.specs.Lists.{with_member, all, keep, member, occurrences}
 use Rattle.rules.specs.Table.{Table, element, element_count, Element, corner, rank, rank_of, boundary, boundary_of, Plane}
 use Rattle.rules.specs.Walk.{ends_of, edges_at, other_end, other_edge, walk, first_edge, lowest_of, start_of, around, each_once}
 use Rattle.rules.specs.Sound.{closed}

@@ -1,5 +1,6 @@
 -- Of edges that have two ends each, where each corner is met twice, a corner has two edges: it is met among the ends as often as an edge has it.
 -- And the corner where the walk starts is one of them, with the walk's first edge. The edges of a face of a sound table are such.
+use Rattle.std.specs.Prelude.{if◌then◌else◌}
 use Prim.Native.Nat.{ℕ, suc, ◌+◌, ◌≤◌, ◌<◌}
 use mathlib.Core.Bool.{Bool, true, false, not, ◌&&◌, ◌||◌, false≢true}
 use mathlib.Core.List.{List, [], ◌∷◌, ◌++◌, map}
@@ -9,7 +10,7 @@ use native.Mathlib.Omega.{arith}
 use lib.Dec.{eqb, ltb}
 use lib.ListN.{length, get_or, length-append}
 use Rattle.rules.specs.Limits.{Limits}
-use Rattle.rules.specs.Lists.{if◌then◌else◌, all, any, keep, member, occurrences, rises, up_to}
+use Rattle.rules.specs.Lists.{all, any, keep, member, occurrences, rises, up_to}
 use Rattle.rules.specs.Table.{Table, Element, corner, polytope, rank_of, boundary_of, vertex_of, element, boundary, rank, element_count}
 use Rattle.rules.specs.Walk.{ends_of, edges_at, other_end, other_edge, first_edge, lowest_of, start_of, around, each_once, each_twice}
 use Rattle.rules.specs.Sound.{sound}

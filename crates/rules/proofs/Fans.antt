@@ -1,15 +1,15 @@
 -- The sides of a fan. The triangles of the inner edges of a walk share spokes, each there and back; what is left is the inner edges, the way to the first of
 -- them and the way from the last, which are the walk's own first and last edges. By induction along the walk.
+use Rattle.std.specs.Prelude.{if◌then◌else◌}
 use Prim.Native.Nat.{ℕ, zero, suc, ◌+◌, ◌-◌, ◌≤◌, ◌<◌}
 use mathlib.Core.Path.{◌≡◌, refl, sym, ap, ap₂, ◌∙◌, subst}
 use mathlib.Core.Bool.{Bool, true, false, ◌&&◌, true≢false, false≢true}
 use mathlib.Core.List.{List, [], ◌∷◌, ◌++◌, map}
-use native.Mathlib.Nat.{not-suc-le-zero}
 use native.Mathlib.Omega.{arith}
 use lib.Dec.{eqb}
-use lib.ListN.{length, get_or, take, drop, length-append}
-use lib.Seq.{drop-cons, take-append-le, length-take-le}
-use Rattle.rules.specs.Lists.{if◌then◌else◌, keep, joined, up_from}
+use lib.ListN.{length, take, drop, length-append}
+use lib.Seq.{drop-cons}
+use Rattle.rules.specs.Lists.{keep, joined, up_from}
 use Rattle.rules.specs.Print.{Triangle, Way, way_at, fan, sides_of, goes, Fanned}
 use Rattle.rules.specs.Asking.{Chain}
 use Rattle.rules.proofs.Growing.{keep_append}

@@ -1,4 +1,5 @@
 -- The three kinds of records, there and back: a record that was written is read, and a record that is read was written so.
+use Rattle.std.specs.Prelude.{if◌then◌else◌}
 use Prim.Native.Nat.{ℕ, suc, ◌≤◌, ◌<◌}
 use mathlib.Core.Bool.{Bool, true, false, not, ◌&&◌, cond, true≢false}
 use mathlib.Core.List.{List, [], ◌∷◌, ◌++◌, append_assoc, append-nil}
@@ -10,7 +11,7 @@ use lib.ListN.{length, get_or, take, drop}
 use lib.Seq.{take_all}
 use lib.Ieee.{Float, binary64, fits, is_nan}
 use Rattle.rules.specs.Limits.{Limits, Readable, no_plane}
-use Rattle.rules.specs.Lists.{if◌then◌else◌, all}
+use Rattle.rules.specs.Lists.{all}
 use Rattle.rules.specs.Bytes.{are_bytes, bytes_of, number_bytes, float_byte8, float_bytes}
 use Rattle.rules.specs.Table.{Element, corner, polytope, Plane}
 use Rattle.rules.specs.Memory.{plane_number, plane_named, element_row, read_element}

@@ -1,4 +1,5 @@
 -- Saving and opening at their replies: each reply is a chain of tests over `layout`, so each promise goes by cases on them and cites the laws of a table's one file.
+use Rattle.std.specs.Prelude.{if◌then◌else◌}
 use Prim.Native.Nat.{ℕ, ◌<◌}
 use mathlib.Core.Bool.{Bool, true, false, not, ◌&&◌, false≢true}
 use mathlib.Core.List.{List, [], ◌∷◌, ◌++◌, append-nil}
@@ -11,7 +12,7 @@ use lib.ListN.{length, get_or, take, drop}
 use lib.Seq.{take_at}
 use lib.Ieee.{binary64, fits}
 use Rattle.rules.specs.Limits.{Limits, Readable, Fileable}
-use Rattle.rules.specs.Lists.{if◌then◌else◌, all, all_from, distinct, member}
+use Rattle.rules.specs.Lists.{all, all_from, distinct, member}
 use Rattle.rules.specs.Bytes.{are_bytes}
 use Rattle.rules.specs.Floats.{plus_zero}
 use Rattle.rules.specs.Table.{Table, same_element, primordials}

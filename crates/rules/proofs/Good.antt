@@ -1,5 +1,6 @@
 -- Soundness by its parts, and what it says of one element: the record `Good` has a field for each test of `sound`.
 -- An element that is sound stays sound in a table that extends.
+use Rattle.std.specs.Prelude.{if◌then◌else◌}
 use Prim.Native.Nat.{ℕ, suc, ◌≤◌, ◌<◌}
 use mathlib.Core.Bool.{true, ◌&&◌, Bool, not, false}
 use mathlib.Core.List.{map, List, [], ◌∷◌}
@@ -9,7 +10,7 @@ use native.Mathlib.Nat.{le_trans, zero-add, le_refl, le_of_lt, not-suc-le-zero}
 use lib.Dec.{leb, eqb, ltb}
 use lib.ListN.{length}
 use Rattle.rules.specs.Limits.{Limits}
-use Rattle.rules.specs.Lists.{all, keep, up_to, all_from, distinct, alike, rises, if◌then◌else◌}
+use Rattle.rules.specs.Lists.{all, keep, up_to, all_from, distinct, alike, rises}
 use Rattle.rules.specs.Table.{Table, element, element_count, boundary_of, primordials, corner, vertex_of, is_corner, Element, same_element, rank, polytope, rank_of}
 use Rattle.rules.specs.Sound.{sound_point, sound, sound_plane, sound_element, room_fits, corners_in_order, closed, sound_boundary, names_plane, sound_facet, names_none}
 use Rattle.rules.specs.Held.{Extends}

@@ -1,5 +1,6 @@
 -- Lists that grow by one, and what a search says of them: what is found stays found, and what is not found and then appended is found there.
 -- All by induction over the list.
+use Rattle.std.specs.Prelude.{if◌then◌else◌}
 use Prim.Native.Nat.{ℕ, ◌<◌, ◌+◌, suc, zero, ◌≤◌}
 use mathlib.Core.Bool.{Bool, true, false, not}
 use mathlib.Core.List.{List, ◌++◌, [], ◌∷◌, map}
@@ -8,7 +9,7 @@ use mathlib.Core.Path.{◌≡◌, subst, ap, refl, sym, ◌∙◌}
 use native.Mathlib.Nat.{add-zero, not-suc-le-zero, le_of_suc-le-suc}
 use native.Mathlib.Omega.{arith}
 use lib.ListN.{length, get_or}
-use Rattle.rules.specs.Lists.{if◌then◌else◌, find_from, all, all_from, keep, distinct, any, up_from}
+use Rattle.rules.specs.Lists.{find_from, all, all_from, keep, distinct, any, up_from}
 use Rattle.rules.proofs.Laws.{value_of, IsSome, and_true, and_left, and_right, not_true, neither, or_false}
 
 -- ---- a search in a longer list

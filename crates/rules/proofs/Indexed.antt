@@ -1,5 +1,6 @@
 -- Lists by index, for loops that go over them: what is left from i on is the entry at i, and what is left from i + 1 on.
 -- A loop's invariant says that what is asked of the whole list is asked of what is left.
+use Rattle.std.specs.Prelude.{if◌then◌else◌}
 use Prim.Native.Nat.{ℕ, zero, suc, ◌+◌, ◌-◌, ◌*◌, ◌≤◌, ◌<◌}
 use mathlib.Core.Path.{◌≡◌, refl, sym, ap, ap₂, ◌∙◌}
 use mathlib.Core.Bool.{Bool, true, false, ◌&&◌}
@@ -10,7 +11,7 @@ use native.Mathlib.Numerals.{add-one}
 use native.Mathlib.Omega.{arith}
 use lib.ListN.{length, get_or, take, drop, drop_of_length-le}
 use lib.Seq.{drop-cons, drop-drop, get_or-take, length-take-le}
-use Rattle.rules.specs.Lists.{if◌then◌else◌, all, find_from, alike, rows}
+use Rattle.rules.specs.Lists.{all, find_from, alike, rows}
 use Rattle.rules.proofs.Laws.{if_true, if_false}
 
 -- ---- a test of every entry

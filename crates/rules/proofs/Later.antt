@@ -1,9 +1,9 @@
 -- A step that was done, and the step that replays it on any later table: it gives the same value, or that value with places left out, and adds nothing.
 -- The hypothesis of every induction of the repeat is the record `Replays`; one law for each way to put steps together.
+use Rattle.std.specs.Prelude.{if◌then◌else◌}
 use Prim.Native.Nat.{ℕ, ◌<◌}
 use mathlib.Core.Bool.{Bool, true, false}
 use mathlib.Core.Path.{◌≡◌, refl, ◌∙◌, ap}
-use Rattle.rules.specs.Lists.{if◌then◌else◌}
 use Rattle.rules.specs.Table.{Table, element_count}
 use Rattle.rules.specs.Cut.{Step, done, Outcome, refused, give, ◌>>=◌, next}
 use Rattle.rules.specs.Held.{Extends}

@@ -1,4 +1,5 @@
 -- The three appends replay: what was found is found again, and what was appended is found where it stands.
+use Rattle.std.specs.Prelude.{if◌then◌else◌}
 use Prim.Native.Nat.{ℕ, ◌<◌, suc, ◌+◌}
 use mathlib.Core.Bool.{Bool, not, true, false}
 use mathlib.Core.List.{append_assoc, ◌∷◌, [], List, ◌++◌}
@@ -11,7 +12,7 @@ use lib.Ieee.{Float}
 use lib.ListN.{length, drop, length-drop}
 use lib.Seq.{drop-append-le}
 use Rattle.rules.specs.Limits.{Limits}
-use Rattle.rules.specs.Lists.{find, if◌then◌else◌, find_from}
+use Rattle.rules.specs.Lists.{find, find_from}
 use Rattle.rules.specs.Floats.{point_matches}
 use Rattle.rules.specs.Table.{Element, Table, element_count, same_element, polytope, corner, Plane, primordials}
 use Rattle.rules.specs.Sound.{closed}

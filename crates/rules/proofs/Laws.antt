@@ -1,12 +1,12 @@
 -- Small laws of tests: from a Boolean that is true to the fact that it tests, and back.
 -- Everything else cites them, so no file proves one again.
+use Rattle.std.specs.Prelude.{if◌then◌else◌}
 use Prim.Native.Nat.{ℕ, ◌≤◌, ◌<◌}
 use mathlib.Core.Bool.{true, false, Bool, cond, false≢true, not, true≢false, ◌&&◌, ◌||◌, beq}
 use mathlib.Core.Option.{Option, none, some}
 use mathlib.Core.Path.{◌≡◌, refl, subst, sym, ◌∙◌}
 use native.Mathlib.Nat.{lt_irrefl, le_trans, suc-ne-zero}
 use lib.Dec.{T, leb, leb→le, le→leb, nleb→lt, eqb, eqb_refl, eqb→eq}
-use Rattle.rules.specs.Lists.{if◌then◌else◌}
 
 -- ---- true and false
 

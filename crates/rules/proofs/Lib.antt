@@ -7,6 +7,7 @@ pub mod Borders
 pub mod Boxes
 pub mod Built
 pub mod ByteLaws
+pub mod AfterList
 pub mod Calls
 pub mod Clamp
 pub mod CloseBelow
@@ -59,6 +60,7 @@ pub mod Selves
 pub mod Stays
 pub mod StaysCut
 pub mod TouchCuts
+pub mod TouchReplies
 pub mod Touched
 pub mod Uncrossed
 pub mod VertexSet

@@ -1,5 +1,6 @@
 -- A missed piece is its old entry: where all corners of an element lie on one kept side, the cut gives the element itself on that side and leaves the table.
 -- By induction over the rank: the boundary gathers itself, and the search for the new piece finds the old one.
+use Rattle.std.specs.Prelude.{if◌then◌else◌}
 use Prim.Native.Nat.{◌-◌, ℕ, ◌<◌, suc, zero, ◌+◌}
 use mathlib.Core.Bool.{Bool, true, false, not, false≢true, ◌||◌}
 use mathlib.Core.List.{List, [], ◌∷◌, ◌++◌, append-nil, append_assoc}
@@ -11,7 +12,7 @@ use lib.Dec.{ltb, eqb, leb, leb-zero}
 use lib.Ieee.{fin, Float, below, inf, nan}
 use lib.ListN.{length, get_or, drop}
 use Rattle.rules.specs.Limits.{Limits}
-use Rattle.rules.specs.Lists.{find, any, distinct, find_from, if◌then◌else◌, all, rises, with_member}
+use Rattle.rules.specs.Lists.{find, any, distinct, find_from, all, rises, with_member}
 use Rattle.rules.specs.Floats.{opposite, side_of, signed_distance, crossing_of}
 use Rattle.rules.specs.Table.{corner, element, Element, Table, Plane, rank, point_at, element_count, polytope, rank_of, plane_of, is_primordial, same_element, boundary_of, primordials, point_of}
 use Rattle.rules.specs.Sound.{closed, sound_plane}

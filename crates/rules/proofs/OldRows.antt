@@ -5,7 +5,6 @@ use mathlib.Core.List.{List, ◌++◌, [], ◌∷◌, append_assoc, map}
 use mathlib.Core.Path.{◌≡◌, ap, ◌∙◌, subst, sym, refl}
 use native.Mathlib.Nat.{not-suc-le-zero, zero-mul, suc-mul, le_of_suc-le-suc, le_trans, le_of_eq}
 use native.Mathlib.Omega.{arith}
-use lib.Ieee.{fits}
 use lib.ListN.{length, get_or, take, drop, replicate, length-map, get_or-append}
 use lib.Seq.{take_at, drop-append-add}
 use Rattle.rules.specs.Limits.{Limits, Readable}

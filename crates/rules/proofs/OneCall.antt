@@ -1,5 +1,6 @@
 -- One cut call at the public reply: what an answer tells of the memory before and after, and what makes an answer.
 -- The reply is a chain of tests, so both ways go by cases on them.
+use Rattle.std.specs.Prelude.{if◌then◌else◌}
 use Prim.Native.Nat.{ℕ, ◌≤◌, suc}
 use mathlib.Core.Bool.{true, ◌&&◌, Bool, false≢true, false, not}
 use mathlib.Core.Path.{◌≡◌, subst, sym, refl, ◌∙◌, ap}
@@ -8,7 +9,7 @@ use lib.Ieee.{inf, fin, Float, nan}
 use lib.ListN.{length, get_or, take, drop}
 use lib.Seq.{length-take-le}
 use Rattle.rules.specs.Limits.{Limits, Readable}
-use Rattle.rules.specs.Lists.{all, if◌then◌else◌}
+use Rattle.rules.specs.Lists.{all}
 use Rattle.rules.specs.Floats.{unit, same_bits, plus_zero, within, farthest_plane}
 use Rattle.rules.specs.Table.{Table, element_count}
 use Rattle.rules.specs.Sound.{sound, sound_plane}

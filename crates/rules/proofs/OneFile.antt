@@ -1,4 +1,5 @@
 -- A table has one file: what was written of a sound table is read back, and a file that is read as a sound table is the one that is written of it.
+use Rattle.std.specs.Prelude.{if◌then◌else◌}
 use Prim.Native.Nat.{ℕ, suc, ◌≤◌, ◌<◌}
 use mathlib.Core.Bool.{Bool, true, false, not, ◌&&◌, false≢true}
 use mathlib.Core.List.{List, [], ◌∷◌, ◌++◌, map, append-nil}
@@ -10,7 +11,7 @@ use lib.Dec.{leb, ltb, eqb}
 use lib.ListN.{length, drop}
 use lib.Ieee.{Float, binary64, fits, is_nan}
 use Rattle.rules.specs.Limits.{Limits, Readable, Fileable}
-use Rattle.rules.specs.Lists.{if◌then◌else◌, all, joined}
+use Rattle.rules.specs.Lists.{all, joined}
 use Rattle.rules.specs.Floats.{within, farthest_plane, unit, one}
 use Rattle.rules.specs.Bytes.{are_bytes, bytes_of}
 use Rattle.rules.specs.Table.{Element, corner, polytope, Plane, Table, boundary_of, element, element_count}

@@ -1,19 +1,19 @@
 -- A print file that is given: its triangles are the fans of the faces, which are walked, and so many; each has 50 bytes, since a walk names vertices in use.
+use Rattle.std.specs.Prelude.{if◌then◌else◌}
 use Prim.Native.Nat.{ℕ, zero, suc, ◌+◌, ◌*◌, ◌-◌, ◌^◌, ◌≤◌, ◌<◌, zero-le}
 use mathlib.Core.Path.{◌≡◌, refl, sym, ap, ap₂, ◌∙◌, subst}
-use mathlib.Core.Bool.{Bool, true, false, not, ◌&&◌, true≢false, false≢true}
-use mathlib.Core.Option.{Option, some}
+use mathlib.Core.Bool.{Bool, true, false, not, ◌&&◌, false≢true}
+use mathlib.Core.Option.{some}
 use mathlib.Core.List.{List, [], ◌∷◌, ◌++◌, map}
-use native.Mathlib.Nat.{not-suc-le-zero, le_of_suc-le-suc, le_trans, le_of_eq, lt_of_le_of_lt, mul-le-mul_right, suc-mul, mul-suc}
+use native.Mathlib.Nat.{not-suc-le-zero, le_of_suc-le-suc, le_trans, mul-le-mul_right, suc-mul}
 use native.Mathlib.Omega.{arith}
 use lib.Dec.{leb, ltb, eqb}
-use lib.ListN.{length, get_or, take, drop, replicate, length-append, length-map, length-replicate}
-use lib.Seq.{drop-append_seam, take-append-le}
+use lib.ListN.{length, get_or, drop, replicate, length-append, length-map}
 use lib.Ieee.{Float, binary32, to_bits}
 use Rattle.rules.specs.Limits.{Limits, Fileable}
-use Rattle.rules.specs.Lists.{if◌then◌else◌, all, any, joined, member, up_from}
+use Rattle.rules.specs.Lists.{all, any, joined, member, up_from}
 use Rattle.rules.specs.Floats.{within, farthest}
-use Rattle.rules.specs.Bytes.{little_endian, number_at, bytes_of}
+use Rattle.rules.specs.Bytes.{number_at, bytes_of}
 use Rattle.rules.specs.Table.{Element, corner, polytope, Table, vertex_of, is_primordial, element, rank, boundary, boundary_of, element_count}
 use Rattle.rules.specs.Sound.{sound, sound_point}
 use Rattle.rules.specs.Memory.{Memory, decode, sound_memory}
@@ -21,8 +21,6 @@ use Rattle.rules.specs.Questions.{Asked, no_answer, answer, edges_in_order, prim
 use Rattle.rules.specs.Replies.{asked, list_size, listed}
 use Rattle.rules.specs.Print.{narrowed, narrowed_bytes, Triangle, Way, way_at, fan, fan_of, face_triangles, triangles, corner_bytes, triangle_bytes, vertex_at, print_file}
 use Rattle.rules.specs.Print.{unless_facet, printed, print_reply, total_of, triangle_count, PrintIsSized, Fanned, FacesAreFanned}
-use Rattle.rules.specs.declared.ListReply.{ListReply}
-use Rattle.rules.specs.declared.ListReply.TheVariants.{Refused as ListRefused, Listed}
 use Rattle.rules.specs.Asking.{border, Runs, forth, back, Paired, lowest}
 use Rattle.rules.proofs.WalkSteps.{walk_long}
 use Rattle.rules.proofs.Borders.{sound_bordered}
@@ -34,7 +32,7 @@ use Rattle.rules.proofs.Growing.{all_get}
 use Rattle.rules.proofs.FaceEdges.{edge_used, edge_rank}
 use Rattle.rules.proofs.Fans.{fan_closes}
 use Rattle.rules.proofs.Good.{Good, above_zero, sound_good}
-use Rattle.rules.proofs.Laws.{le_test, test_le, eq_test, and_left, and_right, and_true, if_true, if_false, or_left, or_right, eqb_self, none_some}
+use Rattle.rules.proofs.Laws.{le_test, test_le, eq_test, and_left, and_right, and_true, or_left, or_right, eqb_self, none_some}
 use Rattle.rules.proofs.OneCall.{sound_table}
 use Rattle.rules.proofs.Refusals.{listed_by}
 use Rattle.rules.proofs.RingWalked.{face_is_walked}

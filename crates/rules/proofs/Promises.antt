@@ -1,4 +1,5 @@
 -- Every promise of specs/Promises holds, in every room that can be read back, has place for its cubes, and has numbers that a file can hold: the record is put together from the files that prove its parts.
+use Rattle.std.specs.Prelude.{if◌then◌else◌}
 use Prim.Native.Nat.{ℕ, zero, suc, ◌<◌}
 use mathlib.Core.Bool.{true, Bool, false}
 use mathlib.Core.Option.{none, some}
@@ -6,7 +7,6 @@ use mathlib.Core.Path.{◌≡◌, refl, ap, ◌∙◌, subst}
 use lib.Dec.{lit≤}
 use lib.ListN.{get_or}
 use Rattle.rules.specs.Limits.{Limits, HasCubes, Readable, Fileable, desk, large, Roomier}
-use Rattle.rules.specs.Lists.{if◌then◌else◌}
 use Rattle.rules.specs.Memory.{Memory, decode}
 use Rattle.rules.specs.Cut.{Outcome, refused, done, next, give, add_plane, corner_output}
 use Rattle.rules.specs.Replies.{cut_number, cut_values, output_values, element_value, is_kept, cut_by, params_of, written, cut_reply}
@@ -25,7 +25,7 @@ use Rattle.rules.proofs.Boxes.{in_the_box}
 use Rattle.rules.proofs.Calls.{not_infinite, gives, again_later, one_side_later, flush_later, infinite_distance}
 use Rattle.rules.proofs.CloseBelow.{close_vertices}
 use Rattle.rules.proofs.CubeCalls.{cube_is_sound, stays_sound, enough_boundary, stays_unmatched, one_crossing_one_corner}
-use Rattle.rules.proofs.CutLists.{cut_list_numbers, refused_cut_list_leaves, cut_list_is_cuts, stopped_at_the_refused}
+use Rattle.rules.proofs.CutLists.{cut_list_numbers, refused_cut_list_leaves, cut_list_is_cuts, stopped_at_the_refused, cut_list_goes_on, cut_list_again}
 use Rattle.rules.proofs.FileReplies.{refused_open_leaves, open_numbers, open_is_sound, saved_opens, opened_saves, table_of_file, file_of_table_lem, opens_roomier, layout_alone}
 use Rattle.rules.proofs.Good.{sound_good}
 use Rattle.rules.proofs.Laws.{le_test, none_some}
@@ -40,6 +40,7 @@ use Rattle.rules.proofs.RingWalked.{rule_is_one_ring, face_is_one_ring, face_is_
 use Rattle.rules.proofs.RoomierReplies.{roomier_alike}
 use Rattle.rules.proofs.RoundTrip.{written_sound, table_back, memory_back}
 use Rattle.rules.proofs.TouchCuts.{all_on_is_flush, one_side_is_missed, one_side_adds_no_vertex, both_cuts_an_edge}
+use Rattle.rules.proofs.TouchReplies.{touch_is_of_the_table}
 use Rattle.rules.proofs.Touched.{touch_numbers, touch_infinite, touch_is_read, touch_is_counted}
 use Rattle.rules.proofs.VertexSet.{vertex_set_rises, no_facet_in_one_dimension}
 use Rattle.rules.proofs.WalkRound.{walk_goes_round}
@@ -146,6 +147,7 @@ module _ (L : Limits) (R : Readable L) (H : HasCubes L) (F : Fileable L) where
     touch_infinite = touch_infinite L;
     touch_is_read = touch_is_read L;
     touch_is_counted = touch_is_counted L;
+    touch_is_of_the_table = touch_is_of_the_table L;
     all_on_is_flush = all_on_is_flush L;
     one_side_is_missed = one_side_is_missed L;
     one_side_adds_no_vertex = one_side_adds_no_vertex L;
@@ -154,6 +156,8 @@ module _ (L : Limits) (R : Readable L) (H : HasCubes L) (F : Fileable L) where
     refused_cut_list_leaves = refused_cut_list_leaves L;
     cut_list_is_cuts = cut_list_is_cuts L;
     stopped_at_the_refused = stopped_at_the_refused L;
+    cut_list_goes_on = cut_list_goes_on L;
+    cut_list_again = cut_list_again L R;
     areas_numbers = areas_numbers L;
     refused_areas_leave = refused_areas_leave L;
     areas_fill_front = areas_fill_front L;

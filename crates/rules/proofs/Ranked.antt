@@ -1,4 +1,5 @@
 -- Sets of elements in use, each of one rank: what rules 4 and 5 gather. A set with a member more is still one, and stays one in a later table.
+use Rattle.std.specs.Prelude.{if◌then◌else◌}
 use Prim.Native.Nat.{ℕ, suc, ◌<◌, ◌≤◌}
 use mathlib.Core.Bool.{Bool, true, false, ◌&&◌, ◌||◌, false≢true}
 use mathlib.Core.List.{List, [], ◌∷◌}
@@ -6,7 +7,7 @@ use mathlib.Core.Path.{ap, ◌∙◌, ◌≡◌, refl, sym}
 use native.Mathlib.Nat.{le_trans, le_of_lt, le_refl, le_of_suc-le-suc}
 use native.Mathlib.Omega.{arith}
 use lib.Dec.{ltb, eqb}
-use Rattle.rules.specs.Lists.{all, if◌then◌else◌, with_member, rises}
+use Rattle.rules.specs.Lists.{all, with_member, rises}
 use Rattle.rules.specs.Table.{rank, Table, element_count}
 use Rattle.rules.specs.Cut.{including, nothing_yet, Gathered, gathering, gathering_output, corner_output}
 use Rattle.rules.specs.Held.{Extends, Ranked, AllOf, SetOf, SomeOf, Sets, OutputOf, AnswerOf}

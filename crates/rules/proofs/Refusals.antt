@@ -1,4 +1,5 @@
 -- Demand 1 and the numbers: a refusal leaves what was lent, and carries a number of its table. By cases on each reply's tests.
+use Rattle.std.specs.Prelude.{if◌then◌else◌}
 use Prim.Native.Nat.{ℕ, suc, ◌<◌}
 use mathlib.Core.Bool.{Bool, false, true, ◌||◌, not, ◌&&◌, true≢false}
 use mathlib.Core.List.{List, ◌∷◌, [], ◌++◌}
@@ -10,7 +11,7 @@ use lib.Ieee.{Float}
 use lib.ListN.{length, drop}
 use lib.Seq.{length_front, length-take-le, drop-append_seam}
 use Rattle.rules.specs.Limits.{Limits}
-use Rattle.rules.specs.Lists.{member, if◌then◌else◌, all, any}
+use Rattle.rules.specs.Lists.{member, all, any}
 use Rattle.rules.specs.Table.{element_count, Table, is_primordial, element, rank, boundary}
 use Rattle.rules.specs.Sound.{sound}
 use Rattle.rules.specs.Memory.{Memory, sound_memory, decode, encode, right_size}

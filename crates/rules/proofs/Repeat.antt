@@ -1,5 +1,6 @@
 -- Demand 3, the repeat and one-side parts: a cut made again, on any later table, gives the same answer and adds nothing;
 -- and so does a cut for fewer sides, with the places of the dropped sides left out. One induction over the rank for both.
+use Rattle.std.specs.Prelude.{if◌then◌else◌}
 use Prim.Native.Nat.{◌-◌, ℕ, ◌<◌, zero, suc, suc-le-suc, zero-le}
 use mathlib.Core.Bool.{Bool, false, true}
 use mathlib.Core.List.{List, [], ◌∷◌}
@@ -10,7 +11,6 @@ use lib.Dec.{eqb}
 use lib.Ieee.{Float, fin, inf, nan}
 use lib.ListN.{get_or}
 use Rattle.rules.specs.Limits.{Limits}
-use Rattle.rules.specs.Lists.{if◌then◌else◌}
 use Rattle.rules.specs.Floats.{side_of, side_test, crossing_point, crossing_of}
 use Rattle.rules.specs.Table.{Element, Table, element_count, element, rank, rank_of, plane_of, is_primordial, boundary_of, point_at}
 use Rattle.rules.specs.Cut.{side_of_cut, including, Cutting, Params, new_intersection, add_polytope, plane_of_intersection, Gathered, rule7, next, rule6, given, cut, cross_edge, add_vertex, cut_ends, distance_of}

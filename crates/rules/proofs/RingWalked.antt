@@ -1,6 +1,7 @@
 -- Edges are walked, each once, exactly when they are one ring, wherever the walk starts; so a face of a sound table is walked.
 -- On a ring, no edge is met again before the start is: of the edges taken only two corners have an edge beyond, the walk's own and the start.
 -- So there is fuel for every step, and the edges taken when the walk is back are all. And where it takes all and comes back, what spreads from edge to edge spreads over all.
+use Rattle.std.specs.Prelude.{if◌then◌else◌}
 use Prim.Native.Nat.{ℕ, zero, suc, ◌+◌, ◌≤◌, ◌<◌, zero-le, suc-le-suc}
 use mathlib.Core.Bool.{Bool, true, false, not, ◌&&◌, ◌||◌, false≢true, true≢false}
 use mathlib.Core.List.{List, [], ◌∷◌, ◌++◌}
@@ -10,7 +11,7 @@ use native.Mathlib.Omega.{arith}
 use lib.Dec.{eqb, ltb}
 use lib.ListN.{length}
 use Rattle.rules.specs.Limits.{Limits}
-use Rattle.rules.specs.Lists.{if◌then◌else◌, all, keep, member, occurrences, rises}
+use Rattle.rules.specs.Lists.{all, keep, member, occurrences, rises}
 use Rattle.rules.specs.Table.{Table, boundary, rank, element_count}
 use Rattle.rules.specs.Walk.{ends_of, other_end, other_edge, walk, start_of, around, each_once, each_twice}
 use Rattle.rules.specs.Sound.{closed}

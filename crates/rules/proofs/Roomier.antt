@@ -1,5 +1,6 @@
 -- What a room does not refuse, a roomier one answers alike: each step compares a count with a limit, and the limit only grows.
 -- And what is sound in the one is sound in the other.
+use Rattle.std.specs.Prelude.{if◌then◌else◌}
 use Prim.Native.Nat.{◌-◌, ℕ, ◌≤◌, suc, zero}
 use mathlib.Core.Bool.{Bool, true, false, not}
 use mathlib.Core.List.{List, [], ◌∷◌}
@@ -11,7 +12,7 @@ use lib.Dec.{ltb, leb, eqb}
 use lib.Ieee.{fin, Float, inf, nan}
 use lib.ListN.{length, drop, get_or}
 use Rattle.rules.specs.Limits.{Limits, Roomier}
-use Rattle.rules.specs.Lists.{if◌then◌else◌, find, find_from, all}
+use Rattle.rules.specs.Lists.{find, find_from, all}
 use Rattle.rules.specs.Floats.{point_matches, crossing_point, crossing_of}
 use Rattle.rules.specs.Table.{Table, element, Element, element_count, same_element, polytope, corner, Plane, primordials, rank, rank_of, plane_of, is_primordial, boundary_of, point_at}
 use Rattle.rules.specs.Sound.{closed, sound}

@@ -1,4 +1,5 @@
 -- Every public reply in a roomier room: the table is the same, so each reply's tests are, but for those that compare with the room.
+use Rattle.std.specs.Prelude.{if◌then◌else◌}
 use Prim.Native.Nat.{ℕ, ◌≤◌, ◌<◌, zero, suc, ◌+◌, ◌-◌, ◌*◌}
 use mathlib.Core.Bool.{Bool, true, false, not, ◌&&◌, ◌||◌, false≢true}
 use mathlib.Core.List.{List, [], ◌∷◌, ◌++◌, map}
@@ -11,7 +12,7 @@ use lib.IntN.{ℤ}
 use lib.ListN.{length, length-map, length-drop, take, drop, replicate}
 use lib.Seq.{length-take-le, take-append-le, drop-append-le}
 use Rattle.rules.specs.Limits.{Limits, Readable, HasCubes, Roomier}
-use Rattle.rules.specs.Lists.{if◌then◌else◌, all, member, up_from}
+use Rattle.rules.specs.Lists.{all, member, up_from}
 use Rattle.rules.specs.Floats.{plus_zero, same_bits, unit}
 use Rattle.rules.specs.Table.{Plane, Table, element_count}
 use Rattle.rules.specs.Memory.{Memory, plane_width, encode, decode, right_size, sound_memory}
@@ -38,7 +39,8 @@ use Rattle.rules.specs.declared.TouchReply.TheVariants.{Refused}
 use Rattle.rules.proofs.AreaReplies.{sheet_by, few, used, flat, sheet_by_lem}
 use Rattle.rules.proofs.Built.{RuleNumber, refused_number}
 use Rattle.rules.proofs.CubeCalls.{cube_done}
-use Rattle.rules.proofs.CutLists.{as_many, list_by, list_by_lem}
+use Rattle.rules.proofs.AfterList.{list_by, list_by_lem}
+use Rattle.rules.proofs.CutLists.{as_many}
 use Rattle.rules.proofs.FileReplies.{accepted, taken, open_accepted, opens_roomier, layout_alone}
 use Rattle.rules.proofs.Good.{sound_good}
 use Rattle.rules.proofs.Laws.{and_true, and_left, and_right, or_case, le_test, test_le, test_eq, eq_test, if_true}

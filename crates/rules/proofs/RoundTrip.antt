@@ -1,5 +1,6 @@
 -- A sound table is read back from the memory that it is written to, and a sound memory is what is written of its table.
 -- Each row is read back by itself; the law of rows does the rest.
+use Rattle.std.specs.Prelude.{if◌then◌else◌}
 use Prim.Native.Nat.{◌-◌, ◌≤◌, ◌+◌, suc, ℕ, zero, ◌<◌, ◌*◌}
 use mathlib.Core.Bool.{true, ◌&&◌, not, Bool, false≢true, false, cond}
 use mathlib.Core.List.{◌++◌, List, ◌∷◌, [], append_assoc}
@@ -12,7 +13,7 @@ use lib.Ieee.{Float}
 use lib.ListN.{length, get_or, take, replicate, length-append}
 use lib.Seq.{take-append_seam, take_at, get_or_at}
 use Rattle.rules.specs.Limits.{Limits, Readable, no_plane}
-use Rattle.rules.specs.Lists.{pad, if◌then◌else◌, all, all_from, alike}
+use Rattle.rules.specs.Lists.{pad, all, all_from, alike}
 use Rattle.rules.specs.Floats.{plus_zero, within, farthest, unit, same_bits}
 use Rattle.rules.specs.Table.{Element, corner, polytope, Plane, Table, boundary_of, element_count}
 use Rattle.rules.specs.Sound.{names_none, sound_point, sound, sound_plane, names_plane, sound_element, sound_facet}

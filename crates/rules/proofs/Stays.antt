@@ -1,5 +1,6 @@
 -- A step on a sound table that is not refused leaves a sound table that extends it: the record `Kept` says so, and is the hypothesis of every induction.
 -- The three appends are such steps.
+use Rattle.std.specs.Prelude.{if◌then◌else◌}
 use Prim.Native.Nat.{ℕ, ◌<◌, zero, suc, suc-le-suc, zero-le, ◌+◌}
 use mathlib.Core.Bool.{Bool, true, false≢true, false, ◌&&◌, beq, true≢false}
 use mathlib.Core.List.{List, [], ◌∷◌}
@@ -12,7 +13,7 @@ use lib.Ieee.{low, Float}
 use lib.ListN.{length, drop, length-drop}
 use lib.Seq.{get_or-append_seam}
 use Rattle.rules.specs.Limits.{Limits}
-use Rattle.rules.specs.Lists.{alike, find, if◌then◌else◌, find_from}
+use Rattle.rules.specs.Lists.{alike, find, find_from}
 use Rattle.rules.specs.Floats.{point_matches}
 use Rattle.rules.specs.Table.{Table, polytope, rank, Element, same_element, rank_of, corner, same_plane, Plane, element, element_count, primordials}
 use Rattle.rules.specs.Sound.{sound_facet, closed, sound_point, sound_plane}

@@ -1,4 +1,5 @@
 -- Demand 3, the middle part: the table after an unrefused cut of a sound table, by a divider that fits, is sound. By induction over the rank.
+use Rattle.std.specs.Prelude.{if◌then◌else◌}
 use Prim.Native.Nat.{◌-◌, ℕ, suc, zero, ◌<◌}
 use mathlib.Core.Bool.{true, false, Bool, ◌&&◌, not}
 use mathlib.Core.List.{List, [], ◌∷◌}
@@ -11,7 +12,7 @@ use lib.Ieee.{Float, fin, inf, nan}
 use lib.IntN.{pos}
 use lib.ListN.{length, get_or}
 use Rattle.rules.specs.Limits.{Limits}
-use Rattle.rules.specs.Lists.{all, if◌then◌else◌}
+use Rattle.rules.specs.Lists.{all}
 use Rattle.rules.specs.Floats.{crossing_point, within, farthest, side_of, side_test, crossing_of}
 use Rattle.rules.specs.Table.{element, rank, Table, Element, rank_of, plane_of, is_primordial, corner, point_at, point_of, polytope, boundary_of, element_count}
 use Rattle.rules.specs.Sound.{sound_point, sound_facet, names_plane, names_none, sound_element, sound_plane}

@@ -1,5 +1,6 @@
 -- What a touch tells of the cut of the same root by the same plane: all on is flush, one side alone is missed, without both no vertex is added, and an edge with both is crossed.
 -- All on goes by induction over the rank, as for a missed piece.
+use Rattle.std.specs.Prelude.{if◌then◌else◌}
 use Prim.Native.Nat.{ℕ, zero, suc, ◌<◌}
 use mathlib.Core.Bool.{Bool, true, false, false≢true, not, ◌&&◌, ◌||◌}
 use mathlib.Core.List.{List, [], ◌∷◌}
@@ -11,7 +12,7 @@ use lib.Dec.{eqb}
 use lib.Ieee.{Float, nan, inf, fin, lt, neg}
 use lib.ListN.{length}
 use Rattle.rules.specs.Limits.{Limits}
-use Rattle.rules.specs.Lists.{any, if◌then◌else◌}
+use Rattle.rules.specs.Lists.{any}
 use Rattle.rules.specs.Floats.{side_of, close_call, side_test, signed_distance, opposite, crossing_of, crossing_point, within, close_bound, tolerance}
 use Rattle.rules.specs.Table.{Table, Plane, Element, corner, polytope, rank_of, boundary_of, element, rank, element_count, point_at}
 use Rattle.rules.specs.Cut.{Outcome, refused, done, Step, next, give, given, keeping, Cutting, Gathered, nothing_yet, gathering, corner_output, corner_answer, distance_of}

@@ -1,4 +1,5 @@
 -- A touch is read from the corners, and its count is as order 6 says; the reply's numbers. The sides are a list, so both go by induction over it.
+use Rattle.std.specs.Prelude.{if◌then◌else◌}
 use Prim.Native.Nat.{ℕ, zero, suc, ◌<◌, ◌≤◌, suc-le-suc, zero-le}
 use mathlib.Core.Bool.{Bool, true, false, not, ◌&&◌, ◌||◌, false≢true, true≢false}
 use mathlib.Core.List.{List, [], ◌∷◌, map}
@@ -8,7 +9,7 @@ use lib.Dec.{ltb, eqb}
 use lib.Ieee.{Float, nan, inf, fin, le, neg}
 use lib.ListN.{length, take}
 use Rattle.rules.specs.Limits.{Limits}
-use Rattle.rules.specs.Lists.{if◌then◌else◌, any, keep, up_to}
+use Rattle.rules.specs.Lists.{any, keep, up_to}
 use Rattle.rules.specs.Floats.{signed_distance, side_of, within, farthest_plane, unit}
 use Rattle.rules.specs.Table.{Plane, Table, Element, corner, polytope, vertex_of, element, rank, element_count, point_of, point_at}
 use Rattle.rules.specs.Sound.{sound_plane}

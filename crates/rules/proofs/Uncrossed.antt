@@ -12,7 +12,7 @@ use lib.ListN.{length}
 use Rattle.rules.specs.Limits.{Limits}
 use Rattle.rules.specs.Lists.{find}
 use Rattle.rules.specs.Floats.{side_of, opposite}
-use Rattle.rules.specs.Table.{Table, Element, corner, polytope, rank_of, boundary_of, plane_of, is_primordial, same_element, element, rank, element_count, point_at}
+use Rattle.rules.specs.Table.{Table, Element, corner, polytope, rank_of, boundary_of, plane_of, is_primordial, same_element, element, element_count, point_at}
 use Rattle.rules.specs.Sound.{closed}
 use Rattle.rules.specs.Cut.{Outcome, refused, done, Step, next, given, Cutting, Gathered, nothing_yet, gathering, distance_of}
 use Rattle.rules.specs.Cut.{add_element, share_element, add_polytope, including, side_of_cut, rule7, rule6, new_intersection, plane_of_intersection, cut_boundary}

@@ -1,5 +1,6 @@
 -- The vertex set rises: sub-elements are listed in rising number, and vertex elements name vertices in order.
 -- And in one dimension no facet is primordial, for facets are corners.
+use Rattle.std.specs.Prelude.{if◌then◌else◌}
 use Prim.Native.Nat.{ℕ, ◌<◌, zero, suc, ◌+◌, ◌≤◌, suc-le-suc}
 use mathlib.Core.Bool.{Bool, true, false, false≢true, not, ◌&&◌}
 use mathlib.Core.List.{List, [], ◌∷◌, map}
@@ -9,7 +10,7 @@ use native.Mathlib.Omega.{arith}
 use lib.Dec.{ltb, eqb}
 use lib.ListN.{length, get_or}
 use Rattle.rules.specs.Limits.{Limits}
-use Rattle.rules.specs.Lists.{rises, keep, all, if◌then◌else◌, up_from, up_to, any}
+use Rattle.rules.specs.Lists.{rises, keep, all, up_from, up_to, any}
 use Rattle.rules.specs.Table.{corner, Element, vertex_of, is_corner, polytope, Table, element, element_count, rank, boundary, is_primordial}
 use Rattle.rules.specs.Sound.{sound}
 use Rattle.rules.specs.Questions.{vertex_set, with_rank, sub_elements, is_below, primordial_facet, Asked, no_answer, answer}

@@ -1,5 +1,6 @@
 -- A walk that is answered goes round the face. A step has one other end and one other edge, so it goes on along the face's edges, and its pairs are their vertices.
 -- Every edge is taken once, so the second edge at the start is: it is taken from its other end, and leads to the start, where the walk ends.
+use Rattle.std.specs.Prelude.{if◌then◌else◌}
 use Prim.Native.Nat.{ℕ, zero, suc, ◌<◌}
 use mathlib.Core.Bool.{Bool, true, false, not, ◌||◌, false≢true}
 use mathlib.Core.List.{List, [], ◌∷◌, map}
@@ -8,7 +9,7 @@ use native.Mathlib.Nat.{suc-ne-zero}
 use lib.Dec.{eqb}
 use lib.ListN.{length}
 use Rattle.rules.specs.Limits.{Limits}
-use Rattle.rules.specs.Lists.{if◌then◌else◌, keep, member, occurrences}
+use Rattle.rules.specs.Lists.{keep, member, occurrences}
 use Rattle.rules.specs.Table.{Table, boundary, rank, element_count}
 use Rattle.rules.specs.Sound.{sound}
 use Rattle.rules.specs.Walk.{other_end, other_edge, walk, start_of, around, each_once}

@@ -1,4 +1,5 @@
 -- The walk round a face of a sound table has as many steps as the face has edges: it has no more, it takes each of them, and a rising list has a number once only.
+use Rattle.std.specs.Prelude.{if◌then◌else◌}
 use Prim.Native.Nat.{ℕ, zero, suc, ◌≤◌, ◌<◌, zero-le, suc-le-suc}
 use mathlib.Core.Path.{◌≡◌, refl, sym, ap, ◌∙◌, subst}
 use mathlib.Core.Bool.{Bool, true, false, not, false≢true, true≢false}
@@ -8,7 +9,7 @@ use native.Mathlib.Omega.{arith}
 use lib.Dec.{eqb, ltb}
 use lib.ListN.{length, length-map}
 use Rattle.rules.specs.Limits.{Limits}
-use Rattle.rules.specs.Lists.{if◌then◌else◌, all, keep, member, rises}
+use Rattle.rules.specs.Lists.{all, keep, member, rises}
 use Rattle.rules.specs.Table.{Table, element_count, rank, boundary}
 use Rattle.rules.specs.Sound.{sound}
 use Rattle.rules.specs.Walk.{other_end, other_edge, walk, start_of, first_edge, around}

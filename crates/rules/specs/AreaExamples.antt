@@ -1,5 +1,5 @@
 -- Area sheets (document 02, order 13): each row is what the rules give and what is right; proofs/Answers.antt has the theorems. Definitions only.
-use Rattle.std.specs.Prelude.{true, false, List, [], ◌∷◌, ◌++◌, ◌≡◌, ℤ, pos, negsuc, replicate, set, Float}
+use Rattle.std.specs.Prelude.{true, false, List, [], ◌∷◌, ◌++◌, ◌≡◌, pos, negsuc, replicate, set, Float}
 use Rattle.std.proofs.Math.Option.{some}
 use Rattle.std.specs.Float.{fin}
 use Rattle.rules.specs.Limits.{Limits}

@@ -1,8 +1,8 @@
 -- Numbers as bytes, floats by their bits, and numbers in decimal: what files and the session program read and write. Definitions only.
-use Rattle.std.specs.Prelude.{ℕ, zero, suc, ◌+◌, ◌*◌, ◌/◌, ◌%◌, Bool, List, [], ◌∷◌, ◌++◌, map, eqb, ltb, take, drop, Float}
+use Rattle.std.specs.Prelude.{ℕ, zero, suc, ◌+◌, ◌*◌, ◌/◌, ◌%◌, Bool, List, [], ◌∷◌, ◌++◌, map, eqb, ltb, take, drop, Float, if◌then◌else◌}
 use Rattle.std.specs.Float.{binary64}
 use Rattle.std.specs.Float.Ieee.{of_bits, to_bits}
-use Rattle.rules.specs.Lists.{if◌then◌else◌, all, joined}
+use Rattle.rules.specs.Lists.{all, joined}
 
 -- what a list of bytes is
 abbrev pub are_bytes : List ℕ → Bool

@@ -1,8 +1,8 @@
 -- Document 01, "The primordial cube". Definitions only.
-use Rattle.std.specs.Prelude.{ℕ, zero, suc, ◌+◌, ◌*◌, ◌^◌, ◌/◌, ◌%◌, Bool, not, ◌&&◌, List, [], ◌∷◌, ◌++◌, map, eqb, length, Float}
+use Rattle.std.specs.Prelude.{ℕ, zero, suc, ◌+◌, ◌*◌, ◌^◌, ◌/◌, ◌%◌, Bool, not, ◌&&◌, List, [], ◌∷◌, ◌++◌, map, eqb, length, Float, if◌then◌else◌}
 use Rattle.std.proofs.Math.Option.{none, some}
 use Rattle.std.specs.Float.Ieee.{neg, le}
-use Rattle.rules.specs.Lists.{if◌then◌else◌, keep, up_to, occurrences}
+use Rattle.rules.specs.Lists.{keep, up_to, occurrences}
 use Rattle.rules.specs.Floats.{plus_zero, one, farthest}
 use Rattle.rules.specs.Table.{ElementNumber, Element, corner, polytope, Plane, Table}
 

@@ -1,10 +1,10 @@
 -- Document 01, "The cut", rules 1 to 8. Definitions only.
 -- A step works on a table, and gives a value with the table after it, or is refused with a number. A choice on what a search or a test gives is a function of its own, by clauses.
-use Rattle.std.specs.Prelude.{ℕ, zero, suc, ◌-◌, Bool, true, false, not, ◌&&◌, ◌||◌, List, [], ◌∷◌, ◌++◌, leb, ltb, eqb, length, get_or, drop, Float}
+use Rattle.std.specs.Prelude.{ℕ, zero, suc, ◌-◌, Bool, true, false, not, ◌&&◌, ◌||◌, List, [], ◌∷◌, ◌++◌, leb, ltb, eqb, length, get_or, drop, Float, if◌then◌else◌}
 use Rattle.std.proofs.Math.Option.{Option, none, some}
 use Rattle.std.specs.Float.{nan, inf, fin}
 use Rattle.rules.specs.Limits.{Limits}
-use Rattle.rules.specs.Lists.{if◌then◌else◌, find, find_from, with_member}
+use Rattle.rules.specs.Lists.{find, find_from, with_member}
 use Rattle.rules.specs.Floats.{signed_distance, side_test, edge_test, crossing_point, matches, point_matches}
 use Rattle.rules.specs.Table.{ElementNumber, HyperplaneNumber, VertexNumber, Element, corner, polytope, Plane, Table, rank_of, boundary_of, plane_of, is_primordial, same_element, element, rank, element_count, point_at, primordials}
 use Rattle.rules.specs.Sound.{closed}

@@ -1,8 +1,8 @@
 -- Document 02, order 5: a list of cuts in one call: the cuts that it asks for, the whole reply, and what is promised of it. Definitions only.
-use Rattle.std.specs.Prelude.{ℕ, suc, ◌*◌, ◌/◌, ◌%◌, ◌≤◌, ◌<◌, ◌≡◌, Bool, true, not, ◌&&◌, List, [], ◌∷◌, map, leb, ltb, eqb, length, get_or, set, take, drop, Float}
+use Rattle.std.specs.Prelude.{ℕ, suc, ◌*◌, ◌/◌, ◌%◌, ◌≤◌, ◌<◌, ◌≡◌, Bool, true, not, ◌&&◌, List, [], ◌∷◌, map, leb, ltb, eqb, length, get_or, set, take, drop, Float, if◌then◌else◌}
 use Rattle.std.proofs.Math.Option.{Option, none, some}
 use Rattle.rules.specs.Limits.{Limits}
-use Rattle.rules.specs.Lists.{if◌then◌else◌, member, up_to}
+use Rattle.rules.specs.Lists.{member, up_to}
 use Rattle.rules.specs.Floats.{plus_zero}
 use Rattle.rules.specs.Table.{ElementNumber}
 use Rattle.rules.specs.Memory.{Memory, plane_width, sound_memory}
@@ -148,3 +148,29 @@ CutListIsCuts L = (l : CutList) (room : List ℕ) (m : Memory) → let r = cut_l
 abbrev pub StoppedAtTheRefused : Limits → Type 0
 StoppedAtTheRefused L = (l : CutList) (room : List ℕ) (m : Memory) (n i : ℕ) → (cut_list_reply L l room m).0 ≡ Stopped n i
     → singly L l i m ≡ (one.Refused n, (cut_list_reply L l room m).2)
+
+-- the calls by which a list of which k cuts were made goes on after its cut at position i
+abbrev pub going_on_by : Limits → CutList → ℕ → ℕ → List Call
+going_on_by L l k i = drop (suc i) (take k (calls_of L l))
+
+-- from the cut at position i the memory after a list is reached by calls of which no cube and no file is taken
+pub record GoesOn (L : Limits) (l : CutList) (k i : ℕ) (m after : Memory) : Type 0 where
+  pub memory : after_calls L (going_on_by L l k i) (singly L l i m).1 ≡ after
+  pub calls : TableStays L (going_on_by L l k i) (singly L l i m).1
+
+-- so the same cut again, and one side of it asked later, are what was answered, also after the list
+abbrev pub CutListGoesOn : Limits → Type 0
+CutListGoesOn L = (l : CutList) (room : List ℕ) (m : Memory) (i : ℕ) → let r = cut_list_reply L l room m in
+    i < answers_written r.0 → GoesOn L l (answers_written r.0) i m r.2
+
+-- all k cuts of a list are answered as they were, and nothing is added
+pub record AnsweredAgain (k : ℕ) (filled : List ℕ) (m : Memory) (r : CutListReply × List ℕ × Memory) : Type 0 where
+  pub reply : r.0 ≡ Answered k
+  pub answers : (i : ℕ) → i < k → get_or r.1 i 0 ≡ get_or filled i 0
+  pub memory : r.2 ≡ m
+
+-- a list that was answered to its end, made again after any further calls of which no cube and no file is taken, with room for its answers
+abbrev pub CutListAgain : Limits → Type 0
+CutListAgain L = (l : CutList) (room : List ℕ) (m : Memory) (k : ℕ) → let r = cut_list_reply L l room m in r.0 ≡ Answered k
+    → (cs : List Call) → TableStays L cs r.2 → let later = after_calls L cs r.2 in
+    (room' : List ℕ) → length l.roots ≤ length room' → AnsweredAgain k r.1 later (cut_list_reply L l room' later)

@@ -1,9 +1,9 @@
 -- Document 02, order 1: the one file of a table, what bytes say when they are read, and the replies of saving and opening. Definitions only.
-use Rattle.std.specs.Prelude.{ℕ, zero, suc, Bool, true, ◌&&◌, List, [], ◌∷◌, ◌++◌, map, leb, eqb, length, take, drop, Float}
+use Rattle.std.specs.Prelude.{ℕ, zero, suc, Bool, true, ◌&&◌, List, [], ◌∷◌, ◌++◌, map, leb, eqb, length, take, drop, Float, if◌then◌else◌}
 use Rattle.std.specs.Float.{binary64}
 use Rattle.std.specs.Float.Ieee.{of_bits, fits}
 use Rattle.rules.specs.Limits.{Limits, no_plane}
-use Rattle.rules.specs.Lists.{if◌then◌else◌, all, joined, alike}
+use Rattle.rules.specs.Lists.{all, joined, alike}
 use Rattle.rules.specs.Bytes.{little_endian, number_bytes, float_byte8, float_bytes}
 use Rattle.rules.specs.Table.{Element, Plane, Table, element_count}
 use Rattle.rules.specs.Sound.{sound}

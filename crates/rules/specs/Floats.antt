@@ -1,10 +1,10 @@
 -- Document 01, "Floats": tolerance, signed distance, side, unit normal, crossing, match. Definitions only.
 -- A point is the list of its coordinates, one for each dimension.
-use Rattle.std.specs.Prelude.{Bool, true, false, not, ◌&&◌, ◌||◌, List, [], ◌∷◌, ℤ, pos, negsuc, eqb, Float}
+use Rattle.std.specs.Prelude.{Bool, true, false, not, ◌&&◌, ◌||◌, List, [], ◌∷◌, ℤ, pos, negsuc, eqb, Float, if◌then◌else◌}
 use Rattle.std.specs.Bool.{beq}
 use Rattle.std.specs.Float.{nan, inf, fin, binary64}
 use Rattle.std.specs.Float.Ieee.{neg, add, sub, mul, div, lt, le, is_nan}
-use Rattle.rules.specs.Lists.{if◌then◌else◌, all, alike}
+use Rattle.rules.specs.Lists.{all, alike}
 use Rattle.rules.specs.declared.Side.{Side}
 use Rattle.rules.specs.declared.Side.TheVariants.{Inside, On, Outside}
 use Rattle.rules.specs.declared.SideTest.{SideTest}

@@ -26,6 +26,7 @@ pub mod TouchExamples
 pub mod Asking
 pub mod Calls
 pub mod CutLists
+pub mod ListExamples
 pub mod Areas
 pub mod AreaExamples
 pub mod Rooms

@@ -1,14 +1,7 @@
 -- Tests, searches and sets over lists; a set of numbers is a list that rises strictly. Definitions only.
 -- A recursive call stands in a `let` where a test may do without it: antt computes an argument before the call.
-use Rattle.std.specs.Prelude.{ℕ, zero, suc, ◌-◌, Bool, true, false, not, ◌&&◌, ◌||◌, List, [], ◌∷◌, ◌++◌, ltb, eqb, length, take, drop, replicate}
+use Rattle.std.specs.Prelude.{ℕ, zero, suc, ◌-◌, Bool, true, false, not, ◌&&◌, ◌||◌, List, [], ◌∷◌, ◌++◌, ltb, eqb, length, take, drop, replicate, if◌then◌else◌}
 use Rattle.std.proofs.Math.Option.{Option, none, some}
-
-module _ {A : Type 0} where
-  infixr 3 if◌then◌else◌
-  -- the library's `cond`, in words
-  abbrev pub if◌then◌else◌ : Bool → A → A → A
-  if true then a else b = a
-  if false then a else b = b
 
 module _ {A : Type 0} where
   -- p holds of every entry

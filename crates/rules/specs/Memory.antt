@@ -1,8 +1,8 @@
 -- The lent memory: counts, points, planes and elements, each a list of numbers or floats whose unused room is zero bits. Definitions only.
-use Rattle.std.specs.Prelude.{ℕ, ◌+◌, ◌*◌, Bool, ◌&&◌, cond, List, [], ◌∷◌, ◌++◌, map, eqb, length, get_or, take, drop, Float}
+use Rattle.std.specs.Prelude.{ℕ, ◌+◌, ◌*◌, Bool, ◌&&◌, cond, List, [], ◌∷◌, ◌++◌, map, eqb, length, get_or, take, drop, Float, if◌then◌else◌}
 use Rattle.std.proofs.Math.Option.{Option, none, some}
 use Rattle.rules.specs.Limits.{Limits, no_plane}
-use Rattle.rules.specs.Lists.{if◌then◌else◌, pad, joined, rows, alike}
+use Rattle.rules.specs.Lists.{pad, joined, rows, alike}
 use Rattle.rules.specs.Floats.{plus_zero, same_bits}
 use Rattle.rules.specs.Table.{HyperplaneNumber, Element, corner, polytope, Plane, Table, element_count}
 use Rattle.rules.specs.Sound.{sound}

@@ -1,10 +1,10 @@
 -- Document 02, order 11: a piece of three dimensions as binary STL, the print file of a resin printer; the whole reply, and what is promised of the file. Definitions only.
-use Rattle.std.specs.Prelude.{ℕ, ◌+◌, ◌*◌, ◌-◌, ◌<◌, ◌≡◌, Bool, true, false, ◌&&◌, List, [], ◌∷◌, ◌++◌, map, eqb, length, get_or, replicate, Float}
+use Rattle.std.specs.Prelude.{ℕ, ◌+◌, ◌*◌, ◌-◌, ◌<◌, ◌≡◌, Bool, true, false, ◌&&◌, List, [], ◌∷◌, ◌++◌, map, eqb, length, get_or, replicate, Float, if◌then◌else◌}
 use Rattle.std.proofs.Math.Option.{some}
 use Rattle.std.specs.Float.{nan, inf, fin, binary32}
 use Rattle.std.specs.Float.Ieee.{up, down, round, to_bits}
 use Rattle.rules.specs.Limits.{Limits}
-use Rattle.rules.specs.Lists.{if◌then◌else◌, keep, joined, up_from}
+use Rattle.rules.specs.Lists.{keep, joined, up_from}
 use Rattle.rules.specs.Bytes.{number_at, bytes_of}
 use Rattle.rules.specs.Table.{ElementNumber, VertexNumber, Table, boundary, element_count}
 use Rattle.rules.specs.Sound.{sound}

@@ -15,12 +15,12 @@ use Rattle.rules.specs.Questions.{is_below}
 use Rattle.rules.specs.Asking.{border, SubElementsAreReached, SubElementsAreLeast, VertexSetIsTheUnion, VertexSetRises, CommonAreGreatest, WalkGoesRound, NoFacetInOneDimension}
 use Rattle.rules.specs.Rings.{RuleIsOneRing, FaceIsOneRing, FaceIsWalked}
 use Rattle.rules.specs.Replies.{cut_number, cut_values, cut_warning, list_number, list_size, is_sound_reply, cube_reply, divider_fits, divider_of, cut_by, cut_reply, primordial_facet_reply}
-use Rattle.rules.specs.Touch.{some_close_call, TouchNumbers, TouchInfinite, TouchIsRead, TouchIsCounted, AllOnIsFlush, OneSideIsMissed, OneSideAddsNoVertex, BothCutsAnEdge}
+use Rattle.rules.specs.Touch.{some_close_call, TouchNumbers, TouchInfinite, TouchIsRead, TouchIsCounted, TouchIsOfTheTable, AllOnIsFlush, OneSideIsMissed, OneSideAddsNoVertex, BothCutsAnEdge}
 use Rattle.rules.specs.Print.{PrintIsSized, FacesAreFanned}
 use Rattle.rules.specs.Files.{open_reply}
 use Rattle.rules.specs.Saving.{RefusedOpenLeaves, OpenNumbers, OpenIsSound, SavedOpens, OpenedSaves, OneFile, OpensRoomier, LayoutAlone}
 use Rattle.rules.specs.Calls.{Call, cutting, asking, cubing, opening, after, after_calls, TableStays, ListQuestion, list_reply, list_refusals, Gives, CutNumbered, ListNumbered, FacetNumbered, Filled}
-use Rattle.rules.specs.CutLists.{CutListNumbers, RefusedCutListLeaves, CutListIsCuts, StoppedAtTheRefused}
+use Rattle.rules.specs.CutLists.{CutListNumbers, RefusedCutListLeaves, CutListIsCuts, StoppedAtTheRefused, CutListGoesOn, CutListAgain}
 use Rattle.rules.specs.Areas.{AreasNumbers, RefusedAreasLeave, AreasFillFront, AreasFit}
 use Rattle.rules.specs.Rooms.{RoomierAlike}
 use Rattle.rules.specs.declared.Hyperplane.{Hyperplane}
@@ -298,6 +298,7 @@ pub record Promises (L : Limits) : Type 0 where
   pub touch_infinite : TouchInfinite L
   pub touch_is_read : TouchIsRead L
   pub touch_is_counted : TouchIsCounted L
+  pub touch_is_of_the_table : TouchIsOfTheTable L
   pub all_on_is_flush : AllOnIsFlush L
   pub one_side_is_missed : OneSideIsMissed L
   pub one_side_adds_no_vertex : OneSideAddsNoVertex L
@@ -306,6 +307,8 @@ pub record Promises (L : Limits) : Type 0 where
   pub refused_cut_list_leaves : RefusedCutListLeaves L
   pub cut_list_is_cuts : CutListIsCuts L
   pub stopped_at_the_refused : StoppedAtTheRefused L
+  pub cut_list_goes_on : CutListGoesOn L
+  pub cut_list_again : CutListAgain L
   pub areas_numbers : AreasNumbers L
   pub refused_areas_leave : RefusedAreasLeave L
   pub areas_fill_front : AreasFillFront L

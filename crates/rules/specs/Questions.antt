@@ -1,6 +1,6 @@
 -- Document 01, "Questions", on a sound table with element numbers in use. Definitions only.
-use Rattle.std.specs.Prelude.{ℕ, zero, suc, Bool, not, ◌&&◌, ◌||◌, List, [], ◌∷◌, map, eqb}
-use Rattle.rules.specs.Lists.{if◌then◌else◌, all, any, keep, up_to}
+use Rattle.std.specs.Prelude.{ℕ, zero, suc, Bool, not, ◌&&◌, ◌||◌, List, [], ◌∷◌, map, eqb, if◌then◌else◌}
+use Rattle.rules.specs.Lists.{all, any, keep, up_to}
 use Rattle.rules.specs.Table.{ElementNumber, VertexNumber, Table, is_primordial, vertex_of, element, rank, boundary, element_count}
 use Rattle.rules.specs.Walk.{start_of, around, each_once}
 

@@ -1,9 +1,9 @@
 -- Document 01, "The numbered replies": the whole reply of each public function, and the memory or the list room after it. Definitions only.
-use Rattle.std.specs.Prelude.{ℕ, ◌+◌, ◌*◌, Bool, true, false, not, ◌&&◌, cond, List, [], ◌∷◌, ◌++◌, map, leb, ltb, eqb, length, take, drop, Float}
+use Rattle.std.specs.Prelude.{ℕ, ◌+◌, ◌*◌, Bool, true, false, not, ◌&&◌, cond, List, [], ◌∷◌, ◌++◌, map, leb, ltb, eqb, length, take, drop, Float, if◌then◌else◌}
 use Rattle.std.proofs.Math.Option.{Option, none, some}
 use Rattle.std.specs.Float.{nan, inf, fin}
 use Rattle.rules.specs.Limits.{Limits}
-use Rattle.rules.specs.Lists.{if◌then◌else◌, all, joined}
+use Rattle.rules.specs.Lists.{all, joined}
 use Rattle.rules.specs.Floats.{plus_zero, same_bits, within, farthest_plane, unit}
 use Rattle.rules.specs.Table.{ElementNumber, VertexNumber, Plane, element_count}
 use Rattle.rules.specs.Memory.{Memory, encode, decode, right_size, sound_memory}

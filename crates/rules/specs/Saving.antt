@@ -1,8 +1,8 @@
 -- What is promised of saving a table and opening it (document 02, order 1). That saving is refused with 3 or 12, and leaves what it does not fill, is said of every question that gives a list. Definitions only.
-use Rattle.std.specs.Prelude.{ℕ, ◌≤◌, ◌<◌, ◌≡◌, true, List, [], ◌∷◌, length, take}
+use Rattle.std.specs.Prelude.{ℕ, ◌≤◌, ◌<◌, ◌≡◌, true, List, [], ◌∷◌, length, take, if◌then◌else◌}
 use Rattle.std.proofs.Math.Option.{some}
 use Rattle.rules.specs.Limits.{Limits, Roomier}
-use Rattle.rules.specs.Lists.{if◌then◌else◌, member}
+use Rattle.rules.specs.Lists.{member}
 use Rattle.rules.specs.Bytes.{are_bytes}
 use Rattle.rules.specs.Table.{Table}
 use Rattle.rules.specs.Sound.{sound, room_fits}

@@ -1,7 +1,7 @@
 -- Document 01, "The session program": what `cutlist` prints for the bytes of a session, record by record. Definitions only.
-use Rattle.std.specs.Prelude.{ℕ, zero, suc, ◌+◌, ◌*◌, ◌/◌, ◌%◌, Bool, true, false, ◌&&◌, List, [], ◌∷◌, ◌++◌, map, leb, eqb, length, get_or, take, drop, replicate}
+use Rattle.std.specs.Prelude.{ℕ, zero, suc, ◌+◌, ◌*◌, ◌/◌, ◌%◌, Bool, true, false, ◌&&◌, List, [], ◌∷◌, ◌++◌, map, leb, eqb, length, get_or, take, drop, replicate, if◌then◌else◌}
 use Rattle.rules.specs.Limits.{Limits}
-use Rattle.rules.specs.Lists.{if◌then◌else◌, alike, pad, joined}
+use Rattle.rules.specs.Lists.{alike, pad, joined}
 use Rattle.rules.specs.Floats.{plus_zero}
 use Rattle.rules.specs.Bytes.{number_at, float_at, floats_at, decimal}
 use Rattle.rules.specs.Memory.{Memory, element_width, plane_width}

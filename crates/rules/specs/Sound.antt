@@ -1,9 +1,9 @@
 -- Document 01, "A table is sound when": one test for each of its lines. Definitions only.
 -- That unused room is zero bits is said where memory is (Memory): a table here has none.
-use Rattle.std.specs.Prelude.{ℕ, zero, suc, Bool, true, false, not, ◌&&◌, List, map, leb, ltb, eqb, length, Float}
+use Rattle.std.specs.Prelude.{ℕ, zero, suc, Bool, true, false, not, ◌&&◌, List, map, leb, ltb, eqb, length, Float, if◌then◌else◌}
 use Rattle.std.proofs.Math.Option.{Option, none, some}
 use Rattle.rules.specs.Limits.{Limits}
-use Rattle.rules.specs.Lists.{if◌then◌else◌, all, keep, all_from, alike, distinct, up_to, rises}
+use Rattle.rules.specs.Lists.{all, keep, all_from, alike, distinct, up_to, rises}
 use Rattle.rules.specs.Floats.{within, farthest, farthest_plane, unit}
 use Rattle.rules.specs.Table.{ElementNumber, HyperplaneNumber, Element, corner, polytope, Plane, Table, boundary_of, vertex_of, is_corner, same_element, rank, element_count, primordials}
 use Rattle.rules.specs.Walk.{one_ring}

@@ -1,16 +1,17 @@
 -- Document 02, order 6: where the corners of an element lie to a plane, without a cut; the whole reply, and what is promised of it. Definitions only.
-use Rattle.std.specs.Prelude.{ℕ, suc, ◌≤◌, ◌<◌, ◌≡◌, Bool, true, false, not, ◌&&◌, ◌||◌, List, [], ◌∷◌, map, ltb, length, get_or, take, Float}
+use Rattle.std.specs.Prelude.{ℕ, suc, ◌≤◌, ◌<◌, ◌≡◌, Bool, true, false, not, ◌&&◌, ◌||◌, List, [], ◌∷◌, map, ltb, length, get_or, take, Float, if◌then◌else◌}
 use Rattle.std.specs.Float.{nan, inf, fin}
 use Rattle.rules.specs.Limits.{Limits}
-use Rattle.rules.specs.Lists.{if◌then◌else◌, any, member}
+use Rattle.rules.specs.Lists.{any, member}
 use Rattle.rules.specs.Floats.{signed_distance, side_of, close_call}
 use Rattle.rules.specs.Table.{ElementNumber, VertexNumber, Plane, Table, rank, element_count, point_at}
 use Rattle.rules.specs.Sound.{sound, sound_plane}
 use Rattle.rules.specs.Memory.{Memory, decode, sound_memory}
 use Rattle.rules.specs.Cut.{Step, done, next, give, given, add_plane, keeping, cut}
 use Rattle.rules.specs.Questions.{is_below, vertex_set}
-use Rattle.rules.specs.Replies.{divider_fits, divider_of}
+use Rattle.rules.specs.Replies.{is_kept, divider_fits, divider_of, cut_by, written, cut_reply}
 use Rattle.rules.specs.declared.Hyperplane.{Hyperplane}
+use Rattle.rules.specs.declared.PolytopeFate.{PolytopeFate}
 use Rattle.rules.specs.declared.Side.{Side}
 use Rattle.rules.specs.declared.Side.TheVariants.{Inside, On, Outside}
 use Rattle.rules.specs.declared.ElementOrNone.{ElementOrNone}
@@ -200,3 +201,16 @@ abbrev pub BothCutsAnEdge : Limits → Type 0
 BothCutsAnEdge L = (h : Plane) (root : ElementNumber) (t : Table) (k : ℕ) → Touches L h root t → touch h root t ≡ Touched Both k → rank t root ≡ 1
     → (i o : Bool) (b : ElementAnswer) (u : Table) → cut L (keeping h i o) root t ≡ done b u
     → (x : ElementNumber) × (p q : ElementOrNone) × (b.output ≡ NonFlush p q (given x))
+
+-- ---- promises: of the replies
+
+-- the touch of a call is that of the memory's table by the divider as its hyperplane, which fits it, and so is the cut of the same root
+pub record OfTheTable (L : Limits) (h : Hyperplane) (root : ElementNumber) (m : Memory) : Type 0 where
+  pub fits : Touches L (divider_of (decode L m).dimension h) root (decode L m)
+  pub touching : touch_reply L h root m ≡ touch (divider_of (decode L m).dimension h) root (decode L m)
+  pub cutting : (i o : PolytopeFate) → cut_reply L (cut_by h i o) root m ≡ written L m (cut L (keeping (divider_of (decode L m).dimension h) (is_kept i) (is_kept o)) root (decode L m))
+
+-- so it is where a touch is done and the distance is no infinity: what is promised of a table's touch and cut is promised of these replies
+abbrev pub TouchIsOfTheTable : Limits → Type 0
+TouchIsOfTheTable L = (h : Hyperplane) (root : ElementNumber) (m : Memory) → ((s : Bool) → h.distance ≡ inf s → ⊥)
+    → touch_number (touch_reply L h root m) ≡ 0 → OfTheTable L h root m

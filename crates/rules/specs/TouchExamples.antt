@@ -9,7 +9,7 @@ use Rattle.rules.specs.Table.{ElementNumber, corner, Table}
 use Rattle.rules.specs.Memory.{Memory, encode}
 use Rattle.rules.specs.Touch.{touch_number, touch_values, touch_reply}
 use Rattle.rules.specs.Marked.{Shown, cut_shown, numbers, show_cut, at_x, slanted}
-use Rattle.rules.specs.Examples.{made, edge, face, planes, corners, points, two, minus_one, small, small_q, counts_changed, flat_y}
+use Rattle.rules.specs.Examples.{made, edge, face, planes, corners, two, minus_one, small, small_q, counts_changed, flat_y}
 use Rattle.rules.specs.declared.Hyperplane.{Hyperplane}
 use Rattle.rules.specs.declared.PolytopeFate.TheVariants.{Remove, Keep}
 

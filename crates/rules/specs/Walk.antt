@@ -1,6 +1,6 @@
 -- The walk along some edges, from the lowest of their corners, and whether they make one ring (document 02, order 4). Definitions only.
-use Rattle.std.specs.Prelude.{ℕ, zero, suc, Bool, not, ◌&&◌, List, [], ◌∷◌, map, ltb, eqb, length, get_or}
-use Rattle.rules.specs.Lists.{if◌then◌else◌, all, keep, joined, member, occurrences}
+use Rattle.std.specs.Prelude.{ℕ, zero, suc, Bool, not, ◌&&◌, List, [], ◌∷◌, map, ltb, eqb, length, get_or, if◌then◌else◌}
+use Rattle.rules.specs.Lists.{all, keep, joined, member, occurrences}
 use Rattle.rules.specs.Table.{ElementNumber, Table, boundary}
 
 -- ---- corners and edges

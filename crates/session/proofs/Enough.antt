@@ -1,4 +1,5 @@
 -- What stands behind the first 45 bytes changes no turn of a table of up to four dimensions, so a program may hold back the rest.
+use Rattle.std.specs.Prelude.{if◌then◌else◌}
 use Prim.Native.Nat.{ℕ, ◌+◌, ◌*◌, ◌%◌, ◌/◌, ◌≤◌}
 use mathlib.Core.Bool.{Bool, true, false, ◌&&◌}
 use mathlib.Core.List.{List, [], ◌∷◌}
@@ -8,7 +9,7 @@ use lib.Dec.{leb, eqb, lit≤}
 use lib.ListN.{length, get_or, take, length-take}
 use lib.Seq.{take-take}
 use Rattle.rules.specs.Limits.{desk}
-use Rattle.rules.specs.Lists.{if◌then◌else◌, alike, pad}
+use Rattle.rules.specs.Lists.{alike, pad}
 use Rattle.rules.specs.Floats.{plus_zero}
 use Rattle.rules.specs.Memory.{Memory}
 use Rattle.rules.specs.Replies.{cube_reply, fate_of, cut_by, cut_reply}

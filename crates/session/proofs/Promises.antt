@@ -1,4 +1,5 @@
 -- The promises of a record's turn, by cases on its tests: too little room, a cube, a cut, a bad record.
+use Rattle.std.specs.Prelude.{if◌then◌else◌}
 use Prim.Native.Nat.{ℕ, zero, suc, ◌+◌, ◌≤◌, ◌<◌}
 use mathlib.Core.Bool.{Bool, true, false, ◌&&◌, false≢true}
 use mathlib.Core.Option.{Option, none, some}
@@ -10,7 +11,6 @@ use lib.Dec.{ltb, lit≤}
 use lib.ListN.{length, get_or, drop, set}
 use lib.Seq.{sets, length-sets, drop-set-lt}
 use Rattle.rules.specs.Limits.{desk}
-use Rattle.rules.specs.Lists.{if◌then◌else◌}
 use Rattle.rules.specs.Memory.{Memory}
 use Rattle.rules.specs.Session.{Line, text, bad, taken, turn, is_cube, is_cut, cut_length, cube_line, refused_line, cut_text, table_counts, cube_asked, cut_asked, cube_turn, cut_turn}
 use Rattle.rules.specs.Bytes.{number_at, float_at}
@@ -51,7 +51,7 @@ module _ (stands : Bool) (m : Memory) (bs room : List ℕ) where
     goes_on = λ j n v e. subst (λ (v : ℕ × ℕ × Bool). TurnTaken stands bs room (sets room 0 (text line)) v.0 v.1 v.2) (ap (value_or (k, length (text line), later)) e) (record {
       some_bytes = p;
       in_bytes = l;
-      in_room_lem = le_trans w wide;
+      in_room = le_trans w wide;
       size = length-sets room 0 (text line);
       rest = drop_sets (text line) room 0 (length (text line)) (omega arith);
       table = t;

@@ -1,4 +1,5 @@
 -- A record's test, one part after another; its divider, component by component.
+use Rattle.std.specs.Prelude.{if◌then◌else◌}
 use Prim.Native.Nat.{ℕ, zero, suc, ◌+◌, ◌*◌, ◌≤◌, ◌<◌}
 use mathlib.Core.Bool.{Bool, true, false, ◌&&◌}
 use mathlib.Core.List.{List, [], ◌∷◌}
@@ -8,7 +9,7 @@ use lib.Dec.{leb, eqb, ltb}
 use lib.ListN.{length, get_or, take}
 use lib.Ieee.{Float, binary64, of_bits}
 use Rattle.rules.specs.Limits.{desk}
-use Rattle.rules.specs.Lists.{if◌then◌else◌, alike}
+use Rattle.rules.specs.Lists.{alike}
 use Rattle.rules.specs.Floats.{plus_zero}
 use Rattle.rules.specs.Bytes.{number_at, float_at}
 use Rattle.rules.specs.Session.{is_cube, is_cut, cut_length, divider_at}

@@ -1,4 +1,5 @@
 -- A record's reply, case by case: a cube made or refused, a cut, a bad record. No cut looks at the divider of a table of more than four dimensions, for none is sound.
+use Rattle.std.specs.Prelude.{if◌then◌else◌}
 use Prim.Native.Nat.{ℕ, zero, suc, ◌+◌, ◌*◌, ◌/◌, ◌%◌, ◌≤◌, ◌<◌}
 use mathlib.Core.Bool.{Bool, true, false, not, ◌&&◌}
 use mathlib.Core.List.{List}
@@ -9,7 +10,6 @@ use lib.ListN.{length, get_or, drop}
 use lib.Seq.{sets}
 use lib.Ieee.{Float}
 use Rattle.rules.specs.Limits.{desk}
-use Rattle.rules.specs.Lists.{if◌then◌else◌}
 use Rattle.rules.specs.Memory.{Memory, encode, decode, right_size, sound_memory}
 use Rattle.rules.specs.Cube.{cube, radius_fits}
 use Rattle.rules.specs.Replies.{cube_reply, fate_of, cut_by, cut_reply}

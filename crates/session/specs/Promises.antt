@@ -24,7 +24,7 @@ UntakenTurnLeaves = (stands : Bool) (m : Memory) (bytes room : List ℕ) → tur
 pub record TurnTaken (stands : Bool) (bytes room after : List ℕ) (k n : ℕ) (later : Bool) : Type 0 where
   pub some_bytes : 0 < k
   pub in_bytes : k ≤ length bytes
-  pub in_room_lem : n ≤ length room
+  pub in_room : n ≤ length room
   pub size : length after ≡ length room
   pub rest : drop n after ≡ drop n room
   pub table : stands ≡ true → later ≡ true

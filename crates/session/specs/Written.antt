@@ -1,9 +1,8 @@
 -- What is written into the lent room: the line of a record. Definitions only.
-use Rattle.std.specs.Prelude.{ℕ, Bool, ◌≡◌, List, ltb, length}
+use Rattle.std.specs.Prelude.{ℕ, Bool, ◌≡◌, List, ltb, length, if◌then◌else◌}
 use Rattle.std.proofs.Math.Option.{Option, none, some}
 use Rattle.std.proofs.lemmas.List.Edits.{sets}
 use Rattle.rules.specs.Limits.{desk}
-use Rattle.rules.specs.Lists.{if◌then◌else◌}
 use Rattle.rules.specs.Memory.{Memory}
 use Rattle.rules.specs.Session.{bad_line, text, Turn, bad, taken, turn}
 use Rattle.rules.specs.Promises.{NamesBelow}

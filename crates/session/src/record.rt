@@ -1,7 +1,7 @@
 // What a record asks for: a cube or a cut, its call, and the line of its reply.
-ghost use Rattle.std.specs.Prelude.{◌+◌, ◌*◌, ◌≤◌, ◌≡◌, [], ◌∷◌, eqb, ltb, length, get_or, take, drop};
+ghost use Rattle.std.specs.Prelude.{◌+◌, ◌*◌, ◌≤◌, ◌≡◌, [], ◌∷◌, eqb, ltb, length, get_or, take, drop, if◌then◌else◌};
 ghost use Rattle.rules.specs.Limits.{desk};
-ghost use Rattle.rules.specs.Lists.{if◌then◌else◌, alike};
+ghost use Rattle.rules.specs.Lists.{alike};
 ghost use Rattle.rules.specs.Floats.{plus_zero};
 ghost use Rattle.rules.specs.Held.{memory_of};
 ghost use Rattle.rules.specs.Replies.{fate_of};

@@ -1,16 +1,16 @@
 -- 3, 4 and 5: a sound memory's counts tell what the table tells, and the reply of every entry point is read off what was asked.
+use Rattle.std.specs.Prelude.{if◌then◌else◌}
 use Prim.Native.Nat.{ℕ, suc, ◌<◌}
 use mathlib.Core.Bool.{Bool, true, false, not, ◌&&◌, false≢true}
-use mathlib.Core.List.{List, []}
-use mathlib.Core.Path.{◌≡◌, refl, sym, ap, ap₂, ◌∙◌}
-use native.Mathlib.Nat.{le_trans, le_of_eq}
+use mathlib.Core.List.{List}
+use mathlib.Core.Path.{◌≡◌, refl, sym, ap, ◌∙◌}
 use native.Mathlib.Omega.{arith}
 use lib.Dec.{eqb, ltb}
 use lib.Ieee.{Float, nan, inf, fin}
 use lib.ListN.{length, get_or, take, drop}
 use Rattle.rules.specs.Limits.{desk}
 use Rattle.rules.specs.Floats.{plus_zero, same_bits, within, farthest_plane, unit}
-use Rattle.rules.specs.Lists.{if◌then◌else◌, all}
+use Rattle.rules.specs.Lists.{all}
 use Rattle.rules.specs.Table.{Table, element_count}
 use Rattle.rules.specs.Memory.{Memory, decode, sound_memory}
 use Rattle.rules.specs.Held.{Holds, memory_of}

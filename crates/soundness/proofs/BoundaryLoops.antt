@@ -1,4 +1,5 @@
 -- The loops over a boundary.
+use Rattle.std.specs.Prelude.{if◌then◌else◌}
 use Prim.Native.Nat.{ℕ, suc, ◌≤◌, ◌<◌, zero, ◌+◌, ◌*◌}
 use mathlib.Core.Bool.{Bool, not, ◌&&◌, true, false}
 use mathlib.Core.List.{List, [], ◌∷◌}
@@ -9,7 +10,7 @@ use lib.Dec.{eqb, ltb, leb, lit≤}
 use lib.ListN.{length, drop, take, get_or, length-drop}
 use lib.Seq.{get_or-take, get_or-drop, length-take-le, drop-drop, take-take}
 use Rattle.rules.specs.Limits.{no_plane, desk}
-use Rattle.rules.specs.Lists.{if◌then◌else◌, all, rises}
+use Rattle.rules.specs.Lists.{all, rises}
 use Rattle.rules.proofs.Laws.{and_left, and_right, test_eq, eq_test, not_eq, unlike_eq}
 use Rattle.rules.proofs.Borders.{rise_at}
 use Rattle.rules.proofs.Growing.{all_get}

@@ -1,4 +1,5 @@
 -- Rows one after another, each looked for among the earlier ones: no two are equal as long as none is found.
+use Rattle.std.specs.Prelude.{if◌then◌else◌}
 use Prim.Native.Nat.{ℕ, zero, suc, ◌+◌, ◌*◌, ◌-◌, ◌<◌}
 use mathlib.Core.Bool.{Bool, true, false, not, ◌&&◌, ◌||◌}
 use mathlib.Core.List.{List, [], ◌∷◌, ◌++◌}
@@ -10,7 +11,7 @@ use lib.Dec.{eqb}
 use lib.ListN.{take, drop}
 use lib.Seq.{drop-drop}
 use Rattle.rules.specs.Limits.{desk}
-use Rattle.rules.specs.Lists.{if◌then◌else◌, alike, any, distinct, find, find_from, rows}
+use Rattle.rules.specs.Lists.{alike, any, distinct, find, find_from, rows}
 use Rattle.space.specs.Chains.{stored_row}
 use Rattle.soundness.specs.Words.{row_new, rows_distinct}
 use Rattle.soundness.proofs.ReadBack.{and_zero}

@@ -1,5 +1,6 @@
 -- The words that tell of earlier elements, read as rows: ranks and ends stand where the tests look for them. And where two memories say the same
 -- of the elements before a row, the row is sound in the one exactly if it is in the other: only a number below the row's own is ever looked at.
+use Rattle.std.specs.Prelude.{if◌then◌else◌}
 use Prim.Native.Nat.{ℕ, zero, suc, ◌+◌, ◌*◌, ◌≤◌, ◌<◌}
 use mathlib.Core.Bool.{Bool, true, false, cond, ◌&&◌}
 use mathlib.Core.List.{List, [], ◌∷◌, map}
@@ -11,7 +12,7 @@ use lib.ListN.{length, get_or}
 use borrow.Author.Tests.{ltb-true}
 use Rattle.rules.specs.Held.{Wide}
 use Rattle.rules.specs.Limits.{desk}
-use Rattle.rules.specs.Lists.{all, member, occurrences, rises, up_to, up_from, if◌then◌else◌}
+use Rattle.rules.specs.Lists.{all, member, occurrences, rises, up_to, up_from}
 use Rattle.rules.specs.Table.{boundary}
 use Rattle.rules.proofs.Counting.{length_up, getD_up}
 use Rattle.rules.proofs.FaceEdges.{Two, of_all}

@@ -1,6 +1,7 @@
 -- The one loop over the rows in use. What is asked of all rows is asked of those that are rowsLeft, where k is the vertex that is
 -- to be named next: records, vertices in order and elements are three tests of the first row and of the rows after it. What
 -- stands past a boundary is asked for all rows at once, at the end.
+use Rattle.std.specs.Prelude.{if◌then◌else◌}
 use Prim.Native.Nat.{ℕ, suc, ◌+◌, ◌-◌, ◌*◌, ◌≤◌, ◌<◌}
 use mathlib.Core.Bool.{Bool, true, false, cond, ◌&&◌}
 use mathlib.Core.List.{List, ◌∷◌}
@@ -11,7 +12,7 @@ use native.Mathlib.Omega.{arith}
 use lib.Dec.{eqb}
 use lib.ListN.{get_or, take, drop}
 use Rattle.rules.specs.Limits.{desk}
-use Rattle.rules.specs.Lists.{all, rows, all_from, if◌then◌else◌}
+use Rattle.rules.specs.Lists.{all, rows, all_from}
 use Rattle.rules.proofs.Indexed.{rows_on}
 use Rattle.rules.proofs.Laws.{and_left, and_right, test_eq, not_eq}
 use Rattle.soundness.specs.Words.{record_words, head_words, past_blank, corner_named, in_order, element_sound, corners_sound, elements_sound, row_sound, rows_in_use}
@@ -64,7 +65,8 @@ module _ (es : List ℕ) (d n v h : ℕ) where
   pub pass_no : {reply : Bool} (clear : Bool) (k i : ℕ) → reply ≡ (clear && rows_left k i) → i < n → row_sound desk es d h k i (row i) ≡ false → false ≡ reply
   pass_no clear k i t l q =
       let o : ℕ = cond (eqb (get_or (row i) 0 0) 0) 1 0 in
-      sym (t ∙ ap (λ (b : Bool). clear && b) (on k i o l refl ∙ ap (λ (b : Bool). (past_blank (row i) && b) && rows_left (k + o) (i + 1)) q ∙ ap (λ (b : Bool). b && rows_left (k + o) (i + 1)) (and_zero (past_blank (row i)))) ∙ and_zero clear)
+      sym (t ∙ ap (λ (b : Bool). clear && b) (on k i o l refl ∙ ap (λ (b : Bool). (past_blank (row i) && b) && rows_left (k + o) (i + 1)) q ∙ ap (λ (b : Bool). b && rows_left (k + o) (i + 1)) (and_zero (past_blank (row i))))
+      ∙ and_zero clear)
 
   end : {reply : Bool} (clear : Bool) (k i : ℕ) → reply ≡ (clear && rows_left k i) → n ≤ i → (clear && eqb k v) ≡ reply
   end clear k i t l =

@@ -1,4 +1,5 @@
 -- The loops over words and rows.
+use Rattle.std.specs.Prelude.{if◌then◌else◌}
 use Prim.Native.Nat.{◌-◌, ℕ, ◌≤◌, ◌*◌, zero, suc, ◌<◌, ◌+◌}
 use mathlib.Core.Bool.{Bool, ◌&&◌, true, false}
 use mathlib.Core.List.{List, [], ◌∷◌}
@@ -11,7 +12,7 @@ use lib.ListN.{drop, take, drop_of_length-le, length, get_or}
 use lib.Seq.{drop-drop, take-take, take_all, get_or-take, get_or-drop}
 use Rattle.rules.specs.Floats.{within, farthest}
 use Rattle.rules.specs.Limits.{desk, no_plane}
-use Rattle.rules.specs.Lists.{all, rows, if◌then◌else◌}
+use Rattle.rules.specs.Lists.{all, rows}
 use Rattle.rules.specs.Table.{primordials}
 use Rattle.rules.proofs.Indexed.{rows_on}
 use Rattle.rules.proofs.Laws.{test_le, test_eq, not_eq, eq_test, le_test, and_right, and_when}

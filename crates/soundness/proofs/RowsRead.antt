@@ -1,4 +1,5 @@
 -- Rows are read in turn up to the first that is not sound or not new, and each that is read joins the index.
+use Rattle.std.specs.Prelude.{if◌then◌else◌}
 use Prim.Native.Nat.{ℕ, suc, ◌+◌, ◌-◌, ◌≤◌, ◌<◌}
 use mathlib.Core.Bool.{Bool, true, false, cond, ◌&&◌}
 use mathlib.Core.List.{List}
@@ -11,7 +12,6 @@ use lib.Ieee.{Float}
 use lib.ListN.{get_or}
 use Rattle.rules.specs.Held.{memory_of}
 use Rattle.rules.specs.Limits.{desk}
-use Rattle.rules.specs.Lists.{if◌then◌else◌}
 use Rattle.rules.specs.Memory.{right_size}
 use Rattle.space.specs.Chains.{stored_row, key_of, new_start}
 use Rattle.soundness.specs.Words.{counts_fit, floats_sound, row_sound, row_new}

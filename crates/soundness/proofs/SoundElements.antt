@@ -1,4 +1,5 @@
 -- Each element's own line: the words' test is the table's.
+use Rattle.std.specs.Prelude.{if◌then◌else◌}
 use Prim.Native.Nat.{ℕ, ◌<◌, ◌*◌, zero, suc, ◌+◌, ◌≤◌}
 use mathlib.Core.Bool.{not, Bool, true, false, ◌&&◌, false≢true}
 use mathlib.Core.List.{List, map, [], ◌∷◌}
@@ -10,7 +11,7 @@ use lib.Dec.{eqb, lit≤, ltb, leb}
 use lib.ListN.{get_or, take, drop, length, length-drop, length-map}
 use lib.Seq.{drop-drop, get_or-take, get_or-drop, length-take-le}
 use Rattle.rules.specs.Limits.{desk, no_plane}
-use Rattle.rules.specs.Lists.{rows, if◌then◌else◌, all, all_from, rises, member, distinct}
+use Rattle.rules.specs.Lists.{rows, all, all_from, rises, member, distinct}
 use Rattle.rules.specs.Memory.{read_element, plane_named}
 use Rattle.rules.specs.Sound.{closed, sound_boundary, sound_facet, names_plane, names_none, sound_element}
 use Rattle.rules.specs.Table.{rank, rank_of, Element, corner, polytope, boundary, boundary_of, element, element_count, same_element, Table}

@@ -1,4 +1,5 @@
 -- Document 01's lines one by one: what the table read from the memory must meet, and the round trip, is what the words must meet.
+use Rattle.std.specs.Prelude.{if◌then◌else◌}
 use Prim.Native.Nat.{◌-◌, ℕ, ◌≤◌, ◌*◌, ◌<◌, suc, ◌+◌, zero}
 use mathlib.Core.Bool.{Bool, ◌&&◌, true, false, not, ◌||◌, cond}
 use mathlib.Core.List.{List, map, ◌∷◌, [], ◌++◌}
@@ -13,7 +14,7 @@ use lib.Seq.{length-take-le, drop-cons, take-take, take_all}
 use Rattle.rules.specs.Floats.{same_bits, plus_zero, within, farthest, unit, farthest_plane}
 use Rattle.rules.specs.Held.{element_words, Wide}
 use Rattle.rules.specs.Limits.{Limits, no_plane}
-use Rattle.rules.specs.Lists.{rows, alike, pad, joined, all, if◌then◌else◌, keep, up_from, distinct, any}
+use Rattle.rules.specs.Lists.{rows, alike, pad, joined, all, keep, up_from, distinct, any}
 use Rattle.rules.specs.Memory.{plane_width, plane_row, read_plane, read_element, plane_named, plane_number, element_width, element_row}
 use Rattle.rules.specs.Sound.{sound_point, sound_plane}
 use Rattle.rules.specs.Table.{corner, vertex_of, is_corner, Element, polytope, same_element}

@@ -1,4 +1,5 @@
 -- The words are sound exactly when the memory is.
+use Rattle.std.specs.Prelude.{if◌then◌else◌}
 use Prim.Native.Nat.{ℕ, ◌≤◌, zero, suc, ◌+◌, ◌*◌}
 use mathlib.Core.Bool.{Bool, true, ◌&&◌, false}
 use mathlib.Core.List.{List, ◌∷◌, [], map}
@@ -10,7 +11,7 @@ use lib.ListN.{length, get_or, take, drop, length-drop, length-map}
 use Rattle.rules.specs.Floats.{same_bits, plus_zero}
 use Rattle.rules.specs.Held.{element_words}
 use Rattle.rules.specs.Limits.{desk}
-use Rattle.rules.specs.Lists.{alike, all, rows, if◌then◌else◌, pad, joined, all_from, distinct, keep, up_to}
+use Rattle.rules.specs.Lists.{alike, all, rows, pad, joined, all_from, distinct, keep, up_to}
 use Rattle.rules.specs.Memory.{read_element, plane_named, Memory, read_plane, sound_memory, right_size, same_memory, encode, decode, plane_row}
 use Rattle.rules.specs.Sound.{room_fits, sound, corners_in_order, sound_point, sound_plane, sound_element}
 use Rattle.rules.specs.Table.{boundary_of, Element, corner, polytope, Plane, Table, primordials, same_element, vertex_of, is_corner}

@@ -1,8 +1,8 @@
 -- What every entry point asks first: 3, 4 and 5 in the old order. Definitions only.
-use Rattle.std.specs.Prelude.{ℕ, ◌≡◌, true, false, not, List, ltb, Float, get_or}
+use Rattle.std.specs.Prelude.{ℕ, ◌≡◌, true, false, not, List, ltb, Float, get_or, if◌then◌else◌}
 use Rattle.std.specs.Float.{nan, inf, fin}
 use Rattle.rules.specs.Limits.{desk}
-use Rattle.rules.specs.Lists.{if◌then◌else◌, all}
+use Rattle.rules.specs.Lists.{all}
 use Rattle.rules.specs.Table.{element_count}
 use Rattle.rules.specs.Memory.{Memory, decode, sound_memory}
 use Rattle.rules.specs.Held.{memory_of}

@@ -1,8 +1,7 @@
 -- What the tests need, and what they answer: the parts of their contracts by name. Definitions only.
-use Rattle.std.specs.Prelude.{ℕ, zero, suc, ◌+◌, ◌<◌, ◌≤◌, ◌≡◌, Bool, true, false, cond, ◌&&◌, List, eqb, Float, length, get_or, take, drop}
+use Rattle.std.specs.Prelude.{ℕ, zero, suc, ◌+◌, ◌<◌, ◌≤◌, ◌≡◌, Bool, true, false, cond, ◌&&◌, List, eqb, Float, length, get_or, take, drop, if◌then◌else◌}
 use Rattle.rules.specs.Held.{memory_of}
 use Rattle.rules.specs.Limits.{desk}
-use Rattle.rules.specs.Lists.{if◌then◌else◌}
 use Rattle.rules.specs.Memory.{sound_memory, right_size}
 use Rattle.space.specs.Numbers.{row_width, point_slice, plane_slice, element_slice}
 use Rattle.space.specs.Chains.{stored_row, key_of, new_start, Indexed}

@@ -1,8 +1,8 @@
 -- The soundness of the lent memory, told by its words and rows alone: nothing is read into a table. Definitions only.
-use Rattle.std.specs.Prelude.{ℕ, ◌+◌, ◌*◌, ◌<◌, suc, ◌≡◌, Bool, ◌&&◌, true, not, cond, List, [], ◌∷◌, eqb, leb, ltb, Float, length, take, drop, get_or}
+use Rattle.std.specs.Prelude.{ℕ, ◌+◌, ◌*◌, ◌<◌, suc, ◌≡◌, Bool, ◌&&◌, true, not, cond, List, [], ◌∷◌, eqb, leb, ltb, Float, length, take, drop, get_or, if◌then◌else◌}
 use Rattle.rules.specs.Floats.{same_bits, plus_zero, within, farthest, unit, farthest_plane}
 use Rattle.rules.specs.Limits.{Limits, desk, no_plane}
-use Rattle.rules.specs.Lists.{all, any, rows, if◌then◌else◌, rises, all_from, distinct, alike}
+use Rattle.rules.specs.Lists.{all, any, rows, rises, all_from, distinct, alike}
 use Rattle.rules.specs.Memory.{plane_width, element_width, right_size}
 use Rattle.rules.specs.Held.{memory_of}
 use Rattle.rules.specs.Table.{primordials}

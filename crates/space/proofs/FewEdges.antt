@@ -1,5 +1,6 @@
 -- Few edges need no walk. Where each corner is met twice, what hangs together with an edge has two edges at least, and three where no two edges share both ends:
 -- the edge, and the other one at each of its ends. So up to three edges, or up to five where no two share both ends, cannot fall into two parts, and are one ring.
+use Rattle.std.specs.Prelude.{if◌then◌else◌}
 use Prim.Native.Nat.{ℕ, suc, ◌+◌, ◌≤◌, ◌<◌}
 use mathlib.Core.Bool.{Bool, true, false, not, ◌&&◌, false≢true, true≢false, cond}
 use mathlib.Core.List.{List, [], ◌∷◌}
@@ -8,7 +9,7 @@ use native.Mathlib.Omega.{arith}
 use lib.Dec.{eqb, ltb}
 use lib.ListN.{length}
 use borrow.Author.Tests.{ltb-false}
-use Rattle.rules.specs.Lists.{if◌then◌else◌, keep, member, rises}
+use Rattle.rules.specs.Lists.{keep, member, rises}
 use Rattle.rules.specs.Table.{Table, boundary}
 use Rattle.rules.specs.Walk.{other_edge, around, each_once, each_twice}
 use Rattle.rules.specs.Sound.{closed}

@@ -1,4 +1,5 @@
 -- Sharing a hyperplane is the step of the rules; and its search, over the hyperplanes that are read back, is theirs.
+use Rattle.std.specs.Prelude.{if◌then◌else◌}
 use Prim.Native.Nat.{ℕ, ◌<◌, zero, suc, ◌≤◌, ◌*◌, ◌+◌}
 use mathlib.Core.Bool.{Bool, true, false}
 use mathlib.Core.List.{List, ◌∷◌, []}
@@ -14,7 +15,7 @@ use Rattle.rules.specs.Cut.{share_plane, done, with_plane, refused, plane_matche
 use Rattle.rules.specs.Floats.{plus_zero}
 use Rattle.rules.specs.Held.{Holds, went, stopped, elements_of, points_of, Fits, planes_of, Came}
 use Rattle.rules.specs.Limits.{desk}
-use Rattle.rules.specs.Lists.{if◌then◌else◌, find_from}
+use Rattle.rules.specs.Lists.{find_from}
 use Rattle.rules.specs.Memory.{plane_row, read_plane}
 use Rattle.rules.specs.Replies.{divider_of}
 use Rattle.rules.specs.Sound.{sound_plane}

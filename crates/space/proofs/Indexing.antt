@@ -155,7 +155,8 @@ module _ (es : List ℕ) (n : ℕ) (ix : List ℕ) (k : ℕ) (I : Indexed es n i
       (subst (Last es n (key_of (stored_row es n))) (sym e) (subst (λ (m : ℕ). Last es n m (get_or ix k 0)) q (I.starts k kl)))
   linked j h false t =
       let u = unlike_eq j n t in
-      let e : get_or (new_start ix k n) (keys + j) 0 ≡ get_or ix (keys + j) 0 = get_or-set_other ix₁ k (keys + j) (n + 1) 0 (λ z. omega (arith, z, kl)) ∙ get_or-set_other ix (keys + n) (keys + j) (get_or ix k 0) 0 (λ z. u (omega (arith, z))) in
+      let e : get_or (new_start ix k n) (keys + j) 0 ≡ get_or ix (keys + j) 0 = get_or-set_other ix₁ k (keys + j) (n + 1) 0 (λ z. omega (arith, z, kl)) ∙ get_or-set_other ix (keys + n) (keys + j) (get_or ix k 0) 0
+      (λ z. u (omega (arith, z))) in
       subst (Last es j (key_of (stored_row es j))) (sym e) (I.links j (omega (arith, u, h)))
 
   pub index_joined : Indexed es (n + 1) (new_start ix k n)

@@ -1,5 +1,6 @@
 -- How often the corners of a face are met, edge after edge: what counting their ends and joining paths have in common.
 -- Two for each second meeting, and the spare meetings of each corner, make up the ends that are met.
+use Rattle.std.specs.Prelude.{if◌then◌else◌}
 use Prim.Native.Nat.{ℕ, ◌+◌, ◌-◌, suc, zero, ◌<◌, ◌≤◌}
 use mathlib.Core.Bool.{cond, Bool, true, false, false≢true}
 use mathlib.Core.List.{List, ◌∷◌, []}
@@ -10,7 +11,7 @@ use native.Mathlib.Omega.{arith}
 use lib.Dec.{eqb}
 use lib.ListN.{length, drop, get_or, replicate, length-replicate, get_or-replicate, length-drop}
 use lib.Seq.{drop-cons, get_or-drop}
-use Rattle.rules.specs.Lists.{occurrences, member, if◌then◌else◌, keep}
+use Rattle.rules.specs.Lists.{occurrences, member, keep}
 use Rattle.rules.proofs.Laws.{eq_test, test_eq, not_eq, or_case, or_left, or_right, eqb_self}
 use Rattle.space.specs.Closed.{Unmet, first_end, second_end, raw_ends}
 use Rattle.space.proofs.Sums.{sum_to, sum_change}

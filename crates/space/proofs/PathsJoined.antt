@@ -11,7 +11,6 @@ use lib.ListN.{length, drop, get_or, set, length-set}
 use lib.Seq.{get_or-set_same, get_or-set_other}
 use borrow.Author.Tests.{lt-ltb, le-ltb}
 use Rattle.rules.specs.Lists.{occurrences, member}
-use Rattle.rules.proofs.FaceEdges.{two}
 use Rattle.rules.proofs.Laws.{eq_test, test_eq, not_eq, unlike_eq, or_left, or_right, eqb_self}
 use Rattle.space.specs.Closed.{EndsLow, Unmet, Stamped, PathsReady, PathsJoined, EndsJoined, stamp_room, first_end, second_end, raw_ends, far_end, join_code, join_words, path_code, path_words, joining, joined}
 use Rattle.space.proofs.Sums.{sum_zeros}

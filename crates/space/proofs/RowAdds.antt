@@ -1,4 +1,5 @@
 -- Appending a row is the step that adds its element.
+use Rattle.std.specs.Prelude.{if◌then◌else◌}
 use Prim.Native.Nat.{ℕ, ◌+◌, ◌*◌, ◌≤◌, ◌<◌}
 use mathlib.Core.Path.{◌≡◌, refl, sym, ap, ap₂, ◌∙◌, subst}
 use mathlib.Core.Bool.{Bool, true, false}
@@ -12,7 +13,7 @@ use lib.Seq.{sets, take_all}
 use lib.Ieee.{Float}
 use borrow.Author.Tests.{lt-ltb, le-ltb}
 use Rattle.rules.specs.Limits.{Readable, desk}
-use Rattle.rules.specs.Lists.{if◌then◌else◌, alike, find, rows}
+use Rattle.rules.specs.Lists.{alike, find, rows}
 use Rattle.rules.specs.Table.{Element, Table, same_element, element_count}
 use Rattle.rules.specs.Cut.{refused, done, add_element, share_element, with_element}
 use Rattle.rules.specs.Held.{Holds, points_of, planes_of, element_words, fitting, went, stopped, elements_of}

@@ -1,4 +1,5 @@
 -- The row that the code writes of a polytope is the one that the rules write of it.
+use Rattle.std.specs.Prelude.{if◌then◌else◌}
 use Prim.Native.Nat.{ℕ, suc, ◌+◌, ◌-◌, ◌≤◌}
 use mathlib.Core.Path.{◌≡◌, refl, sym, ap, ◌∙◌}
 use mathlib.Core.Bool.{Bool, true, false, cond}
@@ -11,7 +12,7 @@ use lib.ListN.{length, take, set, replicate}
 use lib.Seq.{sets, sets-eq, length-take-le}
 use borrow.Author.Tests.{eqb-true}
 use Rattle.rules.specs.Limits.{desk, no_plane}
-use Rattle.rules.specs.Lists.{if◌then◌else◌, pad}
+use Rattle.rules.specs.Lists.{pad}
 use Rattle.rules.specs.Table.{polytope}
 use Rattle.rules.specs.Memory.{element_row, plane_number, plane_named}
 use Rattle.rules.specs.Held.{element_words}

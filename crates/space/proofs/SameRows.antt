@@ -1,4 +1,5 @@
 -- Two rows are alike, word by word, exactly where their elements are equal; so the search for an equal row is the search for an equal element.
+use Rattle.std.specs.Prelude.{if◌then◌else◌}
 use Prim.Native.Nat.{◌-◌, ℕ, suc, ◌*◌}
 use mathlib.Core.Bool.{true, Bool}
 use mathlib.Core.List.{map, List, [], ◌∷◌}
@@ -8,7 +9,7 @@ use lib.Dec.{eqb}
 use lib.ListN.{length, length-map, replicate}
 use Rattle.rules.specs.Held.{fitting, element_words, Fits, elements_of}
 use Rattle.rules.specs.Limits.{Limits, Readable}
-use Rattle.rules.specs.Lists.{alike, find, all, find_from, if◌then◌else◌, rows, joined}
+use Rattle.rules.specs.Lists.{alike, find, all, find_from, rows, joined}
 use Rattle.rules.specs.Memory.{read_element, element_width}
 use Rattle.rules.specs.Table.{Element, same_element, Table, element_count}
 use Rattle.rules.proofs.Laws.{and_left, and_right, both_ways}

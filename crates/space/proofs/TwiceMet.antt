@@ -1,5 +1,5 @@
 -- Test 7 as the code makes it, and that it is the model's test over a table that the memory holds.
-use Prim.Native.Nat.{ℕ, ◌+◌, suc, zero, ◌<◌, ◌≤◌}
+use Prim.Native.Nat.{ℕ, suc, zero, ◌<◌, ◌≤◌}
 use mathlib.Core.Bool.{cond, Bool, true, false, false≢true}
 use mathlib.Core.Option.{none}
 use mathlib.Core.List.{List, ◌∷◌, [], ◌++◌}

@@ -1,4 +1,5 @@
 -- Sharing a vertex is the step of the rules; and its search, over the points that are read back, is theirs.
+use Rattle.std.specs.Prelude.{if◌then◌else◌}
 use Prim.Native.Nat.{ℕ, ◌+◌, suc, ◌≤◌, ◌<◌, ◌*◌, zero}
 use mathlib.Core.Bool.{Bool, true, false}
 use mathlib.Core.List.{List, [], ◌∷◌}
@@ -14,7 +15,7 @@ use Rattle.rules.specs.Cut.{share_vertex, add_element, with_point, refused, add_
 use Rattle.rules.specs.Floats.{plus_zero, within, farthest, point_matches}
 use Rattle.rules.specs.Held.{Holds, element_words, Came, stopped, elements_of, planes_of, went, points_of}
 use Rattle.rules.specs.Limits.{desk}
-use Rattle.rules.specs.Lists.{if◌then◌else◌, pad, rows, find, all}
+use Rattle.rules.specs.Lists.{pad, rows, find, all}
 use Rattle.rules.specs.Memory.{element_row}
 use Rattle.rules.specs.Sound.{sound_point}
 use Rattle.rules.specs.Table.{Table, corner}

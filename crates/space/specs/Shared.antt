@@ -1,10 +1,10 @@
 -- What adding a vertex, a hyperplane or a polytope does to the lent memory: the step of the rules. Definitions only.
-use Rattle.std.specs.Prelude.{ℕ, ◌+◌, ◌*◌, ◌≤◌, ◌<◌, ◌≡◌, Bool, true, not, List, [], ◌∷◌, leb, ltb, length, get_or, set, take, drop, Float}
+use Rattle.std.specs.Prelude.{ℕ, ◌+◌, ◌*◌, ◌≤◌, ◌<◌, ◌≡◌, Bool, true, not, List, [], ◌∷◌, leb, ltb, length, get_or, set, take, drop, Float, if◌then◌else◌}
 use Rattle.std.proofs.Math.Option.{Option, none, some}
 use Rattle.std.proofs.lemmas.List.Edits.{sets}
 use Rattle.std.specs.Float.{nan}
 use Rattle.rules.specs.Limits.{desk}
-use Rattle.rules.specs.Lists.{if◌then◌else◌, pad, find, find_from}
+use Rattle.rules.specs.Lists.{pad, find, find_from}
 use Rattle.rules.specs.Floats.{plus_zero, point_matches}
 use Rattle.rules.specs.Table.{VertexNumber, HyperplaneNumber, Plane, Table, corner, polytope, primordials}
 use Rattle.rules.specs.Sound.{sound, sound_point, sound_plane}

@@ -1,4 +1,5 @@
 -- What is read of one edge, and the searches over the edges of a face: what is left to search gives what the whole gives.
+use Rattle.std.specs.Prelude.{if◌then◌else◌}
 use Prim.Native.Nat.{ℕ, ◌+◌, ◌*◌, ◌≤◌, ◌<◌}
 use mathlib.Core.Path.{◌≡◌, refl, sym, ap, ◌∙◌, subst}
 use mathlib.Core.Bool.{Bool, true, false, not, ◌&&◌, ◌||◌}
@@ -6,7 +7,7 @@ use mathlib.Core.List.{List, [], ◌∷◌}
 use borrow.Author.Tests.{lt-ltb, le-ltb}
 use lib.Dec.{eqb, ltb}
 use lib.ListN.{get_or, drop}
-use Rattle.rules.specs.Lists.{if◌then◌else◌, keep}
+use Rattle.rules.specs.Lists.{keep}
 use Rattle.rules.specs.Held.{AllOf}
 use Rattle.rules.proofs.Laws.{if_true, if_false, either, test_eq, not_eq}
 use Rattle.walk.specs.Boundaries.{row_boundary, BoundaryFits}

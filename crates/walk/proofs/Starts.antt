@@ -1,4 +1,5 @@
 -- Where the walk begins: the lowest corner below a face is the lowest first end of its edges, for what a face reaches of rank 0 is an end of one.
+use Rattle.std.specs.Prelude.{if◌then◌else◌}
 use Prim.Native.Nat.{ℕ, zero, suc, ◌+◌, ◌≤◌, ◌<◌, suc-le-suc}
 use mathlib.Core.Path.{◌≡◌, refl, sym, ap, ◌∙◌, subst}
 use mathlib.Core.Bool.{Bool, true, false}
@@ -10,7 +11,7 @@ use lib.Dec.{eqb, ltb, lit≤}
 use lib.ListN.{length, get_or}
 use lib.Ieee.{Float}
 use Rattle.rules.specs.Limits.{desk}
-use Rattle.rules.specs.Lists.{if◌then◌else◌, keep, up_from}
+use Rattle.rules.specs.Lists.{keep, up_from}
 use Rattle.rules.specs.Table.{Table, element_count, rank, boundary}
 use Rattle.rules.specs.Sound.{sound}
 use Rattle.rules.specs.Held.{Holds, AllOf}

@@ -1,5 +1,6 @@
 -- The walk over the memory's words is the rules' walk over the table, step by step: each edge has the same ends in both.
 -- The rules' walk stops at the start, and the words' does not look for it: they are alike where the rules' has as many steps as there are edges.
+use Rattle.std.specs.Prelude.{if◌then◌else◌}
 use Prim.Native.Nat.{ℕ, zero, suc, ◌≤◌}
 use mathlib.Core.Path.{◌≡◌, refl, sym, ap, ap₂, ◌∙◌, subst}
 use mathlib.Core.Bool.{Bool, true, false, not, ◌&&◌, ◌||◌}
@@ -8,13 +9,13 @@ use native.Mathlib.Nat.{le_of_suc-le-suc}
 use native.Mathlib.Omega.{arith}
 use lib.Dec.{eqb, ltb}
 use lib.ListN.{length, get_or}
-use Rattle.rules.specs.Lists.{if◌then◌else◌, all, keep, joined, member, rises}
+use Rattle.rules.specs.Lists.{all, keep, joined, member, rises}
 use Rattle.rules.specs.Table.{Table, element_count, boundary}
 use Rattle.rules.specs.Held.{AllOf}
 use Rattle.rules.specs.Walk.{edges_at, other_end, other_edge, walk, first_edge}
 use Rattle.rules.specs.Questions.{pairs}
 use Rattle.rules.proofs.WalkSteps.{none_again}
-use Rattle.rules.proofs.Laws.{if_true, if_false, either, and_left, and_right, le_test, not_eq, eqb_self}
+use Rattle.rules.proofs.Laws.{if_true, if_false, either, and_left, not_eq, eqb_self}
 use Rattle.rules.proofs.VertexSet.{keep_rises}
 use Rattle.rules.proofs.WalkRound.{taken}
 use Rattle.walk.specs.Walks.{low_end, high_end, has_end, end_across, edge_beside, no_edge, first_way, numbers_from}

@@ -1,6 +1,6 @@
 -- The walk round a face over the words of the lent memory: the rules' own for a face that is one ring, with the ends of an edge read from its row. Definitions only.
-use Rattle.std.specs.Prelude.{ℕ, zero, suc, ◌+◌, ◌*◌, ◌<◌, ◌≤◌, Bool, not, ◌&&◌, ◌||◌, ◌≡◌, List, [], ◌∷◌, ltb, eqb, length, get_or}
-use Rattle.rules.specs.Lists.{if◌then◌else◌, keep}
+use Rattle.std.specs.Prelude.{ℕ, zero, suc, ◌+◌, ◌*◌, ◌<◌, ◌≤◌, Bool, not, ◌&&◌, ◌||◌, ◌≡◌, List, [], ◌∷◌, ltb, eqb, length, get_or, if◌then◌else◌}
+use Rattle.rules.specs.Lists.{keep}
 use Rattle.rules.specs.Held.{AllOf}
 use Rattle.space.specs.Ready.{ElementReady}
 use Rattle.walk.specs.Boundaries.{row_boundary, BoundaryFits}

@@ -1,9 +1,7 @@
 -- All of what is left are faces exactly when all of the whole are.
-use Rattle.std.proofs.Common.{◌≡◌, ℕ, suc, ◌+◌, ◌-◌, ◌≤◌, List, length, drop, sym, ap, ◌∙◌, le_trans, le_of_eq, rules}
+use Rattle.std.proofs.Common.{◌≡◌, ℕ, ◌-◌, ◌≤◌, List, length, drop}
 use Rattle.rules.specs.Lists.{all}
-use Rattle.rules.proofs.Laws.{test_eq, not_eq}
 use Rattle.areas.specs.Words.{row_is_face}
-use Rattle.areas.proofs.Loops.{all_stop, all_go, all_end}
 use Rattle.areas.proofs.are_faces.Given as goal
 
 -- the pieces from i on are left

@@ -1,7 +1,6 @@
 -- All of what is left are in use exactly when all of the whole are.
-use Rattle.std.proofs.Common.{◌≡◌, ℕ, ◌+◌, ◌-◌, ◌≤◌, ltb, List, length, drop, rules, le-ltb, lt-ltb}
+use Rattle.std.proofs.Common.{◌≡◌, ℕ, ◌-◌, ◌≤◌, ltb, List, length, drop}
 use Rattle.rules.specs.Lists.{all}
-use Rattle.areas.proofs.Loops.{all_stop, all_go, all_end}
 use Rattle.areas.proofs.are_in_use.Given as goal
 
 -- the pieces from i on are left

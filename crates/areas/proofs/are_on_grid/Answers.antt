@@ -1,8 +1,5 @@
 -- All of what is left are on the grid exactly when all of the whole are.
-use Rattle.std.proofs.Common.{◌≡◌, ℕ, ◌+◌, ◌-◌, ◌≤◌, List, length, drop, sym, ◌∙◌, subst, rules}
-use lib.Ieee.{Float}
-use borrow.Author.Tests.{not-true, not-false}
-use Rattle.rules.specs.Lists.{all}
+use Rattle.std.proofs.Common.{sym, ◌∙◌, subst, rules}
 use Rattle.areas.specs.Words.{words_on_grid, PieceFits}
 use Rattle.areas.proofs.Loops.{all_stop, all_go, all_end}
 use Rattle.areas.proofs.are_on_grid.Goals as goal
@@ -16,11 +13,11 @@ returns-then-not-is_piece_on_grid c = all_stop (words_on_grid c.args.points.now 
 
 pub loop-i-preserved : goal.loop-i-preserved
 loop-i-preserved c = record {
-      low = search rules;
-      end = c.loop-i.invariant.end;
-      same = all_go (words_on_grid c.args.points.now c.args.elements.now) c.args.pieces.now _ c.loop-i.i _ c.wide.ensures.value (search rules) c.loop-i.invariant.same
-          (sym c.is_piece_on_grid.ensures ∙ c.if-not-is_piece_on_grid.false);
-    }
+  low = search rules;
+  end = c.loop-i.invariant.end;
+  same = all_go (words_on_grid c.args.points.now c.args.elements.now) c.args.pieces.now _ c.loop-i.i _ c.wide.ensures.value (search rules) c.loop-i.invariant.same
+      (sym c.is_piece_on_grid.ensures ∙ c.if-not-is_piece_on_grid.false);
+}
 
 pub returns : goal.returns
 returns c = all_end (words_on_grid c.args.points.now c.args.elements.now) c.args.pieces.now _ c.loop-i.i (search rules) c.loop-i.invariant.same

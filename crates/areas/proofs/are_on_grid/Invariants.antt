@@ -1,10 +1,8 @@
 -- All of what is left are on the grid exactly when all of the whole are.
-use Rattle.std.proofs.Common.{◌≡◌, ℕ, ◌+◌, ◌-◌, ◌≤◌, List, length, drop, sym, ◌∙◌, subst, rules}
+use Rattle.std.proofs.Common.{◌≡◌, ℕ, ◌-◌, ◌≤◌, List, length, drop}
 use lib.Ieee.{Float}
-use borrow.Author.Tests.{not-true, not-false}
 use Rattle.rules.specs.Lists.{all}
-use Rattle.areas.specs.Words.{words_on_grid, PieceFits}
-use Rattle.areas.proofs.Loops.{all_stop, all_go, all_end}
+use Rattle.areas.specs.Words.{words_on_grid}
 use Rattle.areas.proofs.are_on_grid.Given as goal
 
 -- the pieces from i on are left

@@ -1,6 +1,5 @@
 -- 3, 26, 4 and 6 in their order, each of all pieces, and then the sheet: each way the code goes is a case of the reply.
-use Rattle.std.proofs.Common.{[], sym, ◌∙◌, arith, rules}
-use borrow.Author.Tests.{not-true, not-false}
+use Rattle.std.proofs.Common.{[], sym, ◌∙◌, arith}
 use Rattle.soundness.proofs.AskedOnce.{counts_long}
 use Rattle.areas.proofs.Replied.{unsound, too_many, not_in_use, not_flat, pieces_used, no_face, pieces_fit, replied}
 use Rattle.areas.proofs.areas.Goals as goal

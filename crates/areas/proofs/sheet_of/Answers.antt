@@ -1,6 +1,5 @@
 -- 25 of all pieces, 12 by the room, and else the sheet is written.
-use Rattle.std.proofs.Common.{sym, refl, ◌∙◌, rules}
-use borrow.Author.Tests.{not-true, not-false}
+use Rattle.std.proofs.Common.{sym, refl, ◌∙◌}
 use Rattle.areas.proofs.Replied.{off_grid, no_room, sheet_done}
 use Rattle.areas.proofs.sheet_of.Goals as goal
 

@@ -1,8 +1,5 @@
 -- What is left to write, put behind what is written, makes up the whole; so do the sizes.
-use Rattle.std.proofs.Common.{◌≡◌, ℕ, ◌+◌, ◌-◌, ◌*◌, ◌^◌, ◌<◌, ◌≤◌, List, map, length, drop, ℤ, pos, nat_abs, sym, refl, ap, ◌∙◌, subst, zero-le, le_trans, le_of_eq, zero-add, arith, lit≤, length-set, w64, to_z, rules}
-use lib.Ieee.{Float}
-use lib.Seq.{sets}
-use Rattle.rules.specs.Areas.{sizes}
+use Rattle.std.proofs.Common.{◌≡◌, ◌+◌, ◌<◌, ◌≤◌, length, pos, nat_abs, sym, refl, ap, ◌∙◌, subst, zero-le, le_trans, le_of_eq, zero-add, arith, lit≤, length-set, rules}
 use Rattle.areas.specs.Words.{word_area, PieceFits}
 use Rattle.areas.proofs.Loops.{write_go, total_go, write_end, total_end}
 use Rattle.areas.proofs.Small.{again, told, sized_fits, sized_sum, sized_few}
@@ -22,7 +19,7 @@ loop-i-init c = record {
 }
 
 pub twice_area-area-requires : goal.twice_area-area-requires
-twice_area-area-requires c = 
+twice_area-area-requires c =
     let piece : PieceFits c.args.points.now c.args.elements.now c.wide.result =
     subst (PieceFits _ _) (sym c.wide.ensures.value) (c.requires.pieces.each c.loop-i.i c.loop-i-test.true) in
     piece
@@ -31,7 +28,7 @@ pub bounds-areas-i : goal.bounds-areas-i
 bounds-areas-i c = omega (arith, c.loop-i.invariant.long, c.requires.enough, c.loop-i-test.true)
 
 pub size_of-sum-requires : goal.size_of-sum-requires
-size_of-sum-requires c = 
+size_of-sum-requires c =
     let piece : PieceFits c.args.points.now c.args.elements.now c.wide.result =
     subst (PieceFits _ _) (sym c.wide.ensures.value) (c.requires.pieces.each c.loop-i.i c.loop-i-test.true) in
     let area : again c.twice_area-area.result ≡ word_area c.args.points.now c.args.elements.now c.wide.result =
@@ -39,7 +36,7 @@ size_of-sum-requires c =
     record { size = le_trans (le_of_eq (ap nat_abs area)) (area_small _ _ _ piece) }
 
 pub overflow_add-sum : goal.overflow_add-sum
-overflow_add-sum c = 
+overflow_add-sum c =
     let piece : PieceFits c.args.points.now c.args.elements.now c.wide.result =
     subst (PieceFits _ _) (sym c.wide.ensures.value) (c.requires.pieces.each c.loop-i.i c.loop-i-test.true) in
     let area : again c.twice_area-area.result ≡ word_area c.args.points.now c.args.elements.now c.wide.result =
@@ -49,7 +46,7 @@ overflow_add-sum c =
     sized_fits _ _ _ _ _ _ c.loop-i.invariant.is c.size_of-sum.ensures area (area_small _ _ _ piece) c.loop-i.invariant.few (below c.loop-i-test.true)
 
 pub loop-i-preserved : goal.loop-i-preserved
-loop-i-preserved c = 
+loop-i-preserved c =
     let piece : PieceFits c.args.points.now c.args.elements.now c.wide.result =
     subst (PieceFits _ _) (sym c.wide.ensures.value) (c.requires.pieces.each c.loop-i.i c.loop-i-test.true) in
     let area : again c.twice_area-area.result ≡ word_area c.args.points.now c.args.elements.now c.wide.result =

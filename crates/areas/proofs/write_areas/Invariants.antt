@@ -1,12 +1,9 @@
 -- What is left to write, put behind what is written, makes up the whole; so do the sizes.
-use Rattle.std.proofs.Common.{◌≡◌, ℕ, ◌+◌, ◌-◌, ◌*◌, ◌^◌, ◌<◌, ◌≤◌, List, map, length, drop, ℤ, pos, nat_abs, sym, refl, ap, ◌∙◌, subst, zero-le, le_trans, le_of_eq, zero-add, arith, lit≤, length-set, w64, to_z, rules}
+use Rattle.std.proofs.Common.{◌≡◌, ℕ, ◌+◌, ◌-◌, ◌*◌, ◌^◌, ◌≤◌, List, map, length, drop, ℤ, pos}
 use lib.Ieee.{Float}
 use lib.Seq.{sets}
 use Rattle.rules.specs.Areas.{sizes}
-use Rattle.areas.specs.Words.{word_area, PieceFits}
-use Rattle.areas.proofs.Loops.{write_go, total_go, write_end, total_end}
-use Rattle.areas.proofs.Small.{again, told, sized_fits, sized_sum, sized_few}
-use Rattle.areas.proofs.Walked.{area_small}
+use Rattle.areas.specs.Words.{word_area}
 use Rattle.areas.proofs.write_areas.Given as goal
 
 -- the pieces from i on are left

@@ -1,5 +1,5 @@
 -- The count and the sum stand behind the areas.
-use Rattle.std.proofs.Common.{◌≡◌, map, length, pos, refl, ap, ◌∙◌, le_trans, arith, lit≤, length-set, rules}
+use Rattle.std.proofs.Common.{map, length, pos, refl, ap, ◌∙◌, le_trans, arith, lit≤, length-set}
 use lib.ListN.{length-map}
 use lib.Seq.{length-sets}
 use Rattle.areas.specs.Words.{word_area, word_sheet}

@@ -1,7 +1,7 @@
 -- Two digits of a corner, two ends.
+use Rattle.std.specs.Prelude.{if◌then◌else◌}
 use mathlib.Core.Path.{sym, ap}
 use mathlib.Core.Bool.{Bool}
-use Rattle.rules.specs.Lists.{if◌then◌else◌}
 use lib.Ieee.{neg}
 use Rattle.rules.proofs.Laws.{not_eq, test_eq}
 use Rattle.cube.proofs.coordinate_at.Goals as goal

@@ -1,15 +1,11 @@
 -- The invariant: the axes so far are worked out, whatever element the digits are of, and the others are zeros.
-use mathlib.Core.Path.{◌≡◌, refl}
-use mathlib.Core.List.{List}
-use Prim.Native.Nat.{ℕ, ◌≤◌, ◌-◌}
+use mathlib.Core.Path.{refl}
 use native.Mathlib.Omega.{arith}
 use lib.Ieee
 use lib.Ieee.{Float}
-use lib.ListN.{length}
-use Rattle.rules.specs.Lists.{pad}
-use Rattle.rules.specs.Cube.{digits, cube_point}
+use Rattle.rules.specs.Cube.{cube_point}
 use Rattle.cube.specs.Cubes.{coordinate_at}
-use Rattle.cube.proofs.CubeEntries.{worked, worked_next, worked_end}
+use Rattle.cube.proofs.CubeEntries.{worked_next, worked_end}
 use borrow.Author.Rules.{rules}
 use Rattle.cube.proofs.corner_point.Goals as goal
 
@@ -19,12 +15,12 @@ loop-axis-init c = record { so_far = omega arith; axes = search rules; digits_lo
 
 pub loop-axis-preserved : goal.loop-axis-preserved
 loop-axis-preserved c = record {
-      so_far = search rules;
-      axes = search rules;
-      digits_long = search rules;
-      long = search rules;
-      done = λ e q. worked_next _ _ e _ _ _ _ c.loop-axis.invariant.axes (omega arith) q (c.loop-axis.invariant.done e q) c.coordinate_at.ensures;
-    }
+  so_far = search rules;
+  axes = search rules;
+  digits_long = search rules;
+  long = search rules;
+  done = λ e q. worked_next _ _ e _ _ _ _ c.loop-axis.invariant.axes (omega arith) q (c.loop-axis.invariant.done e q) c.coordinate_at.ensures;
+}
 
 pub returns : goal.returns
 unfolding cube_point

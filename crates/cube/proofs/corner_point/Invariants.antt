@@ -1,16 +1,13 @@
 -- The invariant: the axes so far are worked out, whatever element the digits are of, and the others are zeros.
-use mathlib.Core.Path.{◌≡◌, refl}
+use mathlib.Core.Path.{◌≡◌}
 use mathlib.Core.List.{List}
 use Prim.Native.Nat.{ℕ, ◌≤◌, ◌-◌}
-use native.Mathlib.Omega.{arith}
-use lib.Ieee
 use lib.Ieee.{Float}
 use lib.ListN.{length}
 use Rattle.rules.specs.Lists.{pad}
-use Rattle.rules.specs.Cube.{digits, cube_point}
+use Rattle.rules.specs.Cube.{digits}
 use Rattle.cube.specs.Cubes.{coordinate_at}
-use Rattle.cube.proofs.CubeEntries.{worked, worked_next, worked_end}
-use borrow.Author.Rules.{rules}
+use Rattle.cube.proofs.CubeEntries.{worked}
 use Rattle.cube.proofs.corner_point.Given as goal
 
 pub record Worked (f : ℕ → Float) (d : ℕ) (ks : List ℕ) (p : List Float) (axis : ℕ) : Type 0 where

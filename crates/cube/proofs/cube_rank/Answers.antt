@@ -1,7 +1,6 @@
 -- Each digit 2 gives two faces.
 use Rattle.cube.proofs.CubeEntries.{rank_half, rank_low}
 use native.Mathlib.Omega.{arith}
-use borrow.Author.Rules.{rules}
 use Rattle.cube.proofs.cube_rank.Goals as goal
 
 pub returns : goal.returns

@@ -22,7 +22,7 @@ pub returns-then-is_corner : goal.returns-then-is_corner
 returns-then-is_corner c = c.corner_row.ensures ∙ row_corner _ _ _ (sym c.is_corner.ensures ∙ c.if-is_corner.true) c.requires.vertices
 
 pub overflow_cast-h : goal.overflow_cast-h
-overflow_cast-h c = 
+overflow_cast-h c =
     let a_facet : is_facet (digits c.args.d c.args.e.0) ≡ true =
     sym c.is_facet.ensures ∙ c.if-is_facet.true in
     let facet_few : length (chosen is_facet c.args.d c.args.e.0) < 9 =
@@ -31,14 +31,14 @@ overflow_cast-h c =
     omega (arith, l, c.requires.hyperplanes)
 
 pub polytope_row-requires : goal.polytope_row-requires
-polytope_row-requires c = 
+polytope_row-requires c =
     let few : c.faces_of-f.result.n ≤ 8 =
     faces_few c.args.d c.args.e.0 c.faces_of-f.result c.requires.in_cube.axes c.faces_of-f.ensures in
     let k = few in
     record { words = search rules; size = omega (arith, k); rank = omega (arith, k) }
 
 pub returns-then-is_facet : goal.returns-then-is_facet
-returns-then-is_facet c = 
+returns-then-is_facet c =
     let no_corner : is_vertex (digits c.args.d c.args.e.0) ≡ false =
     sym c.is_corner.ensures ∙ c.if-is_corner.false in
     let a_facet : is_facet (digits c.args.d c.args.e.0) ≡ true =
@@ -49,14 +49,14 @@ returns-then-is_facet c =
     ∙ row_polytope _ _ c.faces_of-f.result c.args.h.0 true no_corner a_facet c.faces_of-f.ensures (facet_named _ _ c.requires.hyperplanes facet_few)
 
 pub polytope_row-requires-2 : goal.polytope_row-requires-2
-polytope_row-requires-2 c = 
+polytope_row-requires-2 c =
     let few : c.faces_of-f.result.n ≤ 8 =
     faces_few c.args.d c.args.e.0 c.faces_of-f.result c.requires.in_cube.axes c.faces_of-f.ensures in
     let k = few in
     record { words = search rules; size = omega (arith, k); rank = omega (arith, k) }
 
 pub returns : goal.returns
-returns c = 
+returns c =
     let no_corner : is_vertex (digits c.args.d c.args.e.0) ≡ false =
     sym c.is_corner.ensures ∙ c.if-is_corner.false in
     c.polytope_row-2.ensures

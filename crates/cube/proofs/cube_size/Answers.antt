@@ -1,6 +1,6 @@
 -- The invariant: a power of 3 for the axes so far.
-use mathlib.Core.Path.{◌≡◌, refl, sym, ap, ◌∙◌}
-use Prim.Native.Nat.{ℕ, ◌≤◌, ◌-◌, ◌*◌, ◌^◌}
+use mathlib.Core.Path.{refl, sym, ap, ◌∙◌}
+use Prim.Native.Nat.{◌*◌, ◌^◌}
 use native.Mathlib.Omega.{arith}
 use native.Mathlib.Nat.{pow-suc}
 use native.Mathlib.Numerals.{add-one}
@@ -16,10 +16,10 @@ overflow_mul-size c = let l = power_low c.loop-axis.axis (omega arith) in omega 
 
 pub loop-axis-preserved : goal.loop-axis-preserved
 loop-axis-preserved c = record {
-      so_far = search rules;
-      axes = search rules;
-      power = ap (λ n. n * 3) c.loop-axis.invariant.power ∙ sym (pow-suc 3 c.loop-axis.axis) ∙ ap (λ n. 3 ^ n) (sym (add-one c.loop-axis.axis));
-    }
+  so_far = search rules;
+  axes = search rules;
+  power = ap (λ n. n * 3) c.loop-axis.invariant.power ∙ sym (pow-suc 3 c.loop-axis.axis) ∙ ap (λ n. 3 ^ n) (sym (add-one c.loop-axis.axis));
+}
 
 pub returns : goal.returns
 returns c = let l = power_low c.loop-axis.axis (omega arith) in

@@ -1,11 +1,6 @@
 -- The invariant: a power of 3 for the axes so far.
-use mathlib.Core.Path.{◌≡◌, refl, sym, ap, ◌∙◌}
-use Prim.Native.Nat.{ℕ, ◌≤◌, ◌-◌, ◌*◌, ◌^◌}
-use native.Mathlib.Omega.{arith}
-use native.Mathlib.Nat.{pow-suc}
-use native.Mathlib.Numerals.{add-one}
-use Rattle.cube.proofs.CubeRows.{power_low}
-use borrow.Author.Rules.{rules}
+use mathlib.Core.Path.{◌≡◌}
+use Prim.Native.Nat.{ℕ, ◌≤◌, ◌-◌, ◌^◌}
 use Rattle.cube.proofs.cube_size.Given as goal
 
 pub record Grown (d size axis : ℕ) : Type 0 where

@@ -1,10 +1,7 @@
 -- The invariant: the digits so far stand in the front, and the remaining ones are those of what is left.
-use mathlib.Core.Path.{◌≡◌, refl}
-use Prim.Native.Nat.{ℕ, ◌≤◌, ◌-◌}
-use mathlib.Core.List.{List}
+use mathlib.Core.Path.{refl}
 use native.Mathlib.Omega.{arith}
-use lib.ListN.{length}
-use Rattle.cube.proofs.CubeRows.{Reading, reading_start, reading_next, reading_end}
+use Rattle.cube.proofs.CubeRows.{reading_start, reading_next, reading_end}
 use borrow.Author.Rules.{rules}
 use Rattle.cube.proofs.digits_of.Goals as goal
 

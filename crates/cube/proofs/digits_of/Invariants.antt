@@ -1,11 +1,9 @@
 -- The invariant: the digits so far stand in the front, and the remaining ones are those of what is left.
-use mathlib.Core.Path.{◌≡◌, refl}
+use mathlib.Core.Path.{◌≡◌}
 use Prim.Native.Nat.{ℕ, ◌≤◌, ◌-◌}
 use mathlib.Core.List.{List}
-use native.Mathlib.Omega.{arith}
 use lib.ListN.{length}
-use Rattle.cube.proofs.CubeRows.{Reading, reading_start, reading_next, reading_end}
-use borrow.Author.Rules.{rules}
+use Rattle.cube.proofs.CubeRows.{Reading}
 use Rattle.cube.proofs.digits_of.Given as goal
 
 pub record Read (d e : ℕ) (ks : List ℕ) (rest axis : ℕ) : Type 0 where

@@ -2,7 +2,6 @@
 use native.Mathlib.Omega.{arith}
 use Rattle.rules.proofs.Laws.{not_eq, test_eq}
 use Rattle.cube.proofs.CubeRows.{across_none, across_two}
-use borrow.Author.Rules.{rules}
 use Rattle.cube.proofs.faces_across.Goals as goal
 
 pub returns-then-k-ne2 : goal.returns-then-k-ne2

@@ -2,11 +2,9 @@
 use mathlib.Core.Path.{◌≡◌}
 use mathlib.Core.List.{List}
 use Prim.Native.Nat.{ℕ, ◌≤◌}
-use native.Mathlib.Omega.{arith}
 use lib.ListN.{length}
 use Rattle.cube.specs.declared.Faces.{Faces}
-use Rattle.cube.proofs.CubeRows.{Descending, descend_start, descend_ready, descend_next, descend_end}
-use borrow.Author.Rules.{rules}
+use Rattle.cube.proofs.CubeRows.{Descending}
 use Rattle.cube.proofs.faces_of.Given as goal
 
 pub record Down (d e : ℕ) (ks : List ℕ) (f : Faces) (step axis : ℕ) : Type 0 where

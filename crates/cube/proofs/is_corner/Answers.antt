@@ -1,7 +1,6 @@
 -- Its rank is 0.
 use mathlib.Core.Path.{ap}
 use lib.Dec.{eqb}
-use borrow.Author.Rules.{rules}
 use Rattle.cube.proofs.is_corner.Goals as goal
 
 pub returns : goal.returns

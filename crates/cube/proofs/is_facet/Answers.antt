@@ -1,6 +1,5 @@
 -- Its rank is above 0, and one below the dimension.
 use Rattle.cube.proofs.CubeEntries.{facet_no, facet_is}
-use borrow.Author.Rules.{rules}
 use Rattle.cube.proofs.is_facet.Goals as goal
 
 pub returns-then-rank-eq0 : goal.returns-then-rank-eq0

@@ -3,12 +3,10 @@ use Prim.Native.Nat.{◌<◌}
 use mathlib.Core.Bool.{true}
 use mathlib.Core.Path.{◌≡◌, sym, ◌∙◌}
 use native.Mathlib.Omega.{arith}
-use borrow.Author.Tests.{not-true, not-false}
 use lib.ListN.{length}
 use Rattle.rules.specs.Cube.{digits, is_vertex, chosen}
 use Rattle.cube.proofs.CubeEntries.{corner_put, corner_none, corner_room}
 use Rattle.cube.proofs.CubeRows.{power_low}
-use borrow.Author.Rules.{rules}
 use Rattle.cube.proofs.put_corner.Goals as goal
 
 pub overflow_cast-number : goal.overflow_cast-number
@@ -19,7 +17,7 @@ pub returns-then-not-is_corner : goal.returns-then-not-is_corner
 returns-then-not-is_corner c = corner_none _ _ c.requires.in_cube.axes _ _ _ (sym c.is_corner.ensures ∙ c.if-not-is_corner.true) c.requires.count
 
 pub overflow_mul-v : goal.overflow_mul-v
-overflow_mul-v c = 
+overflow_mul-v c =
     let a_corner : is_vertex (digits c.args.d c.args.e.0) ≡ true =
     sym c.is_corner.ensures ∙ c.if-not-is_corner.false in
     let few : length (chosen is_vertex c.args.d c.args.e.0) < 17 =
@@ -28,7 +26,7 @@ overflow_mul-v c =
     omega (arith, m, c.requires.count)
 
 pub put_point-requires : goal.put_point-requires
-put_point-requires c = 
+put_point-requires c =
     let a_corner : is_vertex (digits c.args.d c.args.e.0) ≡ true =
     sym c.is_corner.ensures ∙ c.if-not-is_corner.false in
     let few : length (chosen is_vertex c.args.d c.args.e.0) < 17 =
@@ -37,7 +35,7 @@ put_point-requires c =
     omega (arith, m, c.requires.count, c.requires.long)
 
 pub overflow_add-result : goal.overflow_add-result
-overflow_add-result c = 
+overflow_add-result c =
     let a_corner : is_vertex (digits c.args.d c.args.e.0) ≡ true =
     sym c.is_corner.ensures ∙ c.if-not-is_corner.false in
     let few : length (chosen is_vertex c.args.d c.args.e.0) < 17 =
@@ -46,7 +44,7 @@ overflow_add-result c =
     omega (arith, m, c.requires.count)
 
 pub returns : goal.returns
-returns c = 
+returns c =
     let a_corner : is_vertex (digits c.args.d c.args.e.0) ≡ true =
     sym c.is_corner.ensures ∙ c.if-not-is_corner.false in
     corner_put _ _ c.requires.in_cube.axes _ _ _ _ _ c.requires.in_cube.used a_corner c.requires.count c.corner_point-p.ensures c.put_point.ensures

@@ -1,6 +1,5 @@
 -- Four words, one after another.
 use Rattle.cube.proofs.CubeEntries.{four_put}
-use borrow.Author.Rules.{rules}
 use Rattle.cube.proofs.put_counts.Goals as goal
 
 pub returns : goal.returns

@@ -2,7 +2,6 @@
 use mathlib.Core.Path.{◌∙◌}
 use mathlib.Core.List.{[], ◌∷◌}
 use Rattle.cube.proofs.CubeEntries.{cube_put}
-use borrow.Author.Rules.{rules}
 use Rattle.cube.proofs.put_cube.Goals as goal
 
 pub returns : goal.returns

@@ -1,27 +1,24 @@
 -- The invariant: the rows of the elements so far, and how many of those are corners and facets.
-use Prim.Native.Nat.{ℕ, ◌≤◌, ◌-◌, ◌^◌}
+use Prim.Native.Nat.{◌^◌}
 use mathlib.Core.Path.{◌≡◌, refl, ap, ◌∙◌}
-use mathlib.Core.List.{List}
 use native.Mathlib.Omega.{arith}
-use lib.ListN.{length}
-use Rattle.rules.specs.Cube.{is_vertex, is_facet, chosen}
+use Rattle.rules.specs.Cube.{is_vertex, is_facet}
 use borrow.Author.Rules.{rules}
-use Rattle.cube.specs.Cubes.{CubeSize}
 use Rattle.cube.specs.Writing.{cube_elements}
 use Rattle.cube.proofs.CubeEntries.{elements_next, chosen_counted, chosen_few}
 use Rattle.cube.proofs.put_elements.Goals as goal
 
 pub loop-e-init : goal.loop-e-init
 loop-e-init c = record {
-      so_far = omega arith;
-      axes = search rules;
-      all = c.cube_size-size.ensures;
-      long = search rules;
-      room = search rules;
-      vertices = refl;
-      hyperplanes = refl;
-      slice = c.requires.clear;
-    }
+  so_far = omega arith;
+  axes = search rules;
+  all = c.cube_size-size.ensures;
+  long = search rules;
+  room = search rules;
+  vertices = refl;
+  hyperplanes = refl;
+  slice = c.requires.clear;
+}
 
 pub cube_row-row-requires : goal.cube_row-row-requires
 cube_row-row-requires c = record { in_cube = record { axes = c.loop-e.invariant.axes; used = omega (arith, c.loop-e.invariant.all.power) }; vertices = c.loop-e.invariant.vertices; hyperplanes = c.loop-e.invariant.hyperplanes }
@@ -45,15 +42,15 @@ one_more_if-h-requires c = let k = chosen_few is_facet c.args.d c.loop-e.e in
 
 pub loop-e-preserved : goal.loop-e-preserved
 loop-e-preserved c = record {
-      so_far = search rules;
-      axes = search rules;
-      all = c.loop-e.invariant.all;
-      long = search rules;
-      room = search rules;
-      vertices = c.one_more_if-v.ensures ∙ chosen_counted is_vertex c.args.d c.loop-e.e _ _ c.loop-e.invariant.vertices c.is_corner.ensures;
-      hyperplanes = c.one_more_if-h.ensures ∙ chosen_counted is_facet c.args.d c.loop-e.e _ _ c.loop-e.invariant.hyperplanes c.is_facet.ensures;
-      slice = c.put_row.ensures ∙ elements_next _ _ _ _ c.loop-e.invariant.axes (omega (arith, c.loop-e.invariant.all.few)) c.loop-e.invariant.slice c.cube_row-row.ensures;
-    }
+  so_far = search rules;
+  axes = search rules;
+  all = c.loop-e.invariant.all;
+  long = search rules;
+  room = search rules;
+  vertices = c.one_more_if-v.ensures ∙ chosen_counted is_vertex c.args.d c.loop-e.e _ _ c.loop-e.invariant.vertices c.is_corner.ensures;
+  hyperplanes = c.one_more_if-h.ensures ∙ chosen_counted is_facet c.args.d c.loop-e.e _ _ c.loop-e.invariant.hyperplanes c.is_facet.ensures;
+  slice = c.put_row.ensures ∙ elements_next _ _ _ _ c.loop-e.invariant.axes (omega (arith, c.loop-e.invariant.all.few)) c.loop-e.invariant.slice c.cube_row-row.ensures;
+}
 
 pub returns : goal.returns
 returns c = let t : c.loop-e.e ≡ 3 ^ c.args.d = omega (arith, c.loop-e.invariant.all.power) in

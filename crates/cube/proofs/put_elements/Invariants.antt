@@ -1,14 +1,11 @@
 -- The invariant: the rows of the elements so far, and how many of those are corners and facets.
-use Prim.Native.Nat.{ℕ, ◌≤◌, ◌-◌, ◌^◌}
-use mathlib.Core.Path.{◌≡◌, refl, ap, ◌∙◌}
+use Prim.Native.Nat.{ℕ, ◌≤◌, ◌-◌}
+use mathlib.Core.Path.{◌≡◌}
 use mathlib.Core.List.{List}
-use native.Mathlib.Omega.{arith}
 use lib.ListN.{length}
 use Rattle.rules.specs.Cube.{is_vertex, is_facet, chosen}
-use borrow.Author.Rules.{rules}
 use Rattle.cube.specs.Cubes.{CubeSize}
 use Rattle.cube.specs.Writing.{cube_elements}
-use Rattle.cube.proofs.CubeEntries.{elements_next, chosen_counted, chosen_few}
 use Rattle.cube.proofs.put_elements.Given as goal
 
 pub record Written (d size : ℕ) (old new : List ℕ) (v h e : ℕ) : Type 0 where

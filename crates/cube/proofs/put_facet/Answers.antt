@@ -3,12 +3,10 @@ use Prim.Native.Nat.{◌<◌}
 use mathlib.Core.Bool.{true}
 use mathlib.Core.Path.{◌≡◌, sym, ◌∙◌}
 use native.Mathlib.Omega.{arith}
-use borrow.Author.Tests.{not-true, not-false}
 use lib.ListN.{length}
 use Rattle.rules.specs.Cube.{digits, is_facet, chosen}
 use Rattle.cube.proofs.CubeEntries.{facet_put, facet_none, facet_room}
 use Rattle.cube.proofs.CubeRows.{power_low}
-use borrow.Author.Rules.{rules}
 use Rattle.cube.proofs.put_facet.Goals as goal
 
 pub overflow_cast-number : goal.overflow_cast-number
@@ -19,7 +17,7 @@ pub returns-then-not-is_facet : goal.returns-then-not-is_facet
 returns-then-not-is_facet c = facet_none _ _ c.requires.in_cube.axes _ _ _ (sym c.is_facet.ensures ∙ c.if-not-is_facet.true) c.requires.count
 
 pub overflow_mul-h : goal.overflow_mul-h
-overflow_mul-h c = 
+overflow_mul-h c =
     let a_facet : is_facet (digits c.args.d c.args.e.0) ≡ true =
     sym c.is_facet.ensures ∙ c.if-not-is_facet.false in
     let few : length (chosen is_facet c.args.d c.args.e.0) < 9 =
@@ -28,7 +26,7 @@ overflow_mul-h c =
     omega (arith, m, c.requires.count)
 
 pub put_hyperplane-requires : goal.put_hyperplane-requires
-put_hyperplane-requires c = 
+put_hyperplane-requires c =
     let a_facet : is_facet (digits c.args.d c.args.e.0) ≡ true =
     sym c.is_facet.ensures ∙ c.if-not-is_facet.false in
     let few : length (chosen is_facet c.args.d c.args.e.0) < 9 =
@@ -37,7 +35,7 @@ put_hyperplane-requires c =
     omega (arith, m, c.requires.count, c.requires.long)
 
 pub overflow_add-result : goal.overflow_add-result
-overflow_add-result c = 
+overflow_add-result c =
     let a_facet : is_facet (digits c.args.d c.args.e.0) ≡ true =
     sym c.is_facet.ensures ∙ c.if-not-is_facet.false in
     let few : length (chosen is_facet c.args.d c.args.e.0) < 9 =
@@ -46,7 +44,7 @@ overflow_add-result c =
     omega (arith, m, c.requires.count)
 
 pub returns : goal.returns
-returns c = 
+returns c =
     let a_facet : is_facet (digits c.args.d c.args.e.0) ≡ true =
     sym c.is_facet.ensures ∙ c.if-not-is_facet.false in
     facet_put _ _ c.requires.in_cube.axes _ _ _ c.facet_normal-normal.result _ _ c.requires.in_cube.used a_facet c.requires.count c.facet_normal-normal.ensures c.hyperplane_row-row.ensures c.put_hyperplane.ensures

@@ -1,10 +1,8 @@
 -- The three refusals in their order, and then the cube.
 use mathlib.Core.Path.{sym, ◌∙◌}
 use native.Mathlib.Omega.{arith}
-use borrow.Author.Tests.{not-true, not-false}
 use Rattle.cube.proofs.CubeReplies.{too_few, too_many, no_radius, no_room, cube_replied}
 use Rattle.space.proofs.Sizes.{size_known}
-use borrow.Author.Rules.{rules}
 use Rattle.cube.proofs.with_primordial_cube_radius.Goals as goal
 
 pub returns-then-dimension-lt1 : goal.returns-then-dimension-lt1

@@ -2,8 +2,6 @@
 use mathlib.Core.Path.{◌∙◌, sym}
 use Rattle.space.proofs.Indexing.{index_blank}
 use Rattle.cut.proofs.SoundCuts.{unsound}
-use borrow.Author.Tests.{not-true, not-false}
-use borrow.Author.Rules.{rules}
 use Rattle.cut.proofs.cut.Goals as goal
 
 pub memory_indexed-requires : goal.memory_indexed-requires
@@ -14,9 +12,9 @@ returns-then-not-memory_indexed c = unsound c.args.params _ _ _ _ _ (sym c.memor
 
 pub cut_sound-requires : goal.cut_sound-requires
 cut_sound-requires c = record {
-      sound = sym c.memory_indexed.ensures.told ∙ c.if-not-memory_indexed.false;
-      indexed = c.memory_indexed.ensures.indexed c.if-not-memory_indexed.false;
-    }
+  sound = sym c.memory_indexed.ensures.told ∙ c.if-not-memory_indexed.false;
+  indexed = c.memory_indexed.ensures.indexed c.if-not-memory_indexed.false;
+}
 
 pub returns : goal.returns
 returns c = c.cut_sound.ensures.reply

@@ -1,7 +1,6 @@
 -- The sheet's own reply, in one number.
 use Rattle.desk.proofs.AreaWords.{sheet_fits}
 use Rattle.desk.proofs.ListWords.{fits_as, list_said}
-use borrow.Author.Rules.{rules}
 use Rattle.desk.proofs.desk_areas.Goals as goal
 
 pub list_word-requires : goal.list_word-requires

@@ -4,11 +4,10 @@ use Rattle.rules.specs.declared.CutParams.{CutParams}
 use Rattle.cut.proofs.Names.{names_low}
 use Rattle.desk.specs.Words.{divider_with}
 use Rattle.desk.proofs.CutWords.{word_refused, word_answered}
-use borrow.Author.Rules.{rules}
 use Rattle.desk.proofs.desk_cut.Goals as goal
 
 pub output_word-requires : goal.output_word-requires
-output_word-requires c = 
+output_word-requires c =
     let asked : CutParams =
     cut_by (divider_with c.args.n0 c.args.n1 c.args.n2 c.args.n3 c.args.distance) c.fate-inside.result c.fate-outside.result in
     names_low asked _ _ _ c.cut-reply.ensures _ _ c.in-Answered.is

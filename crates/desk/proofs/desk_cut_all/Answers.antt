@@ -1,6 +1,5 @@
 -- The list's own reply, in one number.
 use Rattle.desk.proofs.CutListWords.{written_low, list_said}
-use borrow.Author.Rules.{rules}
 use Rattle.desk.proofs.desk_cut_all.Goals as goal
 
 pub written_word-requires : goal.written_word-requires

@@ -2,7 +2,6 @@
 use mathlib.Core.Path.{sym, ap, ◌∙◌}
 use Rattle.rules.specs.declared.FacetReply.TheVariants.{Has}
 use Rattle.desk.specs.Words.{facet_word}
-use borrow.Author.Rules.{rules}
 use Rattle.desk.proofs.desk_has_primordial_facet.Goals as goal
 
 pub returns-in-Refused : goal.returns-in-Refused

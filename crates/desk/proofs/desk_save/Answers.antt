@@ -1,7 +1,6 @@
 -- The reply of saving, in one number.
 use Rattle.desk.proofs.FileWords.{file_fits}
 use Rattle.desk.proofs.ListWords.{fits_as, list_said}
-use borrow.Author.Rules.{rules}
 use Rattle.desk.proofs.desk_save.Goals as goal
 
 pub list_word-requires : goal.list_word-requires

@@ -1,7 +1,6 @@
 -- The reply of printing, in one number.
 use Rattle.desk.proofs.PrintWords.{print_fits}
 use Rattle.desk.proofs.ListWords.{fits_as, list_said}
-use borrow.Author.Rules.{rules}
 use Rattle.desk.proofs.desk_stl.Goals as goal
 
 pub list_word-requires : goal.list_word-requires

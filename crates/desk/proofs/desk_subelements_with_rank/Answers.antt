@@ -1,7 +1,6 @@
 -- The question's own reply, in one number; a rank that no byte holds is asked as 255, which nobody has either.
 use Rattle.desk.proofs.ListWords.{rank_fits, fits_as, list_said}
 use Rattle.desk.proofs.RankWords.{byte_asked}
-use borrow.Author.Rules.{rules}
 use Rattle.desk.proofs.desk_subelements_with_rank.Goals as goal
 
 pub list_word-requires : goal.list_word-requires

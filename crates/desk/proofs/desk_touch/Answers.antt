@@ -2,7 +2,6 @@
 use mathlib.Core.Path.{ap, ◌∙◌}
 use Rattle.desk.specs.Words.{touch_word, divider_with}
 use Rattle.desk.proofs.TouchWords.{count_low}
-use borrow.Author.Rules.{rules}
 use Rattle.desk.proofs.desk_touch.Goals as goal
 
 pub touch_word-requires : goal.touch_word-requires

@@ -1,6 +1,5 @@
 -- The question's own reply, in one number.
 use Rattle.desk.proofs.ListWords.{vertices_fit, fits_as, list_said}
-use borrow.Author.Rules.{rules}
 use Rattle.desk.proofs.desk_vertex_set.Goals as goal
 
 pub list_word-requires : goal.list_word-requires

@@ -1,7 +1,6 @@
 -- The three sides are the three clauses of the rule.
 use mathlib.Core.Path.{sym, ap}
 use Rattle.rules.specs.Cut.{corner_output}
-use borrow.Author.Rules.{rules}
 use Rattle.ends.proofs.corner_output.Goals as goal
 
 pub returns-in-Inside : goal.returns-in-Inside

@@ -1,7 +1,6 @@
 -- The word of the row is the vertex number of the point that is read.
 use mathlib.Core.Path.{ap, ◌∙◌}
 use Rattle.space.specs.Shared.{stored_point}
-use borrow.Author.Rules.{rules}
 use Rattle.ends.proofs.corner_point.Goals as goal
 
 pub returns : goal.returns

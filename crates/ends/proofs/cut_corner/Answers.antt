@@ -2,7 +2,6 @@
 use native.Mathlib.Omega.{arith}
 use Rattle.space.proofs.Slices.{slices}
 use Rattle.ends.proofs.Vertices.{point_asked, corner_cut}
-use borrow.Author.Rules.{rules}
 use Rattle.ends.proofs.cut_corner.Goals as goal
 
 pub bounds-counts-0 : goal.bounds-counts-0

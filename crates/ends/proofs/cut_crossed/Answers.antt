@@ -2,7 +2,6 @@
 use native.Mathlib.Omega.{arith}
 use Rattle.ends.proofs.EndsGathered.{crossed}
 use Rattle.ends.proofs.Edges.{vertex_asked, crossed_refused, crossed_low, crossed_ready, crossed_done}
-use borrow.Author.Rules.{rules}
 use Rattle.ends.proofs.cut_crossed.Goals as goal
 
 pub add_vertex-placed-requires : goal.add_vertex-placed-requires

@@ -2,7 +2,6 @@
 use native.Mathlib.Omega.{arith}
 use Rattle.space.proofs.Slices.{slices}
 use Rattle.ends.proofs.Edges.{ends_ready, ends_asked, missed_ready, missed_cut, crossing_ready, crossing_cut}
-use borrow.Author.Rules.{rules}
 use Rattle.ends.proofs.cut_edge.Goals as goal
 
 pub bounds-counts-0 : goal.bounds-counts-0
@@ -24,11 +23,11 @@ rule6-requires c = missed_ready _ _ _ _ _ c.wide-d.ensures.value c.read_ends-end
 
 pub cut_crossed-requires : goal.cut_crossed-requires
 cut_crossed-requires c = record {
-      ready = crossing_ready _ _ _ _ _ c.wide-d.ensures.value c.read_ends-ends.ensures c.signed_distance-sa.ensures c.signed_distance-sb.ensures
-          c.edge_test-test.ensures c.note.ensures c.gather_ends.ensures _ _
-          c.crossing_point-at.ensures c.requires.ready;
-      indexed = c.requires.indexed;
-    }
+  ready = crossing_ready _ _ _ _ _ c.wide-d.ensures.value c.read_ends-ends.ensures c.signed_distance-sa.ensures c.signed_distance-sb.ensures
+      c.edge_test-test.ensures c.note.ensures c.gather_ends.ensures _ _
+      c.crossing_point-at.ensures c.requires.ready;
+  indexed = c.requires.indexed;
+}
 
 pub returns-in-None : goal.returns-in-None
 returns-in-None c = missed_cut _ _ _ _ _ c.wide-d.ensures.value c.read_ends-ends.ensures c.signed_distance-sa.ensures c.signed_distance-sb.ensures

@@ -2,7 +2,6 @@
 use native.Mathlib.Omega.{arith}
 use Rattle.ends.proofs.Edges.{edge_left}
 use Rattle.ends.proofs.Vertices.{low_at, corner_ready, corner_left}
-use borrow.Author.Rules.{rules}
 use Rattle.ends.proofs.cut_low.Goals as goal
 
 pub cut_corner-a-requires : goal.cut_corner-a-requires

@@ -2,7 +2,6 @@
 use mathlib.Core.Path.{ap, ◌∙◌}
 use Rattle.rules.specs.Cut.{corner_output}
 use Rattle.rules.specs.declared.SideTest.{SideTest}
-use borrow.Author.Rules.{rules}
 use Rattle.ends.proofs.end_output.Goals as goal
 
 pub returns : goal.returns

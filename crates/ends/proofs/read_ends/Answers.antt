@@ -2,7 +2,6 @@
 use mathlib.Core.Path.{◌∙◌}
 use lib.Dec.{lit≤}
 use Rattle.ends.proofs.Edges.{number_asked, end_asked}
-use borrow.Author.Rules.{rules}
 use Rattle.ends.proofs.read_ends.Goals as goal
 
 pub boundary_at-requires : goal.boundary_at-requires

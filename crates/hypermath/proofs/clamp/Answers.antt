@@ -2,7 +2,6 @@
 use mathlib.Core.Bool.{true, false}
 use mathlib.Core.Path.{refl, sym, ◌∙◌}
 use Rattle.hypermath.proofs.Crossings.{clamp_is, clamped}
-use borrow.Author.Rules.{rules}
 use Rattle.hypermath.proofs.clamp.Goals as goal
 
 pub returns-then-above_both : goal.returns-then-above_both

@@ -1,17 +1,12 @@
 -- The invariant: all is asked of what is left.
-use mathlib.Core.Path.{◌≡◌, refl, sym, ap, ◌∙◌}
-use Prim.Native.Nat.{ℕ, ◌≤◌, ◌-◌}
+use mathlib.Core.Path.{refl, sym, ap, ◌∙◌}
 use native.Mathlib.Omega.{arith}
 use native.Mathlib.Nat.{le_trans, le_of_eq}
-use borrow.Author.Tests.{not-true, not-false}
 use lib.Ieee
-use lib.ListN.{length, take, drop}
-use mathlib.Core.List.{List}
 use lib.Ieee.{Float, nan}
 use Rattle.rules.specs.Lists.{all}
 use Rattle.rules.specs.Floats.{within, one}
 use Rattle.rules.proofs.Indexed.{all_front_go, all_front_no, all_front_end}
-use Rattle.hypermath.specs.Axes.{axes}
 use borrow.Author.Rules.{rules}
 use Rattle.hypermath.proofs.components_fit.Goals as goal
 

@@ -2,7 +2,6 @@
 use mathlib.Core.Path.{sym, ◌∙◌}
 use lib.Ieee
 use Rattle.hypermath.proofs.Bits.{match_near, match_bits, match_far}
-use borrow.Author.Rules.{rules}
 use Rattle.hypermath.proofs.coordinates_match.Goals as goal
 
 pub returns-then-is_within : goal.returns-then-is_within

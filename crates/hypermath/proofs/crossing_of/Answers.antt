@@ -2,7 +2,6 @@
 use mathlib.Core.Path.{sym, ap₂, ◌∙◌}
 use Rattle.rules.specs.Floats.{opposite}
 use Rattle.hypermath.proofs.Crossings.{crossed, not_crossed}
-use borrow.Author.Rules.{rules}
 use Rattle.hypermath.proofs.crossing_of.Goals as goal
 
 pub returns-then-opposed : goal.returns-then-opposed

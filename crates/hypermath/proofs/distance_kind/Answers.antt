@@ -2,7 +2,6 @@
 use mathlib.Core.Path.{sym, ◌∙◌}
 use lib.Ieee
 use Rattle.hypermath.proofs.Tests.{kind_finite, kind_plus, kind_minus, kind_unfit}
-use borrow.Author.Rules.{rules}
 use Rattle.hypermath.proofs.distance_kind.Goals as goal
 
 pub returns-then-is_within : goal.returns-then-is_within

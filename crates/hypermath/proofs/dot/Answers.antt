@@ -1,14 +1,10 @@
 -- The invariant: the whole sum is the sum so far with the products still to come.
-use mathlib.Core.Path.{◌≡◌, refl, sym, ap₂, ◌∙◌}
-use Prim.Native.Nat.{ℕ, ◌≤◌, ◌-◌}
+use mathlib.Core.Path.{refl, sym, ap₂, ◌∙◌}
 use native.Mathlib.Omega.{arith}
 use native.Mathlib.Nat.{le_trans, le_of_eq}
-use mathlib.Core.List.{List}
 use lib.Ieee
 use lib.Ieee.{Float}
-use lib.ListN.{length, take, drop}
-use Rattle.rules.specs.Floats.{dot, dot_from}
-use Rattle.hypermath.specs.Axes.{axes}
+use Rattle.rules.specs.Floats.{dot}
 use Rattle.hypermath.proofs.Products.{dot_go, dot_end}
 use borrow.Author.Rules.{rules}
 use Rattle.hypermath.proofs.dot.Goals as goal

@@ -1,16 +1,11 @@
 -- The invariant: the whole sum is the sum so far with the products still to come.
-use mathlib.Core.Path.{◌≡◌, refl, sym, ap₂, ◌∙◌}
+use mathlib.Core.Path.{◌≡◌}
 use Prim.Native.Nat.{ℕ, ◌≤◌, ◌-◌}
-use native.Mathlib.Omega.{arith}
-use native.Mathlib.Nat.{le_trans, le_of_eq}
 use mathlib.Core.List.{List}
-use lib.Ieee
 use lib.Ieee.{Float}
 use lib.ListN.{length, take, drop}
 use Rattle.rules.specs.Floats.{dot, dot_from}
 use Rattle.hypermath.specs.Axes.{axes}
-use Rattle.hypermath.proofs.Products.{dot_go, dot_end}
-use borrow.Author.Rules.{rules}
 use Rattle.hypermath.proofs.dot.Given as goal
 
 -- the axes of the dimension, and the products from the one at hand on still to come

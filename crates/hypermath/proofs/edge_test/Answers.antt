@@ -3,7 +3,6 @@ use mathlib.Core.Path.{ap, ap₂, ◌∙◌}
 use Rattle.rules.specs.Floats.{edge_test}
 use Rattle.rules.specs.declared.SideTest.{SideTest}
 use Rattle.hypermath.proofs.Crossings.{tested_is}
-use borrow.Author.Rules.{rules}
 use Rattle.hypermath.proofs.edge_test.Goals as goal
 
 pub crossing_of-crossing-requires : goal.crossing_of-crossing-requires

@@ -9,7 +9,6 @@ use lib.ListN.{take}
 use Rattle.rules.specs.Floats.{point_matches}
 use Rattle.rules.specs.Lists.{find}
 use Rattle.hypermath.specs.Answers.{points_in}
-use borrow.Author.Rules.{rules}
 use Rattle.hypermath.proofs.find_vertex.Goals as goal
 
 for_dimension : (d e n : ℕ) (p points : List Float) (found : Option ℕ) → d ≡ e → found ≡ find (λ q. point_matches q (take d p)) (points_in d n points)

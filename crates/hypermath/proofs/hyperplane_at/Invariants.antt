@@ -1,15 +1,11 @@
 -- The components are copied one by one over zeros, and the distance stands behind them.
-use mathlib.Core.Path.{◌≡◌, refl}
+use mathlib.Core.Path.{◌≡◌}
 use Prim.Native.Nat.{ℕ, ◌≤◌, ◌-◌, ◌+◌}
-use native.Mathlib.Omega.{arith}
 use mathlib.Core.List.{List}
-use lib.Ieee
 use lib.Ieee.{Float}
 use lib.ListN.{length, take, drop}
 use Rattle.hypermath.specs.Axes.{axes}
 use Rattle.hypermath.proofs.Filling.{copied}
-use Rattle.hypermath.proofs.Searches.{copy_row, row_is}
-use borrow.Author.Rules.{rules}
 use Rattle.hypermath.proofs.hyperplane_at.Given as goal
 
 -- the row that begins at a place, of which the components below the one at hand are copied

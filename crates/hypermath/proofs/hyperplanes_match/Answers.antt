@@ -1,10 +1,8 @@
 -- The normals on every axis, then the distances.
 use mathlib.Core.Bool.{true, false}
 use mathlib.Core.Path.{refl, sym, ◌∙◌}
-use borrow.Author.Tests.{not-true, not-false}
 use Rattle.rules.specs.Cut.{plane_matches}
 use Rattle.hypermath.proofs.Tests.{both_are}
-use borrow.Author.Rules.{rules}
 use Rattle.hypermath.proofs.hyperplanes_match.Goals as goal
 
 pub returns-then-not-points_match : goal.returns-then-not-points_match

@@ -2,11 +2,9 @@
 use mathlib.Core.Bool.{true, false}
 use mathlib.Core.Path.{refl, sym, ap, ◌∙◌}
 use lib.Ieee
-use borrow.Author.Tests.{not-true, not-false}
 use lib.Ieee.{Float, binary64, add, sub, le}
 use Rattle.rules.specs.Floats.{one, tolerance}
 use Rattle.hypermath.proofs.Tests.{unit_is}
-use borrow.Author.Rules.{rules}
 use Rattle.hypermath.proofs.is_unit.Goals as goal
 
 pub returns-then-not-components_fit : goal.returns-then-not-components_fit

@@ -1,6 +1,5 @@
 -- Zero bits are the bits of +0.
 use lib.Ieee
-use borrow.Author.Rules.{rules}
 use Rattle.hypermath.proofs.is_zero_bits.Goals as goal
 
 pub returns : goal.returns

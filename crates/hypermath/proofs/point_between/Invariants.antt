@@ -1,16 +1,11 @@
 -- The invariant: the axes so far are worked out, and the others are zeros.
-use mathlib.Core.Path.{◌≡◌, refl, ap, ap₂, ◌∙◌}
+use mathlib.Core.Path.{◌≡◌}
 use Prim.Native.Nat.{ℕ, ◌≤◌, ◌-◌}
-use native.Mathlib.Omega.{arith}
-use lib.Ieee
 use mathlib.Core.List.{List}
 use lib.ListN.{length}
 use lib.Ieee.{Float}
-use Rattle.rules.specs.Lists.{pad}
-use Rattle.rules.specs.Floats.{plus_zero, crossing_point}
 use Rattle.hypermath.specs.Axes.{axes}
-use Rattle.hypermath.proofs.Crossings.{begun, begun_go}
-use borrow.Author.Rules.{rules}
+use Rattle.hypermath.proofs.Crossings.{begun}
 use Rattle.hypermath.proofs.point_between.Given as goal
 
 -- the axes of the dimension, of which those below the one at hand are worked out

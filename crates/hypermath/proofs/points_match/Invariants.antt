@@ -1,17 +1,12 @@
 -- The invariant: the comparison is asked of what is left.
-use mathlib.Core.Path.{◌≡◌, refl, sym, ap₂, ◌∙◌}
+use mathlib.Core.Path.{◌≡◌}
 use Prim.Native.Nat.{ℕ, ◌≤◌, ◌-◌}
-use native.Mathlib.Omega.{arith}
-use native.Mathlib.Nat.{le_trans, le_of_eq}
-use borrow.Author.Tests.{not-true, not-false}
 use lib.ListN.{length, take, drop}
 use mathlib.Core.List.{List}
-use lib.Ieee.{Float, nan}
+use lib.Ieee.{Float}
 use Rattle.rules.specs.Lists.{alike}
-use Rattle.rules.specs.Floats.{matches, point_matches}
-use Rattle.rules.proofs.Indexed.{alike_front_go, alike_front_no, alike_front_end}
+use Rattle.rules.specs.Floats.{matches}
 use Rattle.hypermath.specs.Axes.{axes}
-use borrow.Author.Rules.{rules}
 use Rattle.hypermath.proofs.points_match.Given as goal
 
 -- the axes of the dimension, of which those below the one at hand match

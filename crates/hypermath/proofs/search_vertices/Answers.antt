@@ -1,17 +1,11 @@
 -- Two invariants: the search is asked from the vertex at hand on, and its comparison from the axis at hand on.
-use mathlib.Core.Path.{◌≡◌, refl, sym, ◌∙◌}
-use Prim.Native.Nat.{ℕ, ◌≤◌, ◌<◌, ◌-◌, ◌*◌}
+use mathlib.Core.Path.{refl, sym, ◌∙◌}
 use native.Mathlib.Omega.{arith}
-use borrow.Author.Tests.{not-true, not-false}
-use lib.ListN.{length, take}
-use lib.Ieee.{Float}
-use mathlib.Core.List.{List}
-use Rattle.rules.specs.Lists.{find}
+use lib.ListN.{take}
 use Rattle.rules.specs.Floats.{point_matches}
-use Rattle.rules.proofs.Indexed.{sought_from, sought_start, sought_on, sought_here, sought_none}
-use Rattle.hypermath.specs.Axes.{axes, AxesOf}
-use Rattle.hypermath.specs.Answers.{points_in}
-use Rattle.hypermath.proofs.Searches.{left_from, left_go, left_no, left_end}
+use Rattle.rules.proofs.Indexed.{sought_start, sought_on, sought_here, sought_none}
+use Rattle.hypermath.specs.Axes.{axes}
+use Rattle.hypermath.proofs.Searches.{left_go, left_no, left_end}
 use borrow.Author.Rules.{rules}
 use Rattle.hypermath.proofs.search_vertices.Goals as goal
 
@@ -58,5 +52,6 @@ pub returns-then-v-n : goal.returns-then-v-n
 returns-then-v-n c = sought_none (take c.args.d) (λ r. point_matches r (take c.args.d c.args.p)) axes c.args.n c.args.points.now c.vertices.v (omega arith) c.vertices.invariant.sought
 
 pub returns-after-loop-axis : goal.returns-after-loop-axis
-returns-after-loop-axis c = let like = left_end c.args.d c.args.n c.args.points.now c.args.p _ c.loop-axis.v c.loop-axis.invariant.uses c.loop-axis.invariant.room c.loop-axis.invariant.long c.loop-axis.invariant.in_use_lem c.loop-axis.axis c.loop-axis.invariant.left (omega arith) in
+returns-after-loop-axis c = let like = left_end c.args.d c.args.n c.args.points.now c.args.p _ c.loop-axis.v c.loop-axis.invariant.uses c.loop-axis.invariant.room c.loop-axis.invariant.long c.loop-axis.invariant.in_use_lem
+    c.loop-axis.axis c.loop-axis.invariant.left (omega arith) in
     sought_here (take c.args.d) (λ r. point_matches r (take c.args.d c.args.p)) axes c.args.n c.args.points.now c.loop-axis.v c.loop-axis.invariant.in_use_lem c.loop-axis.invariant.sought like

@@ -1,18 +1,15 @@
 -- Two invariants: the search is asked from the vertex at hand on, and its comparison from the axis at hand on.
-use mathlib.Core.Path.{◌≡◌, refl, sym, ◌∙◌}
+use mathlib.Core.Path.{◌≡◌}
 use Prim.Native.Nat.{ℕ, ◌≤◌, ◌<◌, ◌-◌, ◌*◌}
-use native.Mathlib.Omega.{arith}
-use borrow.Author.Tests.{not-true, not-false}
 use lib.ListN.{length, take}
 use lib.Ieee.{Float}
 use mathlib.Core.List.{List}
 use Rattle.rules.specs.Lists.{find}
 use Rattle.rules.specs.Floats.{point_matches}
-use Rattle.rules.proofs.Indexed.{sought_from, sought_start, sought_on, sought_here, sought_none}
+use Rattle.rules.proofs.Indexed.{sought_from}
 use Rattle.hypermath.specs.Axes.{axes, AxesOf}
 use Rattle.hypermath.specs.Answers.{points_in}
-use Rattle.hypermath.proofs.Searches.{left_from, left_go, left_no, left_end}
-use borrow.Author.Rules.{rules}
+use Rattle.hypermath.proofs.Searches.{left_from}
 use Rattle.hypermath.proofs.search_vertices.Given as goal
 
 -- the search so far: nothing below the vertex at hand matches

@@ -2,7 +2,6 @@
 use mathlib.Core.Path.{sym, ◌∙◌}
 use lib.Ieee
 use Rattle.hypermath.proofs.Tests.{on_it, inside_it, outside_it}
-use borrow.Author.Rules.{rules}
 use Rattle.hypermath.proofs.side_of.Goals as goal
 
 pub returns-then-is_within : goal.returns-then-is_within

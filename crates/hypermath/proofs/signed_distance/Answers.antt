@@ -2,7 +2,6 @@
 use mathlib.Core.Path.{ap}
 use lib.Ieee.{Float, binary64, sub}
 use Rattle.rules.specs.Floats.{signed_distance}
-use borrow.Author.Rules.{rules}
 use Rattle.hypermath.proofs.signed_distance.Goals as goal
 
 pub returns : goal.returns

@@ -1,16 +1,11 @@
 -- The invariant: all is asked of what is left.
-use mathlib.Core.Path.{◌≡◌, refl, sym, ap, ◌∙◌}
-use Prim.Native.Nat.{ℕ, ◌≤◌, ◌-◌}
+use mathlib.Core.Path.{refl, sym, ap, ◌∙◌}
 use native.Mathlib.Omega.{arith}
 use native.Mathlib.Nat.{le_trans, le_of_eq}
-use borrow.Author.Tests.{not-true, not-false}
-use lib.ListN.{length, drop}
-use mathlib.Core.List.{List}
-use lib.Ieee.{Float, nan}
+use lib.Ieee.{nan}
 use Rattle.rules.specs.Lists.{all}
 use Rattle.rules.specs.Floats.{plus_zero, same_bits}
 use Rattle.rules.proofs.Indexed.{all_go, all_no, all_end}
-use Rattle.hypermath.specs.Axes.{axes}
 use borrow.Author.Rules.{rules}
 use Rattle.hypermath.proofs.zero_past.Goals as goal
 
@@ -28,4 +23,5 @@ loop-axis-preserved c = let in_range = le_trans c.loop-axis-test.true (le_of_eq 
     record { here = search rules; long = search rules; left = more }
 
 pub returns : goal.returns
-returns c = all_end (same_bits plus_zero) nan _ c.loop-axis.axis c.loop-axis.invariant.left (le_trans (le_of_eq c.loop-axis.invariant.long) (omega arith)) ∙ ap (all (same_bits plus_zero)) (c.axes_of-n.ensures.rest _ c.loop-axis.invariant.long)
+returns c = all_end (same_bits plus_zero) nan _ c.loop-axis.axis c.loop-axis.invariant.left (le_trans (le_of_eq c.loop-axis.invariant.long) (omega arith)) ∙ ap (all (same_bits plus_zero))
+    (c.axes_of-n.ensures.rest _ c.loop-axis.invariant.long)

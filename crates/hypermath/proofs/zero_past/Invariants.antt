@@ -1,17 +1,12 @@
 -- The invariant: all is asked of what is left.
-use mathlib.Core.Path.{◌≡◌, refl, sym, ap, ◌∙◌}
+use mathlib.Core.Path.{◌≡◌}
 use Prim.Native.Nat.{ℕ, ◌≤◌, ◌-◌}
-use native.Mathlib.Omega.{arith}
-use native.Mathlib.Nat.{le_trans, le_of_eq}
-use borrow.Author.Tests.{not-true, not-false}
 use lib.ListN.{length, drop}
 use mathlib.Core.List.{List}
-use lib.Ieee.{Float, nan}
+use lib.Ieee.{Float}
 use Rattle.rules.specs.Lists.{all}
 use Rattle.rules.specs.Floats.{plus_zero, same_bits}
-use Rattle.rules.proofs.Indexed.{all_go, all_no, all_end}
 use Rattle.hypermath.specs.Axes.{axes}
-use borrow.Author.Rules.{rules}
 use Rattle.hypermath.proofs.zero_past.Given as goal
 
 -- the components past the dimension, of which those below the one at hand are zero bits

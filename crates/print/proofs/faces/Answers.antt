@@ -1,15 +1,7 @@
 -- The invariant: the faces from i on, put behind those that stand there, make all of them.
-use Prim.Native.Nat.{ℕ, ◌+◌, ◌*◌, ◌-◌, ◌≤◌}
-use mathlib.Core.List.{List, map}
-use mathlib.Core.Path.{◌≡◌, refl, ◌∙◌}
-use native.Mathlib.Omega.{arith}
-use lib.ListN.{length, get_or, drop}
-use lib.Ieee.{Float}
-use Rattle.rules.specs.Lists.{joined}
+use mathlib.Core.Path.{refl, ◌∙◌}
 use Rattle.lent_bytes.proofs.Puts.{put_length}
-use Rattle.lent_bytes.proofs.Rests.{Rest, all_left}
-use Rattle.walk.specs.Boundaries.{row_boundary}
-use Rattle.print.specs.Pieces.{face_in}
+use Rattle.lent_bytes.proofs.Rests.{all_left}
 use Rattle.print.proofs.Facing.{face_walks, face_fits, next_face, no_face}
 use borrow.Author.Rules.{rules}
 use Rattle.print.proofs.faces.Goals as goal
@@ -28,7 +20,8 @@ face-end-requires c = let e = c.wide.ensures.value ∙ c.boundary_at.ensures in
     record {
       points = c.requires.solid.points;
       walks = face_walks c.args.elements.now c.args.root.0 _ c.requires.solid.faces c.loop-i.invariant.size c.loop-i.i _ (search rules) e;
-      fits = face_fits c.args.elements.now c.args.root.0 _ c.requires.solid.faces c.loop-i.invariant.size c.loop-i.i _ (search rules) e c.args.points.now c.requires.solid.points c.loop-i.invariant.rest c.requires.fits c.loop-i.invariant.long;
+      fits = face_fits c.args.elements.now c.args.root.0 _ c.requires.solid.faces c.loop-i.invariant.size c.loop-i.i _
+          (search rules) e c.args.points.now c.requires.solid.points c.loop-i.invariant.rest c.requires.fits c.loop-i.invariant.long;
     }
 
 pub loop-i-preserved : goal.loop-i-preserved

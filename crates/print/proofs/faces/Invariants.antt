@@ -1,17 +1,13 @@
 -- The invariant: the faces from i on, put behind those that stand there, make all of them.
 use Prim.Native.Nat.{ℕ, ◌+◌, ◌*◌, ◌-◌, ◌≤◌}
 use mathlib.Core.List.{List, map}
-use mathlib.Core.Path.{◌≡◌, refl, ◌∙◌}
-use native.Mathlib.Omega.{arith}
+use mathlib.Core.Path.{◌≡◌}
 use lib.ListN.{length, get_or, drop}
 use lib.Ieee.{Float}
 use Rattle.rules.specs.Lists.{joined}
-use Rattle.lent_bytes.proofs.Puts.{put_length}
-use Rattle.lent_bytes.proofs.Rests.{Rest, all_left}
+use Rattle.lent_bytes.proofs.Rests.{Rest}
 use Rattle.walk.specs.Boundaries.{row_boundary}
 use Rattle.print.specs.Pieces.{face_in}
-use Rattle.print.proofs.Facing.{face_walks, face_fits, next_face, no_face}
-use borrow.Author.Rules.{rules}
 use Rattle.print.proofs.faces.Given as goal
 
 pub record SoFar (ps : List Float) (es : List ℕ) (root n : ℕ) (before : List ℕ) (at : ℕ) (room : List ℕ) (end i : ℕ) : Type 0 where

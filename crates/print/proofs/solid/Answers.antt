@@ -1,7 +1,5 @@
 -- 12, or the head and the faces put one behind another.
-use native.Mathlib.Omega.{arith}
 use Rattle.print.proofs.Solids.{too_short, faces_fit, file_done}
-use borrow.Author.Rules.{rules}
 use Rattle.print.proofs.solid.Goals as goal
 
 pub triangle_count-n-requires : goal.triangle_count-n-requires

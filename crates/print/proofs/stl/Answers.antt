@@ -1,8 +1,6 @@
 -- Test by test; what a refused question tells is the reply.
 use native.Mathlib.Omega.{arith}
-use Rattle.rules.proofs.Laws.{not_false}
 use Rattle.print.proofs.Tests.{refused, known, four_counts, not_solid, has_facet, solid_asked, printed_solid}
-use borrow.Author.Rules.{rules}
 use Rattle.print.proofs.stl.Goals as goal
 
 pub bounds-counts-0 : goal.bounds-counts-0

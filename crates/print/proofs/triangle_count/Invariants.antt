@@ -1,15 +1,11 @@
 -- The invariant: the count so far and the triangles of the faces that are left make all, and no face has more than 30.
-use Prim.Native.Nat.{ℕ, ◌+◌, ◌*◌, ◌-◌, ◌≤◌, ◌<◌}
+use Prim.Native.Nat.{ℕ, ◌+◌, ◌*◌, ◌-◌, ◌≤◌}
 use mathlib.Core.List.{List, map}
-use mathlib.Core.Path.{◌≡◌, ◌∙◌}
-use native.Mathlib.Nat.{zero-add}
-use native.Mathlib.Omega.{arith}
+use mathlib.Core.Path.{◌≡◌}
 use lib.ListN.{get_or, drop}
 use Rattle.rules.specs.Print.{total_of}
 use Rattle.walk.specs.Boundaries.{row_boundary}
 use Rattle.print.specs.Pieces.{edges_in, count_in}
-use Rattle.print.proofs.Facing.{face_walks, face_element, face_edges, total_on, total_end}
-use borrow.Author.Rules.{rules}
 use Rattle.print.proofs.triangle_count.Given as goal
 
 pub record SoFar (es : List ℕ) (root n count i : ℕ) : Type 0 where

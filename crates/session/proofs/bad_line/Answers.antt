@@ -1,6 +1,5 @@
 -- Too little room, or the line at its front.
 use native.Mathlib.Omega.{arith}
-use borrow.Author.Rules.{rules}
 use Rattle.session.proofs.Turns.{no_bad_room, bad_written}
 use Rattle.session.proofs.bad_line.Goals as goal
 

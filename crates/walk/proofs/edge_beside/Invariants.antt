@@ -1,13 +1,10 @@
 -- What is left to search gives what the whole gives.
 use Prim.Native.Nat.{ℕ, ◌-◌, ◌+◌, ◌*◌, ◌≤◌}
-use mathlib.Core.Path.{◌≡◌, refl, sym, ◌∙◌}
+use mathlib.Core.Path.{◌≡◌}
 use mathlib.Core.List.{List}
-use borrow.Author.Rules.{rules}
 use lib.ListN.{get_or, drop}
 use Rattle.walk.specs.Boundaries.{row_boundary}
 use Rattle.walk.specs.Walks.{edge_beside}
-use Rattle.walk.proofs.Boundaries.{number_low}
-use Rattle.walk.proofs.EdgeLoops.{beside_here, beside_go, beside_end}
 use Rattle.walk.proofs.edge_beside.Given as goal
 
 -- the places from i on are left

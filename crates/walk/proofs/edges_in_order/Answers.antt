@@ -2,7 +2,6 @@
 use mathlib.Core.List.{[]}
 use Rattle.walk.proofs.Asking.{rank_asked}
 use Rattle.walk.proofs.Orders.{refused, no_face, face_asked, face_replied}
-use borrow.Author.Rules.{rules}
 use Rattle.walk.proofs.edges_in_order.Goals as goal
 
 pub returns-then-no-ne0 : goal.returns-then-no-ne0

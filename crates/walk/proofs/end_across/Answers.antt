@@ -1,5 +1,4 @@
 -- From the first end to the second, or back.
-use borrow.Author.Rules.{rules}
 use Rattle.walk.proofs.EdgeLoops.{across_second, across_first}
 use Rattle.walk.proofs.end_across.Goals as goal
 

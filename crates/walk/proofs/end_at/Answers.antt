@@ -1,6 +1,5 @@
 -- The number is the one of the row that is read.
 use mathlib.Core.Path.{◌∙◌}
-use borrow.Author.Rules.{rules}
 use Rattle.walk.proofs.end_at.Goals as goal
 
 pub returns : goal.returns

@@ -15,9 +15,9 @@ returns-then-list-n c = no_room _ _ _ _ c.requires.bounds c.size_of-n.ensures c.
 
 pub walk_face-requires : goal.walk_face-requires
 walk_face-requires c = record {
-      face = c.requires;
-      enough = le_trans (le_of_eq (ap (λ (k : ℕ). 2 * k) (row_size c.args.elements.now c.args.f.0 _ c.requires.bounds c.size_of-n.ensures))) c.if-list-n.false;
-    }
+  face = c.requires;
+  enough = le_trans (le_of_eq (ap (λ (k : ℕ). 2 * k) (row_size c.args.elements.now c.args.f.0 _ c.requires.bounds c.size_of-n.ensures))) c.if-list-n.false;
+}
 
 pub overflow_mul-result : goal.overflow_mul-result
 overflow_mul-result c = search (rules, c.requires.bounds.sized, c.size_of-n.ensures)

@@ -1,5 +1,4 @@
 -- Of the two edges at the corner, the one to the lower corner.
-use borrow.Author.Rules.{rules}
 use Rattle.walk.proofs.EdgeLoops.{beside_fits, second_way, other_way}
 use Rattle.walk.proofs.first_way.Goals as goal
 

@@ -1,5 +1,4 @@
 -- The first end is the corner, or else the second tells.
-use borrow.Author.Rules.{rules}
 use Rattle.walk.proofs.EdgeLoops.{first_end_lem, second_end_lem}
 use Rattle.walk.proofs.has_end.Goals as goal
 

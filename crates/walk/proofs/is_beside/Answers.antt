@@ -1,5 +1,4 @@
 -- An edge is not beside itself; of another the ends tell.
-use borrow.Author.Rules.{rules}
 use Rattle.walk.proofs.EdgeLoops.{itself, another}
 use Rattle.walk.proofs.is_beside.Goals as goal
 

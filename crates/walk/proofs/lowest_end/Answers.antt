@@ -1,11 +1,6 @@
 -- The lowest so far and what is left give what the whole gives.
-use Prim.Native.Nat.{ℕ, ◌-◌, ◌+◌, ◌*◌, ◌≤◌}
-use mathlib.Core.Path.{◌≡◌, refl, ◌∙◌}
-use mathlib.Core.List.{List}
+use mathlib.Core.Path.{refl, ◌∙◌}
 use borrow.Author.Rules.{rules}
-use lib.ListN.{get_or, drop}
-use Rattle.walk.specs.Boundaries.{row_boundary}
-use Rattle.walk.specs.Walks.{lowest_end, no_edge}
 use Rattle.walk.proofs.Boundaries.{number_low}
 use Rattle.walk.proofs.EdgeLoops as edge
 use Rattle.walk.proofs.lowest_end.Goals as goal
@@ -19,11 +14,11 @@ end_at-requires c = let x = number_low c.args.elements.now c.args.f.0 _ c.requir
 
 pub loop-i-preserved : goal.loop-i-preserved
 loop-i-preserved c = record {
-      low = search rules;
-      size = c.loop-i.invariant.size;
-      same = edge.lowest_go c.args.elements.now c.args.f.0 _ c.requires c.loop-i.invariant.size c.loop-i.m.0 _ c.loop-i.i _ _ _
-          (c.wide.ensures.value ∙ c.boundary_at.ensures) (search rules) c.end_at.ensures c.lower-m.ensures c.loop-i.invariant.same;
-    }
+  low = search rules;
+  size = c.loop-i.invariant.size;
+  same = edge.lowest_go c.args.elements.now c.args.f.0 _ c.requires c.loop-i.invariant.size c.loop-i.m.0 _ c.loop-i.i _ _ _
+      (c.wide.ensures.value ∙ c.boundary_at.ensures) (search rules) c.end_at.ensures c.lower-m.ensures c.loop-i.invariant.same;
+}
 
 pub returns : goal.returns
 returns c = edge.lowest_end_lem c.args.elements.now c.args.f.0 _ c.requires c.loop-i.invariant.size c.loop-i.m.0 _ c.loop-i.i (search rules) c.loop-i.invariant.same

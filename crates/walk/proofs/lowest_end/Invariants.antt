@@ -1,13 +1,10 @@
 -- The lowest so far and what is left give what the whole gives.
 use Prim.Native.Nat.{ℕ, ◌-◌, ◌+◌, ◌*◌, ◌≤◌}
-use mathlib.Core.Path.{◌≡◌, refl, ◌∙◌}
+use mathlib.Core.Path.{◌≡◌}
 use mathlib.Core.List.{List}
-use borrow.Author.Rules.{rules}
 use lib.ListN.{get_or, drop}
 use Rattle.walk.specs.Boundaries.{row_boundary}
 use Rattle.walk.specs.Walks.{lowest_end, no_edge}
-use Rattle.walk.proofs.Boundaries.{number_low}
-use Rattle.walk.proofs.EdgeLoops as edge
 use Rattle.walk.proofs.lowest_end.Given as goal
 
 -- the places from i on are left, and m is the lowest before them

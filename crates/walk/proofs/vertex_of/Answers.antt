@@ -1,6 +1,5 @@
 -- The number is the one of the row that is read, and a word.
 use mathlib.Core.Path.{◌∙◌}
-use borrow.Author.Rules.{rules}
 use Rattle.walk.proofs.vertex_of.Goals as goal
 
 pub returns : goal.returns

@@ -1,14 +1,10 @@
 -- What is left to write, put behind what is written, makes up the whole walk.
-use Prim.Native.Nat.{ℕ, ◌-◌, ◌+◌, ◌*◌, ◌≤◌, ◌<◌}
-use mathlib.Core.Path.{◌≡◌, refl}
-use mathlib.Core.List.{List}
+use mathlib.Core.Path.{refl}
 use native.Mathlib.Nat.{le_trans, le_of_eq}
 use native.Mathlib.Omega.{arith}
 use borrow.Author.Rules.{rules}
-use lib.ListN.{length, get_or, length-set}
-use lib.Seq.{sets}
+use lib.ListN.{length-set}
 use Rattle.walk.specs.Boundaries.{row_boundary}
-use Rattle.walk.specs.Walks.{numbers_from, numbers_round, EdgeFits}
 use Rattle.walk.proofs.Boundaries.{row_size}
 use Rattle.walk.proofs.EdgeLoops.{beside_fits, across_fits}
 use Rattle.walk.proofs.Pairs.{pairs_start, pairs_go, pairs_end}
@@ -41,16 +37,16 @@ bounds-list-k-in-loop-k c = simp length-set (omega (arith, c.loop-k.invariant.en
 
 pub loop-k-preserved : goal.loop-k-preserved
 loop-k-preserved c = record {
-      low = search rules;
-      size = c.loop-k.invariant.size;
-      few = c.loop-k.invariant.few;
-      enough = c.loop-k.invariant.enough;
-      long = simp length-set c.loop-k.invariant.long;
-      corner = across_fits _ _ _ _ c.loop-k.invariant.edge c.end_across-w.ensures;
-      edge = beside_fits _ _ _ _ _ c.requires.face c.edge_beside-e.ensures;
-      same = pairs_go c.args.elements.now (row_boundary c.args.elements.now c.args.f.0) _ _ c.loop-k.list c.loop-k.v.0 c.loop-k.e.0 c.loop-k.k _ _ _ _ (search rules) c.end_across-w.ensures c.edge_beside-e.ensures
-          c.vertex_of-from.ensures.named c.vertex_of-to.ensures.named c.loop-k.invariant.same;
-    }
+  low = search rules;
+  size = c.loop-k.invariant.size;
+  few = c.loop-k.invariant.few;
+  enough = c.loop-k.invariant.enough;
+  long = simp length-set c.loop-k.invariant.long;
+  corner = across_fits _ _ _ _ c.loop-k.invariant.edge c.end_across-w.ensures;
+  edge = beside_fits _ _ _ _ _ c.requires.face c.edge_beside-e.ensures;
+  same = pairs_go c.args.elements.now (row_boundary c.args.elements.now c.args.f.0) _ _ c.loop-k.list c.loop-k.v.0 c.loop-k.e.0 c.loop-k.k _ _ _ _ (search rules) c.end_across-w.ensures c.edge_beside-e.ensures
+      c.vertex_of-from.ensures.named c.vertex_of-to.ensures.named c.loop-k.invariant.same;
+}
 
 pub returns : goal.returns
 returns c = pairs_end c.args.elements.now (row_boundary c.args.elements.now c.args.f.0) _ _ c.loop-k.list c.loop-k.v.0 c.loop-k.e.0 c.loop-k.k (search rules) c.loop-k.invariant.same

@@ -1,17 +1,11 @@
 -- What is left to write, put behind what is written, makes up the whole walk.
 use Prim.Native.Nat.{ℕ, ◌-◌, ◌+◌, ◌*◌, ◌≤◌, ◌<◌}
-use mathlib.Core.Path.{◌≡◌, refl}
+use mathlib.Core.Path.{◌≡◌}
 use mathlib.Core.List.{List}
-use native.Mathlib.Nat.{le_trans, le_of_eq}
-use native.Mathlib.Omega.{arith}
-use borrow.Author.Rules.{rules}
-use lib.ListN.{length, get_or, length-set}
+use lib.ListN.{length, get_or}
 use lib.Seq.{sets}
 use Rattle.walk.specs.Boundaries.{row_boundary}
 use Rattle.walk.specs.Walks.{numbers_from, numbers_round, EdgeFits}
-use Rattle.walk.proofs.Boundaries.{row_size}
-use Rattle.walk.proofs.EdgeLoops.{beside_fits, across_fits}
-use Rattle.walk.proofs.Pairs.{pairs_start, pairs_go, pairs_end}
 use Rattle.walk.proofs.walk_round.Given as goal
 
 -- after k steps the walk is at the corner v and goes on by the edge e

@@ -1,6 +1,6 @@
 -- The units as a float are exact, and equal the product exactly where nothing was left off.
 use Rattle.std.proofs.Common.{◌≡◌, T, ℤ, sym, ap, ◌∙◌, subst, rules}
-use lib.Ieee.{Float, binary64, eq, of_int, in_float, mul, of_bits}
+use lib.Ieee.{binary64, eq, of_int, in_float, mul, of_bits}
 use Rattle.rules.specs.Areas.{on_grid}
 use Rattle.areas.proofs.UnitLaws.{scale, units_float, grid_told}
 use Rattle.areas.proofs.grid.is_on_grid.Goals as goal

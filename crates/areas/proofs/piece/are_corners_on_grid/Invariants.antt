@@ -1,10 +1,8 @@
 -- All of what is left are on the grid exactly when all of the whole are.
-use Rattle.std.proofs.Common.{◌≡◌, ℕ, ◌+◌, ◌-◌, ◌≤◌, List, length, take, drop, sym, ◌∙◌, subst, rules}
+use Rattle.std.proofs.Common.{◌≡◌, ℕ, ◌-◌, ◌≤◌, List, take, drop}
 use lib.Ieee.{Float}
-use borrow.Author.Tests.{not-true, not-false}
 use Rattle.rules.specs.Lists.{all}
-use Rattle.areas.specs.Words.{corner_on_grid, CornerFits}
-use Rattle.areas.proofs.Loops.{all_stop, all_go, all_end, in_front, front_long, front_end}
+use Rattle.areas.specs.Words.{corner_on_grid}
 use Rattle.areas.proofs.piece.are_corners_on_grid.Given as goal
 
 -- the numbers from i on are left

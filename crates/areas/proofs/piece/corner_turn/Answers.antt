@@ -1,5 +1,5 @@
 -- The two products and their difference are small enough, so each is read back as it is.
-use Rattle.std.proofs.Common.{◌≡◌, ◌^◌, ◌≤◌, List, get_or, nat_abs, ap, ◌∙◌, rules}
+use Rattle.std.proofs.Common.{List, get_or, ap, ◌∙◌}
 use lib.Ieee.{Float, nan}
 use Rattle.rules.specs.Floats.{within, farthest}
 use Rattle.rules.specs.Areas.{units}

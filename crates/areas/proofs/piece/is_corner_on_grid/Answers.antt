@@ -1,7 +1,6 @@
 -- One coordinate after the other.
-use Rattle.std.proofs.Common.{Bool, ◌&&◌, List, get_or, sym, ap, ◌∙◌, rules}
+use Rattle.std.proofs.Common.{Bool, ◌&&◌, List, get_or, sym, ap, ◌∙◌}
 use lib.Ieee.{Float, nan}
-use borrow.Author.Tests.{not-true, not-false}
 use Rattle.rules.specs.Floats.{within, farthest}
 use Rattle.rules.specs.Areas.{on_grid}
 use Rattle.areas.specs.Words.{second_of}

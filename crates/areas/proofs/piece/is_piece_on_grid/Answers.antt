@@ -1,5 +1,5 @@
 -- The front of the list is the walk.
-use Rattle.std.proofs.Common.{refl, ap, ◌∙◌, rules}
+use Rattle.std.proofs.Common.{refl, ap, ◌∙◌}
 use Rattle.rules.specs.Lists.{all}
 use Rattle.areas.specs.Words.{corner_on_grid, words_on_grid}
 use Rattle.areas.proofs.Walked.{front, corners_fit, room_for}

@@ -1,7 +1,6 @@
 -- The turns of what is left, added to the sum, are those of the whole.
-use Rattle.std.proofs.Common.{◌≡◌, ℕ, ◌+◌, ◌-◌, ◌*◌, ◌^◌, ◌≤◌, List, take, drop, ℤ, ◌+ℤ◌, nat_abs, sym, ◌∙◌, subst, zero-le, le_trans, lit≤, w64, to_z, rules}
+use Rattle.std.proofs.Common.{◌+◌, ◌*◌, take, sym, subst, zero-le, le_trans, lit≤, w64, to_z, rules}
 use lib.IntN.{+ℤ_idl}
-use lib.Ieee.{Float}
 use Rattle.areas.specs.Words.{turns_along, CornerFits, StepFits}
 use Rattle.areas.proofs.Loops.{in_front, front_long, front_end, turns_go, turns_end, corner_turn_few}
 use Rattle.areas.proofs.Small.{turns_small, turns_few, sum_fits, sum_told}
@@ -11,7 +10,7 @@ pub loop-k-init : goal.loop-k-init
 loop-k-init c = record { low = search rules; few = zero-le; same = sym (+ℤ_idl (turns_along c.args.points.now (take (2 * c.args.n) c.args.list.now))) }
 
 pub corner_turn-sum-requires : goal.corner_turn-sum-requires
-corner_turn-sum-requires c = 
+corner_turn-sum-requires c =
     let both : StepFits c.args.points.now c.wide.result c.wide-in-loop-k.result =
     record {
       from = subst (CornerFits _) (sym c.wide.ensures.value) (c.requires.corners.each (2 * c.loop-k.k) (search rules));
@@ -20,7 +19,7 @@ corner_turn-sum-requires c =
     both
 
 pub overflow_add-sum : goal.overflow_add-sum
-overflow_add-sum c = 
+overflow_add-sum c =
     let both : StepFits c.args.points.now c.wide.result c.wide-in-loop-k.result =
     record {
       from = subst (CornerFits _) (sym c.wide.ensures.value) (c.requires.corners.each (2 * c.loop-k.k) (search rules));
@@ -30,7 +29,7 @@ overflow_add-sum c =
     (turns_small (to_z w64 c.loop-k.sum-bits) c.loop-k.k c.loop-k.invariant.few (le_trans c.loop-k.invariant.low c.requires.few))
 
 pub loop-k-preserved : goal.loop-k-preserved
-loop-k-preserved c = 
+loop-k-preserved c =
     let both : StepFits c.args.points.now c.wide.result c.wide-in-loop-k.result =
     record {
       from = subst (CornerFits _) (sym c.wide.ensures.value) (c.requires.corners.each (2 * c.loop-k.k) (search rules));

@@ -1,10 +1,7 @@
 -- The turns of what is left, added to the sum, are those of the whole.
-use Rattle.std.proofs.Common.{◌≡◌, ℕ, ◌+◌, ◌-◌, ◌*◌, ◌^◌, ◌≤◌, List, take, drop, ℤ, ◌+ℤ◌, nat_abs, sym, ◌∙◌, subst, zero-le, le_trans, lit≤, w64, to_z, rules}
-use lib.IntN.{+ℤ_idl}
+use Rattle.std.proofs.Common.{◌≡◌, ℕ, ◌-◌, ◌*◌, ◌^◌, ◌≤◌, List, take, drop, ℤ, ◌+ℤ◌, nat_abs}
 use lib.Ieee.{Float}
-use Rattle.areas.specs.Words.{turns_along, CornerFits, StepFits}
-use Rattle.areas.proofs.Loops.{in_front, front_long, front_end, turns_go, turns_end, corner_turn_few}
-use Rattle.areas.proofs.Small.{turns_small, turns_few, sum_fits, sum_told}
+use Rattle.areas.specs.Words.{turns_along}
 use Rattle.areas.proofs.piece.turns_along.Given as goal
 
 -- the steps from k on are left

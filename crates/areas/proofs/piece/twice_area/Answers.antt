@@ -1,5 +1,5 @@
 -- The front of the list is the walk, and its area is small enough to be read back as it is.
-use Rattle.std.proofs.Common.{refl, ap, ◌∙◌, le_trans, lit≤, rules}
+use Rattle.std.proofs.Common.{refl, ap, ◌∙◌, le_trans, lit≤}
 use Rattle.areas.specs.Words.{turns_along, word_area}
 use Rattle.areas.proofs.Small.{told}
 use Rattle.areas.proofs.Walked.{front, steps_fit, room_for, area_small}

@@ -1,6 +1,5 @@
 -- FFFF for none, or a number within the room.
 use Rattle.cut.proofs.AnswerWords.{word_none, word_some}
-use borrow.Author.Rules.{rules}
 use Rattle.cut.proofs.answers.element_word.Goals as goal
 
 pub returns-in-None : goal.returns-in-None

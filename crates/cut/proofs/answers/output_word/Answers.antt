@@ -1,6 +1,5 @@
 -- The warning's bit, with flush, or with three numbers of 16 bits side by side.
 use Rattle.cut.proofs.AnswerWords.{places_low, places_word, flush_word}
-use borrow.Author.Rules.{rules}
 use Rattle.cut.proofs.answers.output_word.Goals as goal
 
 pub element_word-i-requires : goal.element_word-i-requires

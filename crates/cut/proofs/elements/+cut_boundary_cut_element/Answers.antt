@@ -1,8 +1,7 @@
 -- What is known is answered so. Otherwise the rank falls from an element to its boundary, and the round asks each element in turn.
-use mathlib.Core.Path.{◌≡◌, refl, ◌∙◌}
+use mathlib.Core.Path.{refl, ◌∙◌}
 use native.Mathlib.Omega.{arith}
 use borrow.Author.Rules.{rules}
-use Rattle.gathered.specs.Sets.{warning_in}
 use Rattle.cut.proofs.Rounds as round
 use Rattle.cut.proofs.Higher.{element_refused, higher_ready, element_answered}
 use Rattle.cut.proofs.StaysKnown.{ask_low, known_asked, still_refl, still_trans}
@@ -35,8 +34,7 @@ cut_boundary-boundary_at-requires t c =
 
 pub cut_boundary-cut_element-step-requires : goal.cut_boundary-cut_element-step-requires
 cut_boundary-cut_element-step-requires t c =
-    let at = c.loop-i.invariant in
-    (
+    let at = c.loop-i.invariant in (
       omega (arith, c.decreases),
       round.next_ready at.more at.going _ c.size_of-n.ensures refl refl c.requires.ready c.loop-i-test.true _ (c.wide.ensures.value ∙ c.boundary_at.ensures) at.indexed at.shaped,
     )

@@ -1,5 +1,5 @@
 -- The rank falls from an element to its boundary; the round asks each element in turn, and its invariant says what is left to ask.
-use Prim.Native.Nat.{◌+◌, ◌-◌, ◌<◌, ◌≤◌}
+use Prim.Native.Nat.{◌+◌, ◌<◌, ◌≤◌}
 use mathlib.Core.Path.{◌≡◌}
 use lib.ListN.{length, get_or}
 use Rattle.space.specs.Chains.{Indexed}

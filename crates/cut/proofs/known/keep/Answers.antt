@@ -1,6 +1,5 @@
 -- A refusal leaves the words; an answer is written.
 use Rattle.cut.proofs.Words.{reply_refused, reply_answered, asked_refused, asked_done, reply_room}
-use borrow.Author.Rules.{rules}
 use Rattle.cut.proofs.known.keep.Goals as goal
 
 pub keep_answer-requires : goal.keep_answer-requires

@@ -1,7 +1,6 @@
 -- An answer is written by its kind.
 use lib.Dec.{lit≤}
 use Rattle.cut.proofs.Words.{sides_room, answer_flush_kept, answer_sides_kept}
-use borrow.Author.Rules.{rules}
 use Rattle.cut.proofs.known.keep_answer.Goals as goal
 
 pub put_fields-requires : goal.put_fields-requires
@@ -18,11 +17,11 @@ field_of-c-requires c = (sides_room _ _ _ _ c.in-NonFlush.is c.requires.room).in
 
 pub put_fields-requires-in-NonFlush : goal.put_fields-requires-in-NonFlush
 put_fields-requires-in-NonFlush c = record {
-      low = c.requires.low;
-      first = c.field_of-a.ensures.bound;
-      second = c.field_of-b.ensures.bound;
-      third = c.field_of-c.ensures.bound;
-    }
+  low = c.requires.low;
+  first = c.field_of-a.ensures.bound;
+  second = c.field_of-b.ensures.bound;
+  third = c.field_of-c.ensures.bound;
+}
 
 pub returns-in-Flush : goal.returns-in-Flush
 returns-in-Flush c = answer_flush_kept c.args.known.now c.args.e.0 _ _ c.in-Flush.is c.put_fields.ensures

@@ -1,7 +1,6 @@
 -- A field below 2 is none, and any other is two above its element.
 use mathlib.Core.Path.{refl}
 use Rattle.cut.proofs.Words.{some_none, some_is}
-use borrow.Author.Rules.{rules}
 use Rattle.cut.proofs.known.some_of.Goals as goal
 
 pub returns-then-field-lt2 : goal.returns-then-field-lt2

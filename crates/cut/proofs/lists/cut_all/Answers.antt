@@ -8,8 +8,6 @@ use Rattle.rules.specs.CutLists.{list_fits}
 use Rattle.space.proofs.Indexing.{index_blank}
 use Rattle.cut.specs.Lists.{cut_list_of}
 use Rattle.cut.proofs.Listing.{list_unsound, list_unfit, list_short, list_made}
-use borrow.Author.Tests.{not-true, not-false}
-use borrow.Author.Rules.{rules}
 use Rattle.cut.proofs.lists.cut_all.Goals as goal
 
 pub memory_indexed-requires : goal.memory_indexed-requires
@@ -19,13 +17,13 @@ pub returns-then-not-memory_indexed : goal.returns-then-not-memory_indexed
 returns-then-not-memory_indexed c = list_unsound _ _ _ (sym c.memory_indexed.ensures.told ∙ c.if-not-memory_indexed.true)
 
 pub returns-then-not-list_fits : goal.returns-then-not-list_fits
-returns-then-not-list_fits c = 
+returns-then-not-list_fits c =
     let is_sound : sound_memory desk (memory_of c.args.counts.now c.args.points.now c.args.planes.now c.args.elements.now) ≡ true =
     sym c.memory_indexed.ensures.told ∙ c.if-not-memory_indexed.false in
     list_unfit _ _ _ is_sound (sym c.list_fits.ensures ∙ c.if-not-list_fits.true)
 
 pub returns-then-answers-roots : goal.returns-then-answers-roots
-returns-then-answers-roots c = 
+returns-then-answers-roots c =
     let is_sound : sound_memory desk (memory_of c.args.counts.now c.args.points.now c.args.planes.now c.args.elements.now) ≡ true =
     sym c.memory_indexed.ensures.told ∙ c.if-not-memory_indexed.false in
     let fits : list_fits desk (cut_list_of c.args.dividers.now c.args.kept.now c.args.roots.now) ≡ true =
@@ -33,7 +31,7 @@ returns-then-answers-roots c =
     list_short _ _ _ is_sound fits c.if-answers-roots.true
 
 pub cuts_in_turn-requires : goal.cuts_in_turn-requires
-cuts_in_turn-requires c = 
+cuts_in_turn-requires c =
     let is_sound : sound_memory desk (memory_of c.args.counts.now c.args.points.now c.args.planes.now c.args.elements.now) ≡ true =
     sym c.memory_indexed.ensures.told ∙ c.if-not-memory_indexed.false in
     let fits : list_fits desk (cut_list_of c.args.dividers.now c.args.kept.now c.args.roots.now) ≡ true =
@@ -45,7 +43,7 @@ cuts_in_turn-requires c =
     }
 
 pub returns : goal.returns
-returns c = 
+returns c =
     let is_sound : sound_memory desk (memory_of c.args.counts.now c.args.points.now c.args.planes.now c.args.elements.now) ≡ true =
     sym c.memory_indexed.ensures.told ∙ c.if-not-memory_indexed.false in
     let fits : list_fits desk (cut_list_of c.args.dividers.now c.args.kept.now c.args.roots.now) ≡ true =

@@ -2,7 +2,6 @@
 use Rattle.cut.proofs.Names.{names_low}
 use native.Mathlib.Omega.{arith}
 use Rattle.cut.proofs.Listing.{few_cuts, row_ready, made_refused, made_answered}
-use borrow.Author.Rules.{rules}
 use Rattle.cut.proofs.lists.cut_at.Goals as goal
 
 pub params_at-params-requires : goal.params_at-params-requires

@@ -1,11 +1,7 @@
 -- The invariant: what the cuts from here on give is what the whole list gives.
-use Prim.Native.Nat.{◌-◌}
-use mathlib.Core.Path.{◌≡◌, refl, ◌∙◌}
+use mathlib.Core.Path.{refl, ◌∙◌}
 use native.Mathlib.Omega.{arith}
-use lib.ListN.{length}
-use Rattle.cut.specs.Lists.{cut_list_of}
-use Rattle.cut.proofs.Listing.{few_cuts, Running, running_start, running_ready, running_ended, running_stopped, running_again}
-use borrow.Author.Rules.{rules}
+use Rattle.cut.proofs.Listing.{few_cuts, running_start, running_ready, running_ended, running_stopped, running_again}
 use Rattle.cut.proofs.lists.cuts_in_turn.Goals as goal
 
 pub loop-i-init : goal.loop-i-init
@@ -45,13 +41,13 @@ overflow_step-i c = let few = few_cuts _ c.loop-i.invariant.run.ready.fits in
 
 pub loop-i-preserved : goal.loop-i-preserved
 loop-i-preserved c = record {
-      run = running_again c.loop-i.invariant.run c.loop-i-test.true c.cut_at-made.ensures c.in-Answered.is;
-      counts_long = c.cut_at-made.auto.counts ∙ c.loop-i.invariant.counts_long;
-      points_long = c.cut_at-made.auto.points ∙ c.loop-i.invariant.points_long;
-      planes_long = c.cut_at-made.auto.planes ∙ c.loop-i.invariant.planes_long;
-      elements_long = c.cut_at-made.auto.elements ∙ c.loop-i.invariant.elements_long;
-      answers_long = c.cut_at-made.auto.answers ∙ c.loop-i.invariant.answers_long;
-    }
+  run = running_again c.loop-i.invariant.run c.loop-i-test.true c.cut_at-made.ensures c.in-Answered.is;
+  counts_long = c.cut_at-made.auto.counts ∙ c.loop-i.invariant.counts_long;
+  points_long = c.cut_at-made.auto.points ∙ c.loop-i.invariant.points_long;
+  planes_long = c.cut_at-made.auto.planes ∙ c.loop-i.invariant.planes_long;
+  elements_long = c.cut_at-made.auto.elements ∙ c.loop-i.invariant.elements_long;
+  answers_long = c.cut_at-made.auto.answers ∙ c.loop-i.invariant.answers_long;
+}
 
 pub shape_of-counts : goal.shape_of-counts
 shape_of-counts c = c.loop-i.invariant.counts_long

@@ -1,6 +1,5 @@
 -- Each test of the code is one of the rule.
 use Rattle.cut.proofs.Listing.{too_long, not_kept, rows_fit_lem}
-use borrow.Author.Rules.{rules}
 use Rattle.cut.proofs.lists.list_fits.Goals as goal
 
 pub returns-then-n-gt-MOST_CUTS : goal.returns-then-n-gt-MOST_CUTS

@@ -1,6 +1,5 @@
 -- The divider's row, and two bits of the byte.
 use Rattle.cut.proofs.Listing.{params_are}
-use borrow.Author.Rules.{rules}
 use Rattle.cut.proofs.lists.params_at.Goals as goal
 
 pub returns : goal.returns

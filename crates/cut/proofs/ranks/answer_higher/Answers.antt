@@ -1,6 +1,5 @@
 -- What the boundary answered is gathered, rule 6 follows, and its answer is kept.
 use Rattle.cut.proofs.Higher.{higher_gathers, rule6_ready, higher_keep, higher_asked}
-use borrow.Author.Rules.{rules}
 use Rattle.cut.proofs.ranks.answer_higher.Goals as goal
 
 pub gather_known-requires : goal.gather_known-requires

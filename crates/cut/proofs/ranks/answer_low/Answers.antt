@@ -1,6 +1,5 @@
 -- A vertex element or an edge is cut, and its answer is kept.
 use Rattle.cut.proofs.StaysKnown.{low_asks, low_keep, low_asked}
-use borrow.Author.Rules.{rules}
 use Rattle.cut.proofs.ranks.answer_low.Goals as goal
 
 pub cut_low-low-requires : goal.cut_low-low-requires

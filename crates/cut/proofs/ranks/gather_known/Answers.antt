@@ -1,11 +1,8 @@
 -- The invariant: what is left to gather, from what the rules have gathered so far, is the whole of it.
-use Prim.Native.Nat.{ℕ, ◌-◌, ◌≤◌}
-use mathlib.Core.Path.{◌≡◌, refl, ◌∙◌}
-use mathlib.Core.List.{List}
+use mathlib.Core.Path.{refl, ◌∙◌}
 use native.Mathlib.Omega.{arith}
-use Rattle.gathered.specs.Sets.{Sized, warning_in}
 use Rattle.ends.proofs.EndsGathered.{sized_more}
-use Rattle.cut.proofs.Higher.{Filling, gather_row, gather_most, filling_start, known_low, known_room, filling_on, filled}
+use Rattle.cut.proofs.Higher.{gather_row, gather_most, filling_start, known_low, known_room, filling_on, filled}
 use borrow.Author.Rules.{rules}
 use Rattle.cut.proofs.ranks.gather_known.Goals as goal
 
@@ -41,15 +38,15 @@ loop-i-smaller c = omega (arith, c.loop-i-test.true)
 
 pub loop-i-preserved : goal.loop-i-preserved
 loop-i-preserved c = record {
-      most = omega (arith, c.loop-i-test.true);
-      sized = c.gather_in.ensures.sized c.loop-i.i c.loop-i.invariant.sized;
-      filling = filling_on _ c.size_of-n.ensures c.loop-i-test.true _ (c.wide.ensures.value ∙ c.boundary_at.ensures) c.loop-i.invariant.filling _ c.output_at-a.ensures c.gather_in.ensures;
-      warning = c.gather_in.ensures.warning ∙ c.loop-i.invariant.warning;
-    }
+  most = omega (arith, c.loop-i-test.true);
+  sized = c.gather_in.ensures.sized c.loop-i.i c.loop-i.invariant.sized;
+  filling = filling_on _ c.size_of-n.ensures c.loop-i-test.true _ (c.wide.ensures.value ∙ c.boundary_at.ensures) c.loop-i.invariant.filling _ c.output_at-a.ensures c.gather_in.ensures;
+  warning = c.gather_in.ensures.warning ∙ c.loop-i.invariant.warning;
+}
 
 pub returns : goal.returns
 returns c = record {
-      of = filled _ c.size_of-n.ensures c.loop-i-test.false c.loop-i.invariant.most c.loop-i.invariant.filling _;
-      sized = sized_more c.loop-i.i 32 (omega (arith, gather_most c.requires _ c.size_of-n.ensures, c.loop-i.invariant.most)) c.loop-i.invariant.sized;
-      warning = c.loop-i.invariant.warning ∙ c.clear.ensures.warning;
-    }
+  of = filled _ c.size_of-n.ensures c.loop-i-test.false c.loop-i.invariant.most c.loop-i.invariant.filling _;
+  sized = sized_more c.loop-i.i 32 (omega (arith, gather_most c.requires _ c.size_of-n.ensures, c.loop-i.invariant.most)) c.loop-i.invariant.sized;
+  warning = c.loop-i.invariant.warning ∙ c.clear.ensures.warning;
+}

@@ -1,12 +1,9 @@
 -- The invariant: what is left to gather, from what the rules have gathered so far, is the whole of it.
 use Prim.Native.Nat.{ℕ, ◌-◌, ◌≤◌}
-use mathlib.Core.Path.{◌≡◌, refl, ◌∙◌}
+use mathlib.Core.Path.{◌≡◌}
 use mathlib.Core.List.{List}
-use native.Mathlib.Omega.{arith}
 use Rattle.gathered.specs.Sets.{Sized, warning_in}
-use Rattle.ends.proofs.EndsGathered.{sized_more}
-use Rattle.cut.proofs.Higher.{Filling, gather_row, gather_most, filling_start, known_low, known_room, filling_on, filled}
-use borrow.Author.Rules.{rules}
+use Rattle.cut.proofs.Higher.{Filling}
 use Rattle.cut.proofs.ranks.gather_known.Given as goal
 
 pub record Gathering (es ms : List ℕ) (s : List (List ℕ)) (e n i : ℕ) (r : List (List ℕ)) : Type 0 where

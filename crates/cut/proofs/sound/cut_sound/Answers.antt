@@ -1,6 +1,5 @@
 -- What was asked is refused, answered by rule 1, or cut by the rules from 2 on: each way the code goes is a case of the reply.
 use Rattle.cut.proofs.SoundCuts.{counts_four, sound_refused, sound_inside, sound_outside, sound_ready, sound_made}
-use borrow.Author.Rules.{rules}
 use Rattle.cut.proofs.sound.cut_sound.Goals as goal
 
 pub sound_asked-asked-requires : goal.sound_asked-asked-requires

@@ -1,6 +1,5 @@
 -- The array's words are the four counts.
 use Rattle.cut.proofs.Counts.{counts_taken}
-use borrow.Author.Rules.{rules}
 use Rattle.cut.proofs.whole.counts_of.Goals as goal
 
 pub returns : goal.returns

@@ -1,7 +1,6 @@
 -- What was tried is the reply, or is taken back.
 use native.Mathlib.Omega.{arith}
 use Rattle.cut.proofs.WholeCuts.{counts_ready, whole_asks, whole_refused, whole_done}
-use borrow.Author.Rules.{rules}
 use Rattle.cut.proofs.whole.cut_finite.Goals as goal
 
 pub bounds-counts-1 : goal.bounds-counts-1

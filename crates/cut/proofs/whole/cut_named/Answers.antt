@@ -1,7 +1,6 @@
 -- The hyperplane is refused, or has a number, and the root is cut, with the counts in an array; nothing is known before, and its answer is after.
 use mathlib.Core.Path.{◌∙◌}
 use Rattle.cut.proofs.WholeCuts.{counts_ready, plane_asked, rank_asked, root_low, root_ready, plane_refused, root_refused, root_answered, counts_lent, counts_back}
-use borrow.Author.Rules.{rules}
 use Rattle.cut.proofs.whole.cut_named.Goals as goal
 
 pub add_hyperplane-named-requires : goal.add_hyperplane-named-requires

@@ -3,7 +3,6 @@ use mathlib.Core.Path.{sym, ap}
 use native.Mathlib.Omega.{arith}
 use Rattle.desk.specs.Words.{size_word}
 use Rattle.desk.proofs.ListWords.{listed_low}
-use borrow.Author.Rules.{rules}
 use Rattle.desk.proofs.words.list_word.Goals as goal
 
 pub overflow_cast-result-in-Listed : goal.overflow_cast-result-in-Listed

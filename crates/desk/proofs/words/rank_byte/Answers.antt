@@ -1,7 +1,6 @@
 -- The rank, or 255 where it is above that.
 use native.Mathlib.Omega.{arith}
 use Rattle.desk.proofs.RankWords.{byte_low, byte_high}
-use borrow.Author.Rules.{rules}
 use Rattle.desk.proofs.words.rank_byte.Goals as goal
 
 pub returns-then-rank-gt255 : goal.returns-then-rank-gt255

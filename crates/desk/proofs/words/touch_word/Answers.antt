@@ -1,8 +1,6 @@
 -- The number, or the answer above its eight bits and the count above that, which fits since no more corners are tested than there is room for elements.
-use mathlib.Core.Path.{sym, ap}
 use native.Mathlib.Omega.{arith}
 use Rattle.desk.proofs.TouchWords.{touched_low, word_touched}
-use borrow.Author.Rules.{rules}
 use Rattle.desk.proofs.words.touch_word.Goals as goal
 
 pub overflow_cast-result-in-Touched : goal.overflow_cast-result-in-Touched

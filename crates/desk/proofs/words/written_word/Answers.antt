@@ -3,7 +3,6 @@ use mathlib.Core.Path.{sym, ap}
 use native.Mathlib.Omega.{arith}
 use Rattle.desk.specs.Words.{written_word}
 use Rattle.desk.proofs.CutListWords.{stopped_low, answered_low}
-use borrow.Author.Rules.{rules}
 use Rattle.desk.proofs.words.written_word.Goals as goal
 
 pub overflow_cast-result-in-Stopped-2 : goal.overflow_cast-result-in-Stopped-2

@@ -1,10 +1,7 @@
 -- The pass has come down to what is left: what is not marked is passed over. At the end the marks are what is below the root.
-use Prim.Native.Nat.{ℕ, ◌-◌, ◌≤◌}
-use mathlib.Core.List.{List}
 use native.Mathlib.Omega.{arith}
-use Rattle.elements.specs.Below.{Used}
 use Rattle.elements.proofs.MarkLaws.{none_marked}
-use Rattle.elements.proofs.BelowLoops.{in_room_lem, Going, going_start, going_next, going_end, used_below}
+use Rattle.elements.proofs.BelowLoops.{in_room_lem, going_start, going_next, going_end, used_below}
 use borrow.Author.Rules.{rules}
 use Rattle.elements.proofs.below.below.Goals as goal
 
@@ -22,11 +19,11 @@ onward-requires c = used_below _ _ _ (omega (arith, c.down_to-e.ensures.low)) c.
 
 pub loop-left-preserved : goal.loop-left-preserved
 loop-left-preserved c = record {
-      low = search rules;
-      room = c.loop-left.invariant.room;
-      root = c.loop-left.invariant.root;
-      going = going_next _ _ _ _ _ _ (search rules) (omega arith) c.down_to-e.ensures c.onward.ensures c.loop-left.invariant.going;
-    }
+  low = search rules;
+  room = c.loop-left.invariant.room;
+  root = c.loop-left.invariant.root;
+  going = going_next _ _ _ _ _ _ (search rules) (omega arith) c.down_to-e.ensures c.onward.ensures c.loop-left.invariant.going;
+}
 
 pub returns : goal.returns
 returns c = going_end _ _ _ _ (omega arith) c.loop-left.invariant.going

@@ -1,11 +1,8 @@
 -- The pass has come down to what is left: what is not marked is passed over. At the end the marks are what is below the root.
 use Prim.Native.Nat.{ℕ, ◌-◌, ◌≤◌}
 use mathlib.Core.List.{List}
-use native.Mathlib.Omega.{arith}
 use Rattle.elements.specs.Below.{Used}
-use Rattle.elements.proofs.MarkLaws.{none_marked}
-use Rattle.elements.proofs.BelowLoops.{in_room_lem, Going, going_start, going_next, going_end, used_below}
-use borrow.Author.Rules.{rules}
+use Rattle.elements.proofs.BelowLoops.{Going}
 use Rattle.elements.proofs.below.below.Given as goal
 
 -- all is left below the first number, which is one past the root

@@ -1,11 +1,7 @@
 -- The numbers that are left to mark, and the marks so far, give all marks.
-use Prim.Native.Nat.{ℕ, ◌+◌, ◌*◌, ◌-◌, ◌≤◌}
-use mathlib.Core.List.{List}
-use mathlib.Core.Path.{◌≡◌, ◌∙◌}
+use mathlib.Core.Path.{◌∙◌}
 use native.Mathlib.Omega.{arith}
-use lib.ListN.{get_or}
-use Rattle.elements.specs.Below.{BoundaryReady}
-use Rattle.elements.proofs.BelowLoops.{Marking, marking_start, marking_next, marking_end}
+use Rattle.elements.proofs.BelowLoops.{marking_start, marking_next, marking_end}
 use borrow.Author.Rules.{rules}
 use Rattle.elements.proofs.below.mark_boundary.Goals as goal
 
@@ -25,11 +21,11 @@ mark-requires c = let q = c.loop-i.invariant.ready.low c.loop-i.i (search (rules
 
 pub loop-i-preserved : goal.loop-i-preserved
 loop-i-preserved c = record {
-      low = search rules;
-      size = c.loop-i.invariant.size;
-      ready = c.loop-i.invariant.ready;
-      marks = marking_next _ _ _ _ _ _ c.loop-i.invariant.marks _ _ (search rules) (c.wide-x.ensures.value ∙ c.boundary_at.ensures) c.mark.ensures;
-    }
+  low = search rules;
+  size = c.loop-i.invariant.size;
+  ready = c.loop-i.invariant.ready;
+  marks = marking_next _ _ _ _ _ _ c.loop-i.invariant.marks _ _ (search rules) (c.wide-x.ensures.value ∙ c.boundary_at.ensures) c.mark.ensures;
+}
 
 pub returns : goal.returns
 returns c = marking_end _ _ _ _ _ _ c.loop-i.invariant.marks (omega arith)

@@ -1,12 +1,10 @@
 -- The numbers that are left to mark, and the marks so far, give all marks.
 use Prim.Native.Nat.{ℕ, ◌+◌, ◌*◌, ◌-◌, ◌≤◌}
 use mathlib.Core.List.{List}
-use mathlib.Core.Path.{◌≡◌, ◌∙◌}
-use native.Mathlib.Omega.{arith}
+use mathlib.Core.Path.{◌≡◌}
 use lib.ListN.{get_or}
 use Rattle.elements.specs.Below.{BoundaryReady}
-use Rattle.elements.proofs.BelowLoops.{Marking, marking_start, marking_next, marking_end}
-use borrow.Author.Rules.{rules}
+use Rattle.elements.proofs.BelowLoops.{Marking}
 use Rattle.elements.proofs.below.mark_boundary.Given as goal
 
 -- the numbers from i on are left

@@ -1,8 +1,6 @@
 -- What is not below the root, and a vertex, leave the marks; any other element hands them to its boundary.
 use mathlib.Core.Path.{sym, ◌∙◌}
-use Rattle.rules.proofs.Laws.{not_true, not_false}
 use Rattle.elements.proofs.BelowLoops.{lent_long, in_room_lem, polytope_ranked, boundary_ready, not_below, a_vertex, go_on}
-use borrow.Author.Rules.{rules}
 use Rattle.elements.proofs.below.onward.Goals as goal
 
 pub returns-then-not-marked : goal.returns-then-not-marked

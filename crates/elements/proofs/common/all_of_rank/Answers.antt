@@ -1,14 +1,9 @@
 -- Those that are left have the rank exactly when all do, until one does not.
-use Prim.Native.Nat.{ℕ, ◌*◌, ◌-◌, ◌≤◌}
-use mathlib.Core.Bool.{Bool}
-use mathlib.Core.List.{List}
-use mathlib.Core.Path.{◌≡◌, refl, sym, ap, ◌∙◌}
-use lib.Dec.{eqb}
-use lib.ListN.{length, get_or, drop}
-use Rattle.rules.specs.Lists.{all}
+use Prim.Native.Nat.{ℕ, ◌*◌}
+use mathlib.Core.Path.{refl, sym, ap, ◌∙◌}
+use lib.ListN.{get_or}
 use Rattle.rules.proofs.Indexed.{all_go, all_no, all_end}
 use Rattle.rules.proofs.Laws.{test_eq, not_eq}
-use Rattle.elements.specs.Ranks.{AllUsed}
 use Rattle.elements.proofs.BelowLoops.{lent_long}
 use Rattle.elements.proofs.CommonLoops.{roots_used_at, used_in_room}
 use borrow.Author.Rules.{rules}
@@ -20,9 +15,9 @@ loop-i-init c = record { low = search rules; size = search rules; used = c.requi
 
 pub rank_of-requires : goal.rank_of-requires
 rank_of-requires c = record {
-      elements = lent_long _ _ c.loop-i.invariant.used.lent;
-      room = used_in_room _ _ (roots_used_at _ _ c.loop-i.i _ c.loop-i.invariant.used (search rules) c.wide.ensures.value);
-    }
+  elements = lent_long _ _ c.loop-i.invariant.used.lent;
+  room = used_in_room _ _ (roots_used_at _ _ c.loop-i.i _ c.loop-i.invariant.used (search rules) c.wide.ensures.value);
+}
 
 pub returns-then-rank_of-rank : goal.returns-then-rank_of-rank
 returns-then-rank_of-rank c = let word = c.rank_of.ensures ∙ ap (λ (e : ℕ). get_or c.args.elements.now (e * 36) 0) c.wide.ensures.value in

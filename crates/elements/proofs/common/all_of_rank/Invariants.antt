@@ -2,16 +2,11 @@
 use Prim.Native.Nat.{ℕ, ◌*◌, ◌-◌, ◌≤◌}
 use mathlib.Core.Bool.{Bool}
 use mathlib.Core.List.{List}
-use mathlib.Core.Path.{◌≡◌, refl, sym, ap, ◌∙◌}
+use mathlib.Core.Path.{◌≡◌}
 use lib.Dec.{eqb}
 use lib.ListN.{length, get_or, drop}
 use Rattle.rules.specs.Lists.{all}
-use Rattle.rules.proofs.Indexed.{all_go, all_no, all_end}
-use Rattle.rules.proofs.Laws.{test_eq, not_eq}
 use Rattle.elements.specs.Ranks.{AllUsed}
-use Rattle.elements.proofs.BelowLoops.{lent_long}
-use Rattle.elements.proofs.CommonLoops.{roots_used_at, used_in_room}
-use borrow.Author.Rules.{rules}
 use Rattle.elements.proofs.common.all_of_rank.Given as goal
 
 abbrev pub has_rank : List ℕ → ℕ → ℕ → Bool

@@ -2,11 +2,9 @@
 use Prim.Native.Nat.{ℕ, ◌-◌, ◌≤◌}
 use mathlib.Core.List.{List}
 use mathlib.Core.Path.{◌≡◌}
-use native.Mathlib.Omega.{arith}
 use lib.ListN.{length}
 use Rattle.elements.specs.Ranks.{AllUsed}
-use Rattle.elements.proofs.CommonLoops.{roots_used_at, Narrowing, narrowing_start, narrowing_next, narrowing_end}
-use borrow.Author.Rules.{rules}
+use Rattle.elements.proofs.CommonLoops.{Narrowing}
 use Rattle.elements.proofs.common.common.Given as goal
 
 -- the roots from i on are left

@@ -1,11 +1,6 @@
 -- The root alone, and a rank lower with each turn.
-use Prim.Native.Nat.{◌-◌, ◌<◌}
-use mathlib.Core.Path.{subst}
-use native.Mathlib.Omega.{arith}
-use Rattle.elements.proofs.MarkLaws.{none_marked}
-use Rattle.elements.proofs.BelowLoops.{lent_long, in_room_lem}
-use Rattle.elements.proofs.LevelLoops.{no_level, root_first, Lowered, lowered_start, lowered_ready, lowered_next, lowered_end}
-use borrow.Author.Rules.{rules}
+use Prim.Native.Nat.{◌-◌}
+use Rattle.elements.proofs.LevelLoops.{Lowered}
 use Rattle.elements.proofs.levels.level.Given as goal
 
 abbrev pub invariant-loop-i : goal.invariant-loop-i

@@ -1,8 +1,6 @@
 -- The boundaries of the numbers that are left of the word are to come.
-use Prim.Native.Nat.{◌+◌, ◌-◌, ◌<◌}
-use Rattle.elements.proofs.WordLoops.{next_inside}
-use Rattle.elements.proofs.LevelLoops.{Passing, passing_start, passing_ready, passing_next, passing_end}
-use borrow.Author.Rules.{rules}
+use Prim.Native.Nat.{◌+◌, ◌-◌}
+use Rattle.elements.proofs.LevelLoops.{Passing}
 use Rattle.elements.proofs.levels.mark_under_word.Given as goal
 
 abbrev pub invariant-loop-left : goal.invariant-loop-left

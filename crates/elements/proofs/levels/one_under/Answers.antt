@@ -1,13 +1,7 @@
 -- The boundaries of the words that are left are to come.
-use Prim.Native.Nat.{ℕ, ◌-◌, ◌≤◌}
-use mathlib.Core.List.{List}
-use mathlib.Core.Path.{◌≡◌}
 use native.Mathlib.Omega.{arith}
-use lib.ListN.{length}
-use Rattle.elements.specs.Marks.{NoneMarked}
-use Rattle.elements.specs.Levels.{SetReady}
 use Rattle.elements.proofs.MarkLaws.{none_marked}
-use Rattle.elements.proofs.LevelLoops.{Passed, passed_start, word_ready, passed_next, passed_end}
+use Rattle.elements.proofs.LevelLoops.{passed_start, word_ready, passed_next, passed_end}
 use borrow.Author.Rules.{rules}
 use Rattle.elements.proofs.levels.one_under.Goals as goal
 
@@ -19,13 +13,13 @@ mark_under_word-requires c = word_ready _ _ _ (search rules) c.loop-w.invariant.
 
 pub loop-w-preserved : goal.loop-w-preserved
 loop-w-preserved c = record {
-      so_far = search rules;
-      long = c.loop-w.invariant.long;
-      words = c.loop-w.invariant.words;
-      none_yet = c.loop-w.invariant.none_yet;
-      ready = c.loop-w.invariant.ready;
-      passed = passed_next _ _ _ _ _ c.loop-w.invariant.passed _ (search rules) c.mark_under_word.ensures;
-    }
+  so_far = search rules;
+  long = c.loop-w.invariant.long;
+  words = c.loop-w.invariant.words;
+  none_yet = c.loop-w.invariant.none_yet;
+  ready = c.loop-w.invariant.ready;
+  passed = passed_next _ _ _ _ _ c.loop-w.invariant.passed _ (search rules) c.mark_under_word.ensures;
+}
 
 pub returns : goal.returns
 returns c = passed_end _ _ _ _ _ c.loop-w.invariant.passed (omega arith) c.loop-w.invariant.words c.loop-w.invariant.none_yet c.loop-w.invariant.ready

@@ -2,13 +2,10 @@
 use Prim.Native.Nat.{ℕ, ◌-◌, ◌≤◌}
 use mathlib.Core.List.{List}
 use mathlib.Core.Path.{◌≡◌}
-use native.Mathlib.Omega.{arith}
 use lib.ListN.{length}
 use Rattle.elements.specs.Marks.{NoneMarked}
 use Rattle.elements.specs.Levels.{SetReady}
-use Rattle.elements.proofs.MarkLaws.{none_marked}
-use Rattle.elements.proofs.LevelLoops.{Passed, passed_start, word_ready, passed_next, passed_end}
-use borrow.Author.Rules.{rules}
+use Rattle.elements.proofs.LevelLoops.{Passed}
 use Rattle.elements.proofs.levels.one_under.Given as goal
 
 pub record Marked (es set none ws : List ℕ) (w : ℕ) : Type 0 where

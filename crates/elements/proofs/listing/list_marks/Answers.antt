@@ -2,7 +2,6 @@
 use native.Mathlib.Omega.{arith}
 use Rattle.elements.specs.Marks.{marked_numbers}
 use Rattle.elements.proofs.ListLoops.{no_room, in_front}
-use borrow.Author.Rules.{rules}
 use Rattle.elements.proofs.listing.list_marks.Goals as goal
 
 pub returns-then-list-n : goal.returns-then-list-n

@@ -7,7 +7,6 @@ use Rattle.elements.specs.Marks.{marked_numbers}
 use Rattle.elements.specs.Ranks.{vertex_word}
 use Rattle.elements.proofs.ListLoops.{no_room, in_front}
 use Rattle.elements.proofs.VertexLoops.{still_long, listed_low, replaced}
-use borrow.Author.Rules.{rules}
 use Rattle.elements.proofs.listing.list_vertices.Goals as goal
 
 pub returns-then-list-n : goal.returns-then-list-n
@@ -20,10 +19,10 @@ list_all-requires c = omega (arith, c.size-n.ensures)
 
 pub name_vertices-requires : goal.name_vertices-requires
 name_vertices-requires c = record {
-      long = c.requires;
-      few = still_long c.args.s.words c.args.list.now _ _ c.size-n.ensures (omega arith) c.list_all.ensures;
-      low = listed_low c.args.s.words c.args.list.now _ _ c.size-n.ensures (omega arith) c.list_all.ensures;
-    }
+  long = c.requires;
+  few = still_long c.args.s.words c.args.list.now _ _ c.size-n.ensures (omega arith) c.list_all.ensures;
+  low = listed_low c.args.s.words c.args.list.now _ _ c.size-n.ensures (omega arith) c.list_all.ensures;
+}
 
 pub returns : goal.returns
 returns c = in_front (map (vertex_word c.args.elements.now) (marked_numbers c.args.s.words)) c.args.list.now _ _ (c.size-n.ensures ∙ sym (length-map (marked_numbers c.args.s.words) (vertex_word c.args.elements.now))) (omega arith)

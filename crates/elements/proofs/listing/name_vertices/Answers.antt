@@ -1,9 +1,6 @@
 -- Those before i are replaced, and those from i on are as they came.
-use Prim.Native.Nat.{ℕ, ◌-◌, ◌≤◌}
-use mathlib.Core.List.{List}
 use native.Mathlib.Omega.{arith}
-use Rattle.elements.specs.Ranks.{VerticesAsked}
-use Rattle.elements.proofs.VertexLoops.{Naming, naming_start, naming_low, naming_next, naming_end}
+use Rattle.elements.proofs.VertexLoops.{naming_start, naming_low, naming_next, naming_end}
 use borrow.Author.Rules.{rules}
 use Rattle.elements.proofs.listing.name_vertices.Goals as goal
 
@@ -22,10 +19,10 @@ bounds-list-i-in-loop-i c = search (rules, c.loop-i.invariant.names.long, c.loop
 
 pub loop-i-preserved : goal.loop-i-preserved
 loop-i-preserved c = record {
-      so_far = search rules;
-      asked = c.loop-i.invariant.asked;
-      names = naming_next _ _ _ _ _ c.loop-i.invariant.asked.few c.loop-i.invariant.names _ _ (search rules) c.wide.ensures.value c.boundary_at.ensures;
-    }
+  so_far = search rules;
+  asked = c.loop-i.invariant.asked;
+  names = naming_next _ _ _ _ _ c.loop-i.invariant.asked.few c.loop-i.invariant.names _ _ (search rules) c.wide.ensures.value c.boundary_at.ensures;
+}
 
 pub shape_of-list : goal.shape_of-list
 shape_of-list c = c.loop-i.invariant.names.long

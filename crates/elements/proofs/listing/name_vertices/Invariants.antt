@@ -1,10 +1,8 @@
 -- Those before i are replaced, and those from i on are as they came.
 use Prim.Native.Nat.{ℕ, ◌-◌, ◌≤◌}
 use mathlib.Core.List.{List}
-use native.Mathlib.Omega.{arith}
 use Rattle.elements.specs.Ranks.{VerticesAsked}
-use Rattle.elements.proofs.VertexLoops.{Naming, naming_start, naming_low, naming_next, naming_end}
-use borrow.Author.Rules.{rules}
+use Rattle.elements.proofs.VertexLoops.{Naming}
 use Rattle.elements.proofs.listing.name_vertices.Given as goal
 
 pub record Named (es old : List ℕ) (n : ℕ) (new : List ℕ) (i : ℕ) : Type 0 where

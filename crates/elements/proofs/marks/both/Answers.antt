@@ -1,10 +1,6 @@
 -- The words before w are of both, those from w on as they came.
-use Prim.Native.Nat.{ℕ, ◌-◌, ◌≤◌}
-use mathlib.Core.List.{List}
-use mathlib.Core.Path.{◌≡◌}
 use native.Mathlib.Omega.{arith}
-use lib.ListN.{length}
-use Rattle.elements.proofs.CommonLoops.{Meeting, meeting_start, meeting_next, meeting_end}
+use Rattle.elements.proofs.CommonLoops.{meeting_start, meeting_next, meeting_end}
 use borrow.Author.Rules.{rules}
 use Rattle.elements.proofs.marks.both.Goals as goal
 
@@ -13,12 +9,12 @@ loop-w-init c = record { so_far = search rules; old_long = search rules; long = 
 
 pub loop-w-preserved : goal.loop-w-preserved
 loop-w-preserved c = record {
-      so_far = search rules;
-      old_long = search rules;
-      long = search rules;
-      other_long = search rules;
-      meeting = meeting_next _ _ _ _ (search rules) c.loop-w.invariant.meeting;
-    }
+  so_far = search rules;
+  old_long = search rules;
+  long = search rules;
+  other_long = search rules;
+  meeting = meeting_next _ _ _ _ (search rules) c.loop-w.invariant.meeting;
+}
 
 pub returns : goal.returns
 returns c = meeting_end _ _ _ _ (omega arith) c.loop-w.invariant.old_long c.loop-w.invariant.meeting

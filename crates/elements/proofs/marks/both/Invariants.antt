@@ -2,10 +2,8 @@
 use Prim.Native.Nat.{ℕ, ◌-◌, ◌≤◌}
 use mathlib.Core.List.{List}
 use mathlib.Core.Path.{◌≡◌}
-use native.Mathlib.Omega.{arith}
 use lib.ListN.{length}
-use Rattle.elements.proofs.CommonLoops.{Meeting, meeting_start, meeting_next, meeting_end}
-use borrow.Author.Rules.{rules}
+use Rattle.elements.proofs.CommonLoops.{Meeting}
 use Rattle.elements.proofs.marks.both.Given as goal
 
 pub record Met (old other new : List ℕ) (w : ℕ) : Type 0 where

@@ -1,6 +1,5 @@
 -- What is above the digit is shifted out, so the zeros are those from it down, and the digit below them is the mark.
 use Rattle.elements.proofs.MarkLaws.{down_to_mark, down_to_first}
-use borrow.Author.Rules.{rules}
 use Rattle.elements.proofs.marks.down_to.Goals as goal
 
 pub returns-then-z-b : goal.returns-then-z-b

@@ -1,11 +1,6 @@
 -- What is left of the words goes to the places from here on: the whole list stays what it will be.
-use Prim.Native.Nat.{ℕ, ◌-◌, ◌≤◌}
-use mathlib.Core.List.{List}
-use mathlib.Core.Path.{◌≡◌}
 use native.Mathlib.Omega.{arith}
-use lib.ListN.{length}
-use Rattle.elements.specs.Marks.{marked_numbers}
-use Rattle.elements.proofs.ListLoops.{Filling, filling_start, filling_room, filling_next, filling_end}
+use Rattle.elements.proofs.ListLoops.{filling_start, filling_room, filling_next, filling_end}
 use borrow.Author.Rules.{rules}
 use Rattle.elements.proofs.marks.list_all.Goals as goal
 
@@ -17,11 +12,11 @@ list_word-at-requires c = record { low = search rules; room = filling_room _ _ _
 
 pub loop-w-preserved : goal.loop-w-preserved
 loop-w-preserved c = record {
-      so_far = search rules;
-      words = search rules;
-      room = c.loop-w.invariant.room;
-      filling = filling_next _ _ _ _ _ c.loop-w.invariant.filling (search rules) _ _ c.list_word-at.ensures.next c.list_word-at.ensures.written;
-    }
+  so_far = search rules;
+  words = search rules;
+  room = c.loop-w.invariant.room;
+  filling = filling_next _ _ _ _ _ c.loop-w.invariant.filling (search rules) _ _ c.list_word-at.ensures.next c.list_word-at.ensures.written;
+}
 
 pub shape_of-list : goal.shape_of-list
 shape_of-list c = c.loop-w.invariant.filling.long

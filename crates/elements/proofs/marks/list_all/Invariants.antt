@@ -2,11 +2,9 @@
 use Prim.Native.Nat.{ℕ, ◌-◌, ◌≤◌}
 use mathlib.Core.List.{List}
 use mathlib.Core.Path.{◌≡◌}
-use native.Mathlib.Omega.{arith}
 use lib.ListN.{length}
 use Rattle.elements.specs.Marks.{marked_numbers}
-use Rattle.elements.proofs.ListLoops.{Filling, filling_start, filling_room, filling_next, filling_end}
-use borrow.Author.Rules.{rules}
+use Rattle.elements.proofs.ListLoops.{Filling}
 use Rattle.elements.proofs.marks.list_all.Given as goal
 
 pub record Filled (ws old new : List ℕ) (at w : ℕ) : Type 0 where

@@ -1,9 +1,7 @@
 -- What is left of the word goes to the places from here on: the whole list stays what it will be.
-use Prim.Native.Nat.{ℕ, ◌+◌, ◌-◌, ◌<◌}
-use mathlib.Core.List.{List}
-use Rattle.elements.specs.Marks.{WordFits}
+use Prim.Native.Nat.{◌+◌, ◌<◌}
 use Rattle.elements.proofs.WordLoops.{next_inside}
-use Rattle.elements.proofs.ListLoops.{Listing, listing_start, listing_room, listing_next, listing_end}
+use Rattle.elements.proofs.ListLoops.{listing_start, listing_room, listing_next, listing_end}
 use borrow.Author.Rules.{rules}
 use Rattle.elements.proofs.marks.list_word.Goals as goal
 
@@ -11,14 +9,14 @@ pub loop-left-init : goal.loop-left-init
 loop-left-init c = record { fits = c.requires; listing = listing_start _ _ _ _ c.ranges.word.fits }
 
 pub overflow_add-list : goal.overflow_add-list
-overflow_add-list c = 
+overflow_add-list c =
     let inside : c.loop-left.x + c.zeros_below-z.result < c.args.base + 64 =
     next_inside _ _ _ c.loop-left.invariant.listing.leaving _ c.zeros_below-z.ensures.zeros c.loop-left-test.true in
     let h = inside in
     search (rules, h)
 
 pub overflow_cast-list : goal.overflow_cast-list
-overflow_cast-list c = 
+overflow_cast-list c =
     let inside : c.loop-left.x + c.zeros_below-z.result < c.args.base + 64 =
     next_inside _ _ _ c.loop-left.invariant.listing.leaving _ c.zeros_below-z.ensures.zeros c.loop-left-test.true in
     let h = inside in
@@ -33,28 +31,28 @@ overflow_add-at c = let h = listing_room _ _ _ _ _ _ _ _ c.loop-left.invariant.l
     search (rules, h)
 
 pub overflow_shr-left : goal.overflow_shr-left
-overflow_shr-left c = 
+overflow_shr-left c =
     let inside : c.loop-left.x + c.zeros_below-z.result < c.args.base + 64 =
     next_inside _ _ _ c.loop-left.invariant.listing.leaving _ c.zeros_below-z.ensures.zeros c.loop-left-test.true in
     let h = inside in
     search (rules, h, c.loop-left.invariant.listing.leaving.low)
 
 pub overflow_add-x : goal.overflow_add-x
-overflow_add-x c = 
+overflow_add-x c =
     let inside : c.loop-left.x + c.zeros_below-z.result < c.args.base + 64 =
     next_inside _ _ _ c.loop-left.invariant.listing.leaving _ c.zeros_below-z.ensures.zeros c.loop-left-test.true in
     let h = inside in
     search (rules, h)
 
 pub overflow_add-x-in-loop-left : goal.overflow_add-x-in-loop-left
-overflow_add-x-in-loop-left c = 
+overflow_add-x-in-loop-left c =
     let inside : c.loop-left.x + c.zeros_below-z.result < c.args.base + 64 =
     next_inside _ _ _ c.loop-left.invariant.listing.leaving _ c.zeros_below-z.ensures.zeros c.loop-left-test.true in
     let h = inside in
     search (rules, h)
 
 pub loop-left-smaller : goal.loop-left-smaller
-loop-left-smaller c = 
+loop-left-smaller c =
     let inside : c.loop-left.x + c.zeros_below-z.result < c.args.base + 64 =
     next_inside _ _ _ c.loop-left.invariant.listing.leaving _ c.zeros_below-z.ensures.zeros c.loop-left-test.true in
     let h = inside in

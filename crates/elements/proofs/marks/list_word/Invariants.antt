@@ -1,10 +1,8 @@
 -- What is left of the word goes to the places from here on: the whole list stays what it will be.
-use Prim.Native.Nat.{ℕ, ◌+◌, ◌-◌, ◌<◌}
+use Prim.Native.Nat.{ℕ, ◌+◌, ◌-◌}
 use mathlib.Core.List.{List}
 use Rattle.elements.specs.Marks.{WordFits}
-use Rattle.elements.proofs.WordLoops.{next_inside}
-use Rattle.elements.proofs.ListLoops.{Listing, listing_start, listing_room, listing_next, listing_end}
-use borrow.Author.Rules.{rules}
+use Rattle.elements.proofs.ListLoops.{Listing}
 use Rattle.elements.proofs.marks.list_word.Given as goal
 
 pub record Listed (old : List ℕ) (from word base : ℕ) (new : List ℕ) (at x left : ℕ) : Type 0 where

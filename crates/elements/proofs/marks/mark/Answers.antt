@@ -4,7 +4,6 @@ use native.Mathlib.Nat.{mod-lt}
 use native.Mathlib.Omega.{arith}
 use Rattle.elements.specs.Marks.{marking}
 use Rattle.elements.proofs.MarkLaws.{shifted}
-use borrow.Author.Rules.{rules}
 use Rattle.elements.proofs.marks.mark.Goals as goal
 
 pub returns : goal.returns

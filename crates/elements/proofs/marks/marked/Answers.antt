@@ -1,7 +1,6 @@
 -- The last digit of the shifted word is the mark.
 use Rattle.elements.specs.Marks.{is_marked}
 use Rattle.elements.proofs.MarkLaws.{low_digit}
-use borrow.Author.Rules.{rules}
 use Rattle.elements.proofs.marks.marked.Goals as goal
 
 pub returns : goal.returns

@@ -1,10 +1,6 @@
 -- What is counted, and the marks of the words that are left, are all marks.
-use Prim.Native.Nat.{ℕ, ◌-◌, ◌≤◌}
-use mathlib.Core.List.{List}
-use mathlib.Core.Path.{◌≡◌}
 use native.Mathlib.Omega.{arith}
-use lib.ListN.{length}
-use Rattle.elements.proofs.ListLoops.{Counting, counting_start, counting_next, counting_end}
+use Rattle.elements.proofs.ListLoops.{counting_start, counting_next, counting_end}
 use borrow.Author.Rules.{rules}
 use Rattle.elements.proofs.marks.size.Goals as goal
 

@@ -2,10 +2,8 @@
 use Prim.Native.Nat.{ℕ, ◌-◌, ◌≤◌}
 use mathlib.Core.List.{List}
 use mathlib.Core.Path.{◌≡◌}
-use native.Mathlib.Omega.{arith}
 use lib.ListN.{length}
-use Rattle.elements.proofs.ListLoops.{Counting, counting_start, counting_next, counting_end}
-use borrow.Author.Rules.{rules}
+use Rattle.elements.proofs.ListLoops.{Counting}
 use Rattle.elements.proofs.marks.size.Given as goal
 
 pub record Counted (ws : List ℕ) (n w : ℕ) : Type 0 where

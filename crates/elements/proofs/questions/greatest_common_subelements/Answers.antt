@@ -3,14 +3,12 @@ use Prim.Native.Nat.{ℕ, ◌*◌}
 use mathlib.Core.Path.{refl, sym, ap, ◌∙◌}
 use native.Mathlib.Nat.{pos_of_ne-zero}
 use lib.ListN.{get_or}
-use borrow.Author.Tests.{not-true, not-false}
 use Rattle.rules.specs.Questions.{no_answer, answer}
 use Rattle.elements.specs.Marks.{marked_numbers}
 use Rattle.elements.specs.Ranks.{AllUsed}
 use Rattle.elements.proofs.BelowLoops.{lent_long}
 use Rattle.elements.proofs.CommonLoops.{roots_used_at, used_in_room, no_roots, unlike_roots, greatest_answered}
 use Rattle.elements.proofs.QuestionReplies.{roots_used, roots_refused, roots_answered}
-use borrow.Author.Rules.{rules}
 use Rattle.elements.proofs.questions.greatest_common_subelements.Goals as goal
 
 pub returns-then-no-ne0 : goal.returns-then-no-ne0
@@ -20,7 +18,7 @@ pub returns-then-roots-eq0 : goal.returns-then-roots-eq0
 returns-then-roots-eq0 c = roots_answered _ _ _ _ _ _ c.roots_refusal-no.ensures c.args.list.now c.if-no-ne0.false (no_answer 6) _ refl (λ t l u. no_roots t _ c.if-roots-eq0.true)
 
 pub rank_of-rank-requires : goal.rank_of-rank-requires
-rank_of-rank-requires c = 
+rank_of-rank-requires c =
     let used : AllUsed c.args.elements.now c.args.roots.now =
     roots_used _ _ _ _ c.args.roots.now _ c.roots_refusal-no.ensures c.if-no-ne0.false in
     let w = used in
@@ -30,7 +28,7 @@ rank_of-rank-requires c =
     }
 
 pub all_of_rank-requires : goal.all_of_rank-requires
-all_of_rank-requires c = 
+all_of_rank-requires c =
     let used : AllUsed c.args.elements.now c.args.roots.now =
     roots_used _ _ _ _ c.args.roots.now _ c.roots_refusal-no.ensures c.if-no-ne0.false in
     used
@@ -42,13 +40,13 @@ returns-then-not-all_of_rank c = let rank = c.rank_of-rank.ensures ∙ ap (λ (x
     (λ t l u. unlike_roots _ t l _ c.args.roots.now u rank same)
 
 pub common-s-requires : goal.common-s-requires
-common-s-requires c = 
+common-s-requires c =
     let used : AllUsed c.args.elements.now c.args.roots.now =
     roots_used _ _ _ _ c.args.roots.now _ c.roots_refusal-no.ensures c.if-no-ne0.false in
     record { every = used; some = pos_of_ne-zero c.if-roots-eq0.false }
 
 pub greatest-some-requires : goal.greatest-some-requires
-greatest-some-requires c = 
+greatest-some-requires c =
     let used : AllUsed c.args.elements.now c.args.roots.now =
     roots_used _ _ _ _ c.args.roots.now _ c.roots_refusal-no.ensures c.if-no-ne0.false in
     lent_long _ _ used.lent

@@ -2,7 +2,6 @@
 use Rattle.elements.specs.Marks.{marked_numbers}
 use Rattle.elements.proofs.RankLoops.{with_rank_marked}
 use Rattle.elements.proofs.QuestionReplies.{with_rank_lem, root_refused, root_used, root_answered}
-use borrow.Author.Rules.{rules}
 use Rattle.elements.proofs.questions.subelements_with_rank.Goals as goal
 
 pub returns-then-no-ne0 : goal.returns-then-no-ne0

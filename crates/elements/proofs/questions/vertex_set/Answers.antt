@@ -5,7 +5,6 @@ use Rattle.elements.specs.Ranks.{vertex_word}
 use Rattle.elements.proofs.BelowLoops.{lent_long}
 use Rattle.elements.proofs.RankLoops.{vertices_named}
 use Rattle.elements.proofs.QuestionReplies.{vertices, root_refused, root_used, root_answered}
-use borrow.Author.Rules.{rules}
 use Rattle.elements.proofs.questions.vertex_set.Goals as goal
 
 pub returns-then-no-ne0 : goal.returns-then-no-ne0

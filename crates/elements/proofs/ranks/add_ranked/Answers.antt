@@ -1,8 +1,6 @@
 -- By the two tests.
 use mathlib.Core.Path.{sym, ◌∙◌}
-use borrow.Author.Tests.{not-true, not-false}
 use Rattle.elements.proofs.RankLoops.{not_marked, other_rank, this_rank}
-use borrow.Author.Rules.{rules}
 use Rattle.elements.proofs.ranks.add_ranked.Goals as goal
 
 pub returns-then-not-marked : goal.returns-then-not-marked

@@ -1,10 +1,8 @@
 -- The ranks that are passed have none.
-use Prim.Native.Nat.{ℕ, ◌-◌, ◌≤◌, ◌<◌}
-use mathlib.Core.List.{List}
-use mathlib.Core.Path.{◌≡◌, sym, ◌∙◌, subst}
+use Prim.Native.Nat.{◌<◌}
+use mathlib.Core.Path.{sym, ◌∙◌, subst}
 use native.Mathlib.Omega.{arith}
-use lib.ListN.{length}
-use Rattle.elements.proofs.CommonLoops.{Descending, descending_start, descending_next, descending_found, descending_end}
+use Rattle.elements.proofs.CommonLoops.{descending_start, descending_next, descending_found, descending_end}
 use borrow.Author.Rules.{rules}
 use Rattle.elements.proofs.ranks.greatest.Goals as goal
 
@@ -16,10 +14,10 @@ returns-then-size-gt0 c = descending_found _ _ _ _ c.loop-i.invariant.none (sear
 
 pub loop-i-preserved : goal.loop-i-preserved
 loop-i-preserved c = record {
-      so_far = search rules;
-      long = search rules;
-      none = descending_next _ _ _ _ c.loop-i.invariant.none (search rules) _ c.with_rank-some.ensures (sym c.size.ensures ∙ (omega (arith, c.if-size-gt0.false)));
-    }
+  so_far = search rules;
+  long = search rules;
+  none = descending_next _ _ _ _ c.loop-i.invariant.none (search rules) _ c.with_rank-some.ensures (sym c.size.ensures ∙ (omega (arith, c.if-size-gt0.false)));
+}
 
 pub returns : goal.returns
 returns c = descending_end _ _ _ _ c.loop-i.invariant.none (omega arith) _ c.no_marks.ensures

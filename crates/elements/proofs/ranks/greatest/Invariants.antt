@@ -1,11 +1,9 @@
 -- The ranks that are passed have none.
-use Prim.Native.Nat.{ℕ, ◌-◌, ◌≤◌, ◌<◌}
+use Prim.Native.Nat.{ℕ, ◌-◌, ◌≤◌}
 use mathlib.Core.List.{List}
-use mathlib.Core.Path.{◌≡◌, sym, ◌∙◌, subst}
-use native.Mathlib.Omega.{arith}
+use mathlib.Core.Path.{◌≡◌}
 use lib.ListN.{length}
-use Rattle.elements.proofs.CommonLoops.{Descending, descending_start, descending_next, descending_found, descending_end}
-use borrow.Author.Rules.{rules}
+use Rattle.elements.proofs.CommonLoops.{Descending}
 use Rattle.elements.proofs.ranks.greatest.Given as goal
 
 pub record Down (es ws : List ℕ) (rank i : ℕ) : Type 0 where

@@ -1,11 +1,7 @@
 -- Those from what is left on are as they should be, and before it none is marked: what is not in the set is passed over.
-use Prim.Native.Nat.{ℕ, ◌≤◌}
-use mathlib.Core.List.{List}
-use mathlib.Core.Path.{◌≡◌}
 use native.Mathlib.Omega.{arith}
-use lib.ListN.{length}
 use Rattle.elements.proofs.MarkLaws.{none_marked}
-use Rattle.elements.proofs.RankLoops.{Ranking, ranking_start, ranking_next, ranking_end}
+use Rattle.elements.proofs.RankLoops.{ranking_start, ranking_next, ranking_end}
 use borrow.Author.Rules.{rules}
 use Rattle.elements.proofs.ranks.with_rank.Goals as goal
 
@@ -14,10 +10,10 @@ loop-left-init c = record { low = search rules; long = search rules; ranking = r
 
 pub loop-left-preserved : goal.loop-left-preserved
 loop-left-preserved c = record {
-      low = search rules;
-      long = search rules;
-      ranking = ranking_next _ _ _ _ _ c.loop-left.invariant.ranking _ _ (search rules) (search rules) c.down_to-e.ensures c.add_ranked.ensures;
-    }
+  low = search rules;
+  long = search rules;
+  ranking = ranking_next _ _ _ _ _ c.loop-left.invariant.ranking _ _ (search rules) (search rules) c.down_to-e.ensures c.add_ranked.ensures;
+}
 
 pub returns : goal.returns
 returns c = ranking_end _ _ _ _ _ c.loop-left.invariant.ranking (omega arith)

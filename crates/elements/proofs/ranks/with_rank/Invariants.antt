@@ -2,11 +2,8 @@
 use Prim.Native.Nat.{ℕ, ◌≤◌}
 use mathlib.Core.List.{List}
 use mathlib.Core.Path.{◌≡◌}
-use native.Mathlib.Omega.{arith}
 use lib.ListN.{length}
-use Rattle.elements.proofs.MarkLaws.{none_marked}
-use Rattle.elements.proofs.RankLoops.{Ranking, ranking_start, ranking_next, ranking_end}
-use borrow.Author.Rules.{rules}
+use Rattle.elements.proofs.RankLoops.{Ranking}
 use Rattle.elements.proofs.ranks.with_rank.Given as goal
 
 pub record Down (es ws : List ℕ) (rank : ℕ) (out : List ℕ) (left : ℕ) : Type 0 where

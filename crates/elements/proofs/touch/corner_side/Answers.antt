@@ -7,7 +7,6 @@ use Rattle.rules.specs.Floats.{side_of}
 use Rattle.rules.specs.declared.SideTest.{SideTest}
 use Rattle.hypermath.specs.Answers.{distance_to}
 use Rattle.space.specs.Shared.{stored_point}
-use borrow.Author.Rules.{rules}
 use Rattle.elements.proofs.touch.corner_side.Goals as goal
 
 pub returns : goal.returns

@@ -1,11 +1,6 @@
 -- The corners of the words that are left are to be tested.
-use Prim.Native.Nat.{ℕ, ◌-◌, ◌≤◌}
-use mathlib.Core.List.{List}
 use native.Mathlib.Omega.{arith}
-use lib.Ieee.{Float}
-use Rattle.rules.specs.declared.Hyperplane.{Hyperplane}
-use Rattle.elements.specs.declared.touch.Tested.{Tested}
-use Rattle.elements.proofs.TouchLoops.{AllTesting, all_start, word_testable, all_next, all_ends}
+use Rattle.elements.proofs.TouchLoops.{all_start, word_testable, all_next, all_ends}
 use borrow.Author.Rules.{rules}
 use Rattle.elements.proofs.touch.test_corners.Goals as goal
 

@@ -3,7 +3,6 @@ use mathlib.Core.Bool.{Bool}
 use mathlib.Core.Path.{sym, ap₂}
 use Rattle.rules.specs.Touch.{touch_by}
 use Rattle.rules.specs.declared.TouchReply.TheVariants.{Touched}
-use borrow.Author.Rules.{rules}
 use Rattle.elements.proofs.touch.told.Goals as goal
 
 pub returns-then-s-2 : goal.returns-then-s-2

@@ -1,11 +1,6 @@
 -- What was asked is refused, answered by rule 1, or read from the corners: each way the code goes is a case of the reply.
-use mathlib.Core.Path.{◌≡◌, sym, ◌∙◌}
-use Rattle.rules.specs.Held.{memory_of}
 use Rattle.space.proofs.Indexing.{index_blank}
-use Rattle.soundness.specs.Asked.{asked}
-use Rattle.soundness.specs.declared.asked.Asking.{Asking}
 use Rattle.elements.proofs.TouchReplies.{refused, all_inside, all_outside, touch_ready, corners_replied}
-use borrow.Author.Rules.{rules}
 use Rattle.elements.proofs.touch.touch.Goals as goal
 
 pub divider_asked-asked-requires : goal.divider_asked-asked-requires

@@ -2,7 +2,6 @@
 use native.Mathlib.Omega.{arith}
 use Rattle.space.proofs.Slices.{slices}
 use Rattle.elements.proofs.TouchLoops.{ready_corners, finite_touched}
-use borrow.Author.Rules.{rules}
 use Rattle.elements.proofs.touch.touch_finite.Goals as goal
 
 pub bounds-counts-0 : goal.bounds-counts-0

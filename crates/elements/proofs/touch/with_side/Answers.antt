@@ -1,7 +1,6 @@
 -- One case for each side.
 use mathlib.Core.Path.{sym, ap}
 use Rattle.elements.specs.Touches.{with_side}
-use borrow.Author.Rules.{rules}
 use Rattle.elements.proofs.touch.with_side.Goals as goal
 
 pub returns-in-Inside : goal.returns-in-Inside

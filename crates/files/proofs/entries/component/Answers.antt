@@ -2,7 +2,6 @@
 use Prim.Native.Nat.{suc}
 use mathlib.Core.Path.{sym, ◌∙◌}
 use native.Mathlib.Omega.{arith}
-use borrow.Author.Rules.{rules}
 use Rattle.rules.proofs.Laws.{if_true, if_false, test_le, test_above}
 use Rattle.files.proofs.EntriesRead.{zero_is}
 use Rattle.files.proofs.entries.component.Goals as goal

@@ -1,5 +1,4 @@
 -- The normal as a point, and the float behind it.
-use borrow.Author.Rules.{rules}
 use Rattle.files.proofs.EntriesRead.{plane_is}
 use Rattle.files.proofs.entries.plane_at.Goals as goal
 

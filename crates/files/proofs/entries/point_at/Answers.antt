@@ -1,5 +1,4 @@
 -- Axis by axis.
-use borrow.Author.Rules.{rules}
 use Rattle.files.proofs.EntriesRead.{point_is}
 use Rattle.files.proofs.entries.point_at.Goals as goal
 

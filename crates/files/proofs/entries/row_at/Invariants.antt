@@ -1,14 +1,10 @@
 -- The invariant: the four head words and the boundary so far, filled up with zeros.
-use Prim.Native.Nat.{ℕ, ◌+◌, ◌-◌, ◌≤◌, ◌<◌}
+use Prim.Native.Nat.{ℕ, ◌-◌, ◌≤◌}
 use mathlib.Core.List.{List}
-use mathlib.Core.Path.{◌≡◌, ap, ◌∙◌}
-use native.Mathlib.Omega.{arith}
-use lib.ListN.{length}
-use borrow.Author.Rules.{rules}
+use mathlib.Core.Path.{◌≡◌}
 use Rattle.rules.specs.Lists.{pad}
 use Rattle.space.specs.Numbers.{row_width}
 use Rattle.files.specs.Entries.{count_at, row_front}
-use Rattle.files.proofs.EntriesRead.{row_head, row_next}
 use Rattle.files.proofs.entries.row_at.Given as goal
 
 pub record Filled (bytes : List ℕ) (at n : ℕ) (row : List ℕ) (j : ℕ) : Type 0 where

@@ -1,10 +1,8 @@
 -- The hyperplanes that are left are sound exactly where all are, up to the first that is not.
-use Prim.Native.Nat.{◌-◌}
 use mathlib.Core.Path.{◌≡◌, sym, ◌∙◌}
 use lib.ListN.{get_or}
 use Rattle.rules.specs.Sound.{sound_plane}
 use Rattle.rules.specs.Files.{plane_in}
-use Rattle.rules.proofs.Laws.{not_true, not_false}
 use borrow.Author.Rules.{rules}
 use Rattle.files.proofs.Standing.{no_plane_there, PlaneHere, plane_here}
 use Rattle.files.proofs.Judging.{Left, all_left, inside, left_on, left_no, left_none, hyperplanes_told, axes_fit, hyperplane_is}
@@ -14,7 +12,7 @@ pub loop-h-init : goal.loop-h-init
 loop-h-init c = all_left (plane_in c.args.laid.dimension) (sound_plane c.args.laid.dimension) c.args.bytes.now _ _ c.args.laid.elements_at c.requires.table.planes c.requires.whole.plane_counted c.requires.whole.planes
 
 pub plane_at-plane-requires : goal.plane_at-plane-requires
-plane_at-plane-requires c = 
+plane_at-plane-requires c =
     let left : Left (plane_in c.args.laid.dimension) (sound_plane c.args.laid.dimension) c.args.bytes.now c.args.laid.planes_at c.args.laid.hyperplanes c.loop-h.at c.loop-h.h =
     c.loop-h.invariant in
     let here : PlaneHere c.args.laid.dimension c.args.bytes.now left.list left.end c.loop-h.at c.loop-h.h =
@@ -23,7 +21,7 @@ plane_at-plane-requires c =
     record { axes = axes_fit c.args.bytes.now c.args.laid c.requires; within = here.within }
 
 pub returns-then-not-hyperplane_sound : goal.returns-then-not-hyperplane_sound
-returns-then-not-hyperplane_sound c = 
+returns-then-not-hyperplane_sound c =
     let left : Left (plane_in c.args.laid.dimension) (sound_plane c.args.laid.dimension) c.args.bytes.now c.args.laid.planes_at c.args.laid.hyperplanes c.loop-h.at c.loop-h.h =
     c.loop-h.invariant in
     let here : PlaneHere c.args.laid.dimension c.args.bytes.now left.list left.end c.loop-h.at c.loop-h.h =
@@ -37,7 +35,7 @@ returns-then-not-hyperplane_sound c =
     (left_no (plane_in c.args.laid.dimension) (sound_plane c.args.laid.dimension) c.args.bytes.now s no_plane_there (search rules) (sym tested ∙ c.if-not-hyperplane_sound.true))
 
 pub overflow_add-at : goal.overflow_add-at
-overflow_add-at c = 
+overflow_add-at c =
     let left : Left (plane_in c.args.laid.dimension) (sound_plane c.args.laid.dimension) c.args.bytes.now c.args.laid.planes_at c.args.laid.hyperplanes c.loop-h.at c.loop-h.h =
     c.loop-h.invariant in
     let here : PlaneHere c.args.laid.dimension c.args.bytes.now left.list left.end c.loop-h.at c.loop-h.h =
@@ -46,7 +44,7 @@ overflow_add-at c =
     let w = here.within in search rules
 
 pub overflow_mul-at : goal.overflow_mul-at
-overflow_mul-at c = 
+overflow_mul-at c =
     let left : Left (plane_in c.args.laid.dimension) (sound_plane c.args.laid.dimension) c.args.bytes.now c.args.laid.planes_at c.args.laid.hyperplanes c.loop-h.at c.loop-h.h =
     c.loop-h.invariant in
     let here : PlaneHere c.args.laid.dimension c.args.bytes.now left.list left.end c.loop-h.at c.loop-h.h =
@@ -55,7 +53,7 @@ overflow_mul-at c =
     let w = here.within in search rules
 
 pub overflow_add-at-in-loop-h : goal.overflow_add-at-in-loop-h
-overflow_add-at-in-loop-h c = 
+overflow_add-at-in-loop-h c =
     let left : Left (plane_in c.args.laid.dimension) (sound_plane c.args.laid.dimension) c.args.bytes.now c.args.laid.planes_at c.args.laid.hyperplanes c.loop-h.at c.loop-h.h =
     c.loop-h.invariant in
     let here : PlaneHere c.args.laid.dimension c.args.bytes.now left.list left.end c.loop-h.at c.loop-h.h =
@@ -64,7 +62,7 @@ overflow_add-at-in-loop-h c =
     let w = here.within in search rules
 
 pub loop-h-preserved : goal.loop-h-preserved
-loop-h-preserved c = 
+loop-h-preserved c =
     let left : Left (plane_in c.args.laid.dimension) (sound_plane c.args.laid.dimension) c.args.bytes.now c.args.laid.planes_at c.args.laid.hyperplanes c.loop-h.at c.loop-h.h =
     c.loop-h.invariant in
     let here : PlaneHere c.args.laid.dimension c.args.bytes.now left.list left.end c.loop-h.at c.loop-h.h =
@@ -77,7 +75,7 @@ loop-h-preserved c =
     left_on (plane_in c.args.laid.dimension) (sound_plane c.args.laid.dimension) c.args.bytes.now s _ no_plane_there (search rules) (sym tested ∙ c.if-not-hyperplane_sound.false) here.rest
 
 pub returns : goal.returns
-returns c = 
+returns c =
     let left : Left (plane_in c.args.laid.dimension) (sound_plane c.args.laid.dimension) c.args.bytes.now c.args.laid.planes_at c.args.laid.hyperplanes c.loop-h.at c.loop-h.h =
     c.loop-h.invariant in
     let s = left in

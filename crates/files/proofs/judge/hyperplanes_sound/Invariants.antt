@@ -1,13 +1,8 @@
 -- The hyperplanes that are left are sound exactly where all are, up to the first that is not.
 use Prim.Native.Nat.{◌-◌}
-use mathlib.Core.Path.{◌≡◌, sym, ◌∙◌}
-use lib.ListN.{get_or}
 use Rattle.rules.specs.Sound.{sound_plane}
 use Rattle.rules.specs.Files.{plane_in}
-use Rattle.rules.proofs.Laws.{not_true, not_false}
-use borrow.Author.Rules.{rules}
-use Rattle.files.proofs.Standing.{no_plane_there, PlaneHere, plane_here}
-use Rattle.files.proofs.Judging.{Left, all_left, inside, left_on, left_no, left_none, hyperplanes_told, axes_fit, hyperplane_is}
+use Rattle.files.proofs.Judging.{Left}
 use Rattle.files.proofs.judge.hyperplanes_sound.Given as goal
 
 abbrev pub invariant-loop-h : goal.invariant-loop-h

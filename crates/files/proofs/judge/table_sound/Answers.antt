@@ -1,7 +1,5 @@
 -- A part that is not sound gives the answer; where all are, the rows do.
 use mathlib.Core.Path.{sym, ◌∙◌}
-use Rattle.rules.proofs.Laws.{not_true, not_false}
-use borrow.Author.Rules.{rules}
 use Rattle.files.specs.Judged.{SaysFitting}
 use Rattle.files.proofs.JudgedTable.{counts_not, widths_not, vertices_not, hyperplanes_not, by_rows}
 use Rattle.files.proofs.judge.table_sound.Goals as goal
@@ -13,7 +11,7 @@ pub returns-then-not-widths_fit : goal.returns-then-not-widths_fit
 returns-then-not-widths_fit c = widths_not _ _ c.widths_fit.ensures c.if-not-widths_fit.true
 
 pub vertices_sound-requires : goal.vertices_sound-requires
-vertices_sound-requires c = 
+vertices_sound-requires c =
     let fits : SaysFitting c.args.bytes.now c.args.laid =
     record {
       table = c.requires.table;
@@ -27,7 +25,7 @@ pub returns-then-not-vertices_sound : goal.returns-then-not-vertices_sound
 returns-then-not-vertices_sound c = vertices_not _ _ c.vertices_sound.ensures c.if-not-vertices_sound.true
 
 pub hyperplanes_sound-requires : goal.hyperplanes_sound-requires
-hyperplanes_sound-requires c = 
+hyperplanes_sound-requires c =
     let fits : SaysFitting c.args.bytes.now c.args.laid =
     record {
       table = c.requires.table;
@@ -41,7 +39,7 @@ pub returns-then-not-hyperplanes_sound : goal.returns-then-not-hyperplanes_sound
 returns-then-not-hyperplanes_sound c = hyperplanes_not _ _ c.hyperplanes_sound.ensures c.if-not-hyperplanes_sound.true
 
 pub rows_judged-requires : goal.rows_judged-requires
-rows_judged-requires c = 
+rows_judged-requires c =
     let fits : SaysFitting c.args.bytes.now c.args.laid =
     record {
       table = c.requires.table;

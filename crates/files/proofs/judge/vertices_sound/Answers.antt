@@ -1,12 +1,10 @@
 -- The vertices that are left are sound exactly where all are, up to the first that is not.
-use Prim.Native.Nat.{◌-◌}
 use mathlib.Core.List.{[]}
 use mathlib.Core.Path.{◌≡◌, sym, ◌∙◌}
 use native.Mathlib.Omega.{arith}
 use lib.ListN.{get_or}
 use Rattle.rules.specs.Sound.{sound_point}
 use Rattle.rules.specs.Files.{point_in}
-use Rattle.rules.proofs.Laws.{not_true, not_false}
 use borrow.Author.Rules.{rules}
 use Rattle.files.specs.Laid.{header_size}
 use Rattle.files.proofs.Standing.{PointHere, point_here}
@@ -17,7 +15,7 @@ pub loop-v-init : goal.loop-v-init
 loop-v-init c = all_left (point_in c.args.laid.dimension) (sound_point c.args.laid.dimension) c.args.bytes.now _ _ c.args.laid.planes_at c.requires.table.points c.requires.whole.vertex_counted c.requires.whole.points
 
 pub point_at-p-requires : goal.point_at-p-requires
-point_at-p-requires c = 
+point_at-p-requires c =
     let left : Left (point_in c.args.laid.dimension) (sound_point c.args.laid.dimension) c.args.bytes.now header_size c.args.laid.vertices c.loop-v.at c.loop-v.v =
     c.loop-v.invariant in
     let here : PointHere c.args.laid.dimension c.args.bytes.now left.list left.end c.loop-v.at c.loop-v.v =
@@ -29,7 +27,7 @@ pub coordinates_fit-requires : goal.coordinates_fit-requires
 coordinates_fit-requires c = record { order = omega arith; end = row_holds c.args.laid.dimension c.args.bytes.now c.loop-v.at c.point_at-p.ensures }
 
 pub returns-then-not-coordinates_fit : goal.returns-then-not-coordinates_fit
-returns-then-not-coordinates_fit c = 
+returns-then-not-coordinates_fit c =
     let left : Left (point_in c.args.laid.dimension) (sound_point c.args.laid.dimension) c.args.bytes.now header_size c.args.laid.vertices c.loop-v.at c.loop-v.v =
     c.loop-v.invariant in
     let here : PointHere c.args.laid.dimension c.args.bytes.now left.list left.end c.loop-v.at c.loop-v.v =
@@ -43,7 +41,7 @@ returns-then-not-coordinates_fit c =
     (left_no (point_in c.args.laid.dimension) (sound_point c.args.laid.dimension) c.args.bytes.now s [] (search rules) (sym tested ∙ c.if-not-coordinates_fit.true))
 
 pub overflow_add-at : goal.overflow_add-at
-overflow_add-at c = 
+overflow_add-at c =
     let left : Left (point_in c.args.laid.dimension) (sound_point c.args.laid.dimension) c.args.bytes.now header_size c.args.laid.vertices c.loop-v.at c.loop-v.v =
     c.loop-v.invariant in
     let here : PointHere c.args.laid.dimension c.args.bytes.now left.list left.end c.loop-v.at c.loop-v.v =
@@ -52,7 +50,7 @@ overflow_add-at c =
     let w = here.within in search rules
 
 pub overflow_mul-at : goal.overflow_mul-at
-overflow_mul-at c = 
+overflow_mul-at c =
     let left : Left (point_in c.args.laid.dimension) (sound_point c.args.laid.dimension) c.args.bytes.now header_size c.args.laid.vertices c.loop-v.at c.loop-v.v =
     c.loop-v.invariant in
     let here : PointHere c.args.laid.dimension c.args.bytes.now left.list left.end c.loop-v.at c.loop-v.v =
@@ -61,7 +59,7 @@ overflow_mul-at c =
     let w = here.within in search rules
 
 pub overflow_add-at-in-loop-v : goal.overflow_add-at-in-loop-v
-overflow_add-at-in-loop-v c = 
+overflow_add-at-in-loop-v c =
     let left : Left (point_in c.args.laid.dimension) (sound_point c.args.laid.dimension) c.args.bytes.now header_size c.args.laid.vertices c.loop-v.at c.loop-v.v =
     c.loop-v.invariant in
     let here : PointHere c.args.laid.dimension c.args.bytes.now left.list left.end c.loop-v.at c.loop-v.v =
@@ -70,7 +68,7 @@ overflow_add-at-in-loop-v c =
     let w = here.within in search rules
 
 pub loop-v-preserved : goal.loop-v-preserved
-loop-v-preserved c = 
+loop-v-preserved c =
     let left : Left (point_in c.args.laid.dimension) (sound_point c.args.laid.dimension) c.args.bytes.now header_size c.args.laid.vertices c.loop-v.at c.loop-v.v =
     c.loop-v.invariant in
     let here : PointHere c.args.laid.dimension c.args.bytes.now left.list left.end c.loop-v.at c.loop-v.v =
@@ -83,7 +81,7 @@ loop-v-preserved c =
     left_on (point_in c.args.laid.dimension) (sound_point c.args.laid.dimension) c.args.bytes.now s _ [] (search rules) (sym tested ∙ c.if-not-coordinates_fit.false) here.rest
 
 pub returns : goal.returns
-returns c = 
+returns c =
     let left : Left (point_in c.args.laid.dimension) (sound_point c.args.laid.dimension) c.args.bytes.now header_size c.args.laid.vertices c.loop-v.at c.loop-v.v =
     c.loop-v.invariant in
     let s = left in

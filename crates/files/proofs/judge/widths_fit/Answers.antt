@@ -1,5 +1,4 @@
 -- The elements whose boundaries are left fit exactly where all do, up to the first that does not.
-use Prim.Native.Nat.{◌-◌}
 use lib.ListN.{length}
 use Rattle.rules.specs.Files.{element_in}
 use Rattle.rules.specs.Table.{corner}
@@ -13,7 +12,7 @@ pub loop-e-init : goal.loop-e-init
 loop-e-init c = all_left element_in width_fits c.args.bytes.now _ _ (length c.args.bytes.now) c.requires.table.elements c.requires.whole.element_counted c.requires.whole.elements
 
 pub overflow_add-at : goal.overflow_add-at
-overflow_add-at c = 
+overflow_add-at c =
     let left : Left element_in width_fits c.args.bytes.now c.args.laid.elements_at c.args.laid.elements c.loop-e.at c.loop-e.e =
     c.loop-e.invariant in
     let here : ElementHere c.args.bytes.now left.list left.end c.loop-e.at c.loop-e.e =
@@ -22,7 +21,7 @@ overflow_add-at c =
     let w = here.within in search rules
 
 pub two-n-requires : goal.two-n-requires
-two-n-requires c = 
+two-n-requires c =
     let left : Left element_in width_fits c.args.bytes.now c.args.laid.elements_at c.args.laid.elements c.loop-e.at c.loop-e.e =
     c.loop-e.invariant in
     let here : ElementHere c.args.bytes.now left.list left.end c.loop-e.at c.loop-e.e =
@@ -31,7 +30,7 @@ two-n-requires c =
     let w = here.within in search rules
 
 pub returns-then-n-gt-BOUNDARY : goal.returns-then-n-gt-BOUNDARY
-returns-then-n-gt-BOUNDARY c = 
+returns-then-n-gt-BOUNDARY c =
     let left : Left element_in width_fits c.args.bytes.now c.args.laid.elements_at c.args.laid.elements c.loop-e.at c.loop-e.e =
     c.loop-e.invariant in
     let here : ElementHere c.args.bytes.now left.list left.end c.loop-e.at c.loop-e.e =
@@ -42,7 +41,7 @@ returns-then-n-gt-BOUNDARY c =
     (left_no element_in width_fits c.args.bytes.now s (corner 0) (search rules) (too_wide c.args.bytes.now s.list s.end here c.two-n.ensures.value (search rules)))
 
 pub overflow_add-at-in-loop-e : goal.overflow_add-at-in-loop-e
-overflow_add-at-in-loop-e c = 
+overflow_add-at-in-loop-e c =
     let left : Left element_in width_fits c.args.bytes.now c.args.laid.elements_at c.args.laid.elements c.loop-e.at c.loop-e.e =
     c.loop-e.invariant in
     let here : ElementHere c.args.bytes.now left.list left.end c.loop-e.at c.loop-e.e =
@@ -51,7 +50,7 @@ overflow_add-at-in-loop-e c =
     let w = here.within in search rules
 
 pub overflow_add-at-in-loop-e-2 : goal.overflow_add-at-in-loop-e-2
-overflow_add-at-in-loop-e-2 c = 
+overflow_add-at-in-loop-e-2 c =
     let left : Left element_in width_fits c.args.bytes.now c.args.laid.elements_at c.args.laid.elements c.loop-e.at c.loop-e.e =
     c.loop-e.invariant in
     let here : ElementHere c.args.bytes.now left.list left.end c.loop-e.at c.loop-e.e =
@@ -60,7 +59,7 @@ overflow_add-at-in-loop-e-2 c =
     let w = here.within in search rules
 
 pub loop-e-preserved : goal.loop-e-preserved
-loop-e-preserved c = 
+loop-e-preserved c =
     let left : Left element_in width_fits c.args.bytes.now c.args.laid.elements_at c.args.laid.elements c.loop-e.at c.loop-e.e =
     c.loop-e.invariant in
     let here : ElementHere c.args.bytes.now left.list left.end c.loop-e.at c.loop-e.e =
@@ -70,7 +69,7 @@ loop-e-preserved c =
     left_on element_in width_fits c.args.bytes.now s _ (corner 0) (search rules) (width_fits_lem c.args.bytes.now s.list s.end here c.two-n.ensures.value (search rules)) (stands_next c.args.bytes.now s.list s.end here c.two-n.ensures.value)
 
 pub returns : goal.returns
-returns c = 
+returns c =
     let left : Left element_in width_fits c.args.bytes.now c.args.laid.elements_at c.args.laid.elements c.loop-e.at c.loop-e.e =
     c.loop-e.invariant in
     let s = left in

@@ -4,7 +4,6 @@ use mathlib.Core.Path.{refl}
 use native.Mathlib.Omega.{arith}
 use Rattle.rules.proofs.Laws.{test_eq, not_eq}
 use Rattle.files.proofs.Sizes.{begins_short, begins_by}
-use borrow.Author.Rules.{rules}
 use Rattle.files.proofs.layout.begins_with.Goals as goal
 
 pub returns-then-bytes-at-lt2 : goal.returns-then-bytes-at-lt2

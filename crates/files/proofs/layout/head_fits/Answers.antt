@@ -6,7 +6,6 @@ use lib.Dec.{eqb}
 use Rattle.rules.specs.Limits.{no_plane}
 use Rattle.rules.proofs.Laws.{test_le, test_above, test_eq, not_eq}
 use Rattle.files.proofs.Passes.{fits_by}
-use borrow.Author.Rules.{rules}
 use Rattle.files.proofs.layout.head_fits.Goals as goal
 
 pub returns-then-mark-gt1 : goal.returns-then-mark-gt1

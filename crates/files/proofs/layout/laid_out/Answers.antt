@@ -29,7 +29,8 @@ returns-in_default-many_of c =
     let header : Header c.args.bytes.now c.two-dimension.result c.two-elements.result c.two-vertices.result c.two-hyperplanes.result =
     record { begun = begun; dimension = c.two-dimension.ensures.value; elements = c.two-elements.ensures.value; vertices = c.two-vertices.ensures.value; hyperplanes = c.two-hyperplanes.ensures.value } in
     let points : Together (point_in c.two-dimension.result) c.args.bytes.now header_size c.two-vertices.result c.in-At.planes_at = all_together _ _ _ _ _ _ c.many_of.ensures c.in-At.is in
-    no_planes c.args.bytes.now c.two-dimension.result c.two-elements.result c.two-vertices.result c.two-hyperplanes.result header _ points _ (all_broken _ _ _ _ _ c.many_of-2.ensures c.in_default-many_of.is) c.broken-in_default-many_of.ensures
+    no_planes c.args.bytes.now c.two-dimension.result c.two-elements.result c.two-vertices.result c.two-hyperplanes.result header _ points _
+    (all_broken _ _ _ _ _ c.many_of-2.ensures c.in_default-many_of.is) c.broken-in_default-many_of.ensures
 
 pub many_of-requires-3 : goal.many_of-requires-3
 many_of-requires-3 c =
@@ -43,7 +44,8 @@ returns-in_default-many_of-2 c =
     record { begun = begun; dimension = c.two-dimension.ensures.value; elements = c.two-elements.ensures.value; vertices = c.two-vertices.ensures.value; hyperplanes = c.two-hyperplanes.ensures.value } in
     let points : Together (point_in c.two-dimension.result) c.args.bytes.now header_size c.two-vertices.result c.in-At.planes_at = all_together _ _ _ _ _ _ c.many_of.ensures c.in-At.is in
     let planes : Together (plane_in c.two-dimension.result) c.args.bytes.now c.in-At.planes_at c.two-hyperplanes.result c.in-At-many_of.elements_at = all_together _ _ _ _ _ _ c.many_of-2.ensures c.in-At-many_of.is in
-    no_elements c.args.bytes.now c.two-dimension.result c.two-elements.result c.two-vertices.result c.two-hyperplanes.result header _ points _ planes _ (all_broken _ _ _ _ _ c.many_of-3.ensures c.in_default-many_of-2.is) c.broken-in_default-many_of-2.ensures
+    no_elements c.args.bytes.now c.two-dimension.result c.two-elements.result c.two-vertices.result c.two-hyperplanes.result header _ points _ planes _
+    (all_broken _ _ _ _ _ c.many_of-3.ensures c.in_default-many_of-2.is) c.broken-in_default-many_of-2.ensures
 
 pub returns-then-end-bytes : goal.returns-then-end-bytes
 returns-then-end-bytes c =

@@ -1,7 +1,5 @@
 -- As many as were passed stand together, up to where the next begins.
-use Prim.Native.Nat.{◌≤◌, ◌-◌}
 use native.Mathlib.Omega.{arith}
-use Rattle.files.specs.Passed.{reader, Together}
 use Rattle.files.proofs.Passes.{one_broken, one_read, together_none, together_more, together_within, stopped, passed}
 use borrow.Author.Rules.{rules}
 use Rattle.files.proofs.layout.many_of.Goals as goal

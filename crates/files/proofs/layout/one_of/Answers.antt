@@ -1,7 +1,6 @@
 -- By its kind.
 use mathlib.Core.Path.{sym, subst}
 use Rattle.files.specs.Passed.{reader, Ends}
-use borrow.Author.Rules.{rules}
 use Rattle.files.proofs.layout.one_of.Goals as goal
 
 pub returns-in-Vertices : goal.returns-in-Vertices

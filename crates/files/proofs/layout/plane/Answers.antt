@@ -1,8 +1,6 @@
 -- Not begun, or its floats are there, whatever they are.
 use mathlib.Core.Path.{sym, ◌∙◌}
-use Rattle.rules.proofs.Laws.{not_true, not_false}
 use Rattle.files.proofs.Passes.{no_plane_lem, plane_ends}
-use borrow.Author.Rules.{rules}
 use Rattle.files.proofs.layout.plane.Goals as goal
 
 pub returns-then-not-begins_with : goal.returns-then-not-begins_with

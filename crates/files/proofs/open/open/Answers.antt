@@ -2,7 +2,6 @@
 use mathlib.Core.Bool.{true}
 use mathlib.Core.Path.{◌≡◌, sym, ◌∙◌}
 use borrow.Author.Tests.{not-true, not-false}
-use borrow.Author.Rules.{rules}
 use Rattle.rules.specs.Limits.{desk}
 use Rattle.rules.specs.Memory.{Memory, right_size}
 use Rattle.rules.specs.Sound.{sound}
@@ -16,7 +15,7 @@ pub returns-then-not-laid : goal.returns-then-not-laid
 returns-then-not-laid c = open_broken _ _ c.laid_out-laid.ensures (not-true _ c.if-not-laid.true)
 
 pub returns-then-not-right_size : goal.returns-then-not-right_size
-returns-then-not-right_size c = 
+returns-then-not-right_size c =
     let lent : Memory =
     memory_of c.args.counts.now c.args.points.now c.args.planes.now c.args.elements.now in
     let says : Says c.args.file.now c.laid_out-laid.result =
@@ -24,13 +23,13 @@ returns-then-not-right_size c =
     open_other_size c.args.file.now lent says (sym c.right_size.ensures ∙ c.if-not-right_size.true)
 
 pub table_sound-requires : goal.table_sound-requires
-table_sound-requires c = 
+table_sound-requires c =
     let says : Says c.args.file.now c.laid_out-laid.result =
     told_says c.laid_out-laid.ensures (not-false _ c.if-not-laid.false) in
     says
 
 pub returns-then-not-table_sound : goal.returns-then-not-table_sound
-returns-then-not-table_sound c = 
+returns-then-not-table_sound c =
     let lent : Memory =
     memory_of c.args.counts.now c.args.points.now c.args.planes.now c.args.elements.now in
     let says : Says c.args.file.now c.laid_out-laid.result =
@@ -38,7 +37,7 @@ returns-then-not-table_sound c =
     open_not_sound c.args.file.now lent says c.table_sound.ensures c.if-not-table_sound.true
 
 pub put-requires : goal.put-requires
-put-requires c = 
+put-requires c =
     let lent : Memory =
     memory_of c.args.counts.now c.args.points.now c.args.planes.now c.args.elements.now in
     let says : Says c.args.file.now c.laid_out-laid.result =
@@ -50,7 +49,7 @@ put-requires c =
     sound_ready c.args.counts.now c.args.points.now c.args.planes.now c.args.elements.now says.table says.whole sound_is size_is
 
 pub returns : goal.returns
-returns c = 
+returns c =
     let lent : Memory =
     memory_of c.args.counts.now c.args.points.now c.args.planes.now c.args.elements.now in
     let says : Says c.args.file.now c.laid_out-laid.result =

@@ -1,5 +1,4 @@
 -- Slice by slice; what the bytes say is what each part asks.
-use borrow.Author.Rules.{rules}
 use Rattle.files.proofs.PutTable.{counts_ready, points_ready, planes_ready, elements_ready, table_put}
 use Rattle.files.proofs.put.put.Goals as goal
 

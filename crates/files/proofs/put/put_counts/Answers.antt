@@ -1,6 +1,5 @@
 -- Four words, one after another, are all of the slice.
 use mathlib.Core.List.{[], ◌∷◌}
-use borrow.Author.Rules.{rules}
 use Rattle.files.proofs.PutRows.{stored_whole}
 use Rattle.files.proofs.put.put_counts.Goals as goal
 

@@ -1,12 +1,8 @@
 -- The invariant: the rows so far, and the run goes on at the next record.
-use Prim.Native.Nat.{◌-◌}
 use native.Mathlib.Omega.{arith}
 use borrow.Author.Rules.{rules}
-use Rattle.rules.specs.Limits.{desk}
-use Rattle.rules.specs.Held.{element_words}
-use Rattle.rules.specs.Files.{element_in}
 use Rattle.files.specs.Entries.{RowReady}
-use Rattle.files.proofs.PutRows.{RowsSoFar, none_put, all_put}
+use Rattle.files.proofs.PutRows.{none_put, all_put}
 use Rattle.files.proofs.PutRecords.{element_ready, element_put}
 use Rattle.files.proofs.put.put_elements.Goals as goal
 
@@ -14,19 +10,19 @@ pub loop-i-init : goal.loop-i-init
 loop-i-init c = none_put _ _ _ _ _ _ _ c.requires
 
 pub row_at-row-requires : goal.row_at-row-requires
-row_at-row-requires c = 
+row_at-row-requires c =
     let here : RowReady c.args.bytes.now c.loop-i.at =
     element_ready c.loop-i.invariant (search rules) in
     here
 
 pub overflow_add-at : goal.overflow_add-at
-overflow_add-at c = 
+overflow_add-at c =
     let here : RowReady c.args.bytes.now c.loop-i.at =
     element_ready c.loop-i.invariant (search rules) in
     let w = here.within in omega (arith, w)
 
 pub overflow_add-at-in-loop-i : goal.overflow_add-at-in-loop-i
-overflow_add-at-in-loop-i c = 
+overflow_add-at-in-loop-i c =
     let here : RowReady c.args.bytes.now c.loop-i.at =
     element_ready c.loop-i.invariant (search rules) in
     let w = here.within in

@@ -1,13 +1,9 @@
 -- The invariant: the rows so far, and the run goes on at the next record.
 use Prim.Native.Nat.{◌-◌}
-use native.Mathlib.Omega.{arith}
-use borrow.Author.Rules.{rules}
 use Rattle.rules.specs.Limits.{desk}
 use Rattle.rules.specs.Held.{element_words}
 use Rattle.rules.specs.Files.{element_in}
-use Rattle.files.specs.Entries.{RowReady}
-use Rattle.files.proofs.PutRows.{RowsSoFar, none_put, all_put}
-use Rattle.files.proofs.PutRecords.{element_ready, element_put}
+use Rattle.files.proofs.PutRows.{RowsSoFar}
 use Rattle.files.proofs.put.put_elements.Given as goal
 
 abbrev pub invariant-loop-i : goal.invariant-loop-i

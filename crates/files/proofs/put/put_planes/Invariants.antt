@@ -1,14 +1,9 @@
 -- The invariant: the rows so far, and the run goes on at the next record.
 use Prim.Native.Nat.{◌-◌}
-use native.Mathlib.Omega.{arith}
-use borrow.Author.Rules.{rules}
 use Rattle.rules.specs.Limits.{desk}
-use Rattle.rules.specs.Floats.{plus_zero}
 use Rattle.rules.specs.Memory.{plane_row}
 use Rattle.rules.specs.Files.{plane_in}
-use Rattle.files.specs.Entries.{PlaneReady}
-use Rattle.files.proofs.PutRows.{RowsSoFar, none_put, all_put}
-use Rattle.files.proofs.PutRecords.{plane_ready, plane_put}
+use Rattle.files.proofs.PutRows.{RowsSoFar}
 use Rattle.files.proofs.put.put_planes.Given as goal
 
 abbrev pub invariant-loop-i : goal.invariant-loop-i

@@ -1,12 +1,9 @@
 -- The invariant: the rows so far, and the run goes on at the next record.
-use Prim.Native.Nat.{◌-◌}
 use native.Mathlib.Omega.{arith}
 use borrow.Author.Rules.{rules}
-use Rattle.rules.specs.Lists.{pad}
 use Rattle.rules.specs.Floats.{plus_zero}
-use Rattle.rules.specs.Files.{point_in}
 use Rattle.files.specs.Entries.{PointReady}
-use Rattle.files.proofs.PutRows.{RowsSoFar, none_put, all_put}
+use Rattle.files.proofs.PutRows.{none_put, all_put}
 use Rattle.files.proofs.PutRecords.{point_ready, point_put}
 use Rattle.files.proofs.put.put_points.Goals as goal
 
@@ -14,19 +11,19 @@ pub loop-i-init : goal.loop-i-init
 loop-i-init c = none_put _ _ _ _ _ _ _ c.requires.records_ready
 
 pub point_at-p-requires : goal.point_at-p-requires
-point_at-p-requires c = 
+point_at-p-requires c =
     let here : PointReady c.args.bytes.now c.loop-i.at c.args.d =
     point_ready c.loop-i.invariant c.requires.d_le_dimensions (search rules) in
     here
 
 pub overflow_add-at : goal.overflow_add-at
-overflow_add-at c = 
+overflow_add-at c =
     let here : PointReady c.args.bytes.now c.loop-i.at c.args.d =
     point_ready c.loop-i.invariant c.requires.d_le_dimensions (search rules) in
     let w = here.within in omega (arith, w)
 
 pub overflow_add-at-in-loop-i : goal.overflow_add-at-in-loop-i
-overflow_add-at-in-loop-i c = 
+overflow_add-at-in-loop-i c =
     let here : PointReady c.args.bytes.now c.loop-i.at c.args.d =
     point_ready c.loop-i.invariant c.requires.d_le_dimensions (search rules) in
     let w = here.within in omega (arith, w)

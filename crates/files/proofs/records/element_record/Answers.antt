@@ -1,7 +1,6 @@
 -- The mark, the row's first two words in a byte each behind it, and its other words in two behind them.
 use Prim.Native.Nat.{◌+◌, ◌*◌}
 use native.Mathlib.Omega.{arith}
-use borrow.Author.Rules.{rules}
 use Rattle.lent_bytes.proofs.Puts.{put_length}
 use Rattle.files.proofs.SavedRecords.{numbers_part, front_part, count_low, element_room_lem, element_put}
 use Rattle.files.proofs.records.element_record.Goals as goal
@@ -21,7 +20,11 @@ numbers-requires c = let l = put_length c.mark-end.ensures in
     let w = numbers_part 1 c.args.elements.now (c.args.e * 36) (c.args.e * 36 + 2) (omega (arith, c.requires.stored)) in
     let low = count_low c.args.e c.args.elements.now c.requires.stored c.requires.clear in
     let r = element_room_lem c.args.e c.args.elements.now c.requires in
-    record { part = record { rising = omega arith; within = omega (arith, c.wide-n.ensures.value, c.requires.stored, low) }; fits_room = omega (arith, c.wide-n.ensures.value, l, c.mark-end.ensures.place, k, c.numbers-middle.ensures.place, w, r) }
+    record {
+      part = record { rising = omega arith; within = omega (arith, c.wide-n.ensures.value, c.requires.stored, low) };
+      fits_room = omega
+          (arith, c.wide-n.ensures.value, l, c.mark-end.ensures.place, k, c.numbers-middle.ensures.place, w, r);
+    }
 
 pub returns : goal.returns
 returns c = element_put c.args.e c.args.elements.now c.requires _ c.wide-n.ensures.value c.mark-end.ensures c.numbers-middle.ensures c.numbers.ensures

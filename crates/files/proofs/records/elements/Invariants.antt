@@ -1,8 +1,7 @@
 -- The invariant: the records that are left, put behind those that stand there, make all of them.
 use Prim.Native.Nat.{◌-◌}
-use borrow.Author.Rules.{rules}
-use Rattle.files.specs.Saved.{count_fits, row_saved}
-use Rattle.files.proofs.SavedRows.{SavedSoFar, none_saved, row_ready, one_saved, all_saved}
+use Rattle.files.specs.Saved.{row_saved}
+use Rattle.files.proofs.SavedRows.{SavedSoFar}
 use Rattle.files.proofs.records.elements.Given as goal
 
 abbrev pub invariant-loop-e : goal.invariant-loop-e

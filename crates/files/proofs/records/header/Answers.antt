@@ -1,5 +1,4 @@
 -- The mark, and the four counts behind it.
-use borrow.Author.Rules.{rules}
 use Rattle.files.proofs.SavedRecords.{header_put}
 use Rattle.files.proofs.records.header.Goals as goal
 

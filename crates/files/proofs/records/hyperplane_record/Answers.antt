@@ -1,7 +1,6 @@
 -- The mark, the components behind it, and the distance behind them.
 use Prim.Native.Nat.{◌+◌, ◌*◌}
 use native.Mathlib.Omega.{arith}
-use borrow.Author.Rules.{rules}
 use Rattle.lent_bytes.proofs.Puts.{put_length}
 use Rattle.files.proofs.SavedRecords.{floats_part, plane_room_lem, plane_part, plane_numbers, distance_number, plane_put}
 use Rattle.files.proofs.records.hyperplane_record.Goals as goal
@@ -13,7 +12,12 @@ mark-end-requires c = let r = plane_room_lem c.args.d c.args.i c.args.planes.now
 pub floats-last-requires : goal.floats-last-requires
 floats-last-requires c = let l = put_length c.mark-end.ensures in
     let r = plane_room_lem c.args.d c.args.i c.args.planes.now c.requires.d_le_dimensions c.requires.row_ready in
-    record { part = plane_part c.args.d c.args.i c.args.planes.now c.requires.d_le_dimensions c.requires.row_ready; are_numbers = plane_numbers c.args.d c.args.i c.args.planes.now c.requires.d_le_dimensions c.requires.row_ready; fits_room = omega (arith, l, c.mark-end.ensures.place, r) }
+    record {
+      part = plane_part c.args.d c.args.i c.args.planes.now c.requires.d_le_dimensions c.requires.row_ready;
+      are_numbers =
+          plane_numbers c.args.d c.args.i c.args.planes.now c.requires.d_le_dimensions c.requires.row_ready;
+      fits_room = omega (arith, l, c.mark-end.ensures.place, r);
+    }
 
 pub float-requires : goal.float-requires
 float-requires c = let l = put_length c.mark-end.ensures in

@@ -1,15 +1,18 @@
 -- The invariant: the records that are left, put behind those that stand there, make all of them.
-use Prim.Native.Nat.{◌-◌}
 use borrow.Author.Rules.{rules}
 use Rattle.files.specs.Saved.{plane_clear, plane_saved}
-use Rattle.files.proofs.SavedRows.{SavedSoFar, none_saved, row_ready, one_saved, all_saved}
+use Rattle.files.proofs.SavedRows.{none_saved, row_ready, one_saved, all_saved}
 use Rattle.files.proofs.records.hyperplanes.Goals as goal
 
 pub loop-i-init : goal.loop-i-init
 loop-i-init c = none_saved _ _ _ _ _ _
 
 pub hyperplane_record-end-requires : goal.hyperplane_record-end-requires
-hyperplane_record-end-requires c = record { d_le_dimensions = c.requires.d_le_dimensions; row_ready = row_ready (plane_saved c.args.d) 5 c.args.n c.args.planes.now c.loop-i.invariant (plane_clear c.args.d) c.requires.rows_ready (search rules) }
+hyperplane_record-end-requires c = record {
+  d_le_dimensions = c.requires.d_le_dimensions;
+  row_ready = row_ready (plane_saved c.args.d) 5 c.args.n c.args.planes.now c.loop-i.invariant (plane_clear c.args.d) c.requires.rows_ready
+      (search rules);
+}
 
 pub loop-i-preserved : goal.loop-i-preserved
 loop-i-preserved c = one_saved _ _ _ c.args.planes.now c.loop-i.invariant (search rules) c.hyperplane_record-end.ensures

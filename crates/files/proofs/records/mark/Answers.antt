@@ -1,7 +1,6 @@
 -- Two stores, one behind the other.
 use native.Mathlib.Omega.{arith}
 use lib.ListN.{length-set}
-use borrow.Author.Rules.{rules}
 use Rattle.files.proofs.SavedRecords.{put_two}
 use Rattle.files.proofs.records.mark.Goals as goal
 

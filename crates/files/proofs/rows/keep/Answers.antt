@@ -1,6 +1,5 @@
 -- Four words are written, one behind the other.
 use mathlib.Core.Path.{refl}
-use borrow.Author.Rules.{rules}
 use Rattle.files.specs.Kept.{kept_with}
 use Rattle.files.proofs.rows.keep.Goals as goal
 

@@ -8,14 +8,12 @@ use native.Mathlib.Omega.{arith}
 use lib.Dec.{eqb}
 use lib.ListN.{get_or}
 use lib.Seq.{take_all}
-use borrow.Author.Rules.{rules}
 use Rattle.rules.specs.Held.{Fits, elements_of}
 use Rattle.rules.specs.Limits.{desk}
 use Rattle.rules.specs.Lists.{alike}
 use Rattle.rules.specs.Table.{Table, element_count}
 use Rattle.space.proofs.Indexing.{Met, met_start, met_less, met_on, met_end}
 use Rattle.space.specs.Chains.{key_of}
-use Rattle.files.specs.Laid.{Whole}
 use Rattle.files.proofs.KeptRows.{one_table, says_fits, says_few, says_room, kept_ready, kept_own}
 use Rattle.files.proofs.rows.last_kept.Goals as goal
 use Rattle.files.proofs.rows.last_kept.Goals.{then-same_as_kept, else-same_as_kept}
@@ -27,14 +25,15 @@ loop-x-init c = λ t w.
     (c.wide-x.ensures.value ∙ ap (λ (i : ℕ). get_or c.args.index.now i 0) key)
 
 pub same_as_kept-requires : goal.same_as_kept-requires
-same_as_kept-requires c = 
+same_as_kept-requires c =
     let met : Met (elements_of desk c.requires.says.table) c.args.n c.args.row.now c.loop-x.met c.loop-x.x =
     c.loop-x.invariant c.requires.says.table c.requires.says.whole in
     let m = met.room in
-    kept_ready c.args.bytes.now c.args.laid c.requires.says.table (c.requires.keeps c.requires.says.table c.requires.says.whole) (says_fits c.requires.says) (omega (arith, m, c.loop-x-test.true)) (says_few c.requires.says c.requires.few) c.args.row.now c.requires.long
+    kept_ready c.args.bytes.now c.args.laid c.requires.says.table (c.requires.keeps c.requires.says.table c.requires.says.whole) (says_fits c.requires.says) (omega (arith, m, c.loop-x-test.true))
+    (says_few c.requires.says c.requires.few) c.args.row.now c.requires.long
 
 pub overflow_add-x : goal.overflow_add-x
-overflow_add-x c = 
+overflow_add-x c =
     let met : Met (elements_of desk c.requires.says.table) c.args.n c.args.row.now c.loop-x.met c.loop-x.x =
     c.loop-x.invariant c.requires.says.table c.requires.says.whole in
     let m = met.room in
@@ -42,7 +41,7 @@ overflow_add-x c =
     omega (arith, m, n)
 
 pub offset_bounds-index-x : goal.offset_bounds-index-x
-offset_bounds-index-x c = 
+offset_bounds-index-x c =
     let met : Met (elements_of desk c.requires.says.table) c.args.n c.args.row.now c.loop-x.met c.loop-x.x =
     c.loop-x.invariant c.requires.says.table c.requires.says.whole in
     let m = met.room in
@@ -50,7 +49,7 @@ offset_bounds-index-x c =
     omega (arith, m, n)
 
 pub bounds-index-x : goal.bounds-index-x
-bounds-index-x c = 
+bounds-index-x c =
     let met : Met (elements_of desk c.requires.says.table) c.args.n c.args.row.now c.loop-x.met c.loop-x.x =
     c.loop-x.invariant c.requires.says.table c.requires.says.whole in
     let m = met.room in
@@ -58,7 +57,7 @@ bounds-index-x c =
     omega (arith, m, n, c.loop-x-test.true)
 
 pub loop-x-smaller : goal.loop-x-smaller
-loop-x-smaller c = 
+loop-x-smaller c =
     let met : Met (elements_of desk c.requires.says.table) c.args.n c.args.row.now c.loop-x.met c.loop-x.x =
     c.loop-x.invariant c.requires.says.table c.requires.says.whole in
     met_less (elements_of desk c.requires.says.table) c.args.n c.args.row.now c.args.index.now c.loop-x.met c.loop-x.x c.wide-x-in-loop-x.result (c.requires.earlier c.requires.says.table c.requires.says.whole) met c.loop-x-test.true
@@ -71,10 +70,11 @@ pub loop-x-preserved : goal.loop-x-preserved
 loop-x-preserved c = λ t w.
     let m = c.loop-x.invariant t w in
     let h : c.loop-x.x - 1 < c.args.n = (let r = m.room in omega (arith, r, c.loop-x-test.true)) in
-    let own = kept_own c.args.bytes.now c.args.laid t (c.requires.keeps t w) (subst (Fits desk) (one_table c.requires.says.whole w) (says_fits c.requires.says)) h (subst (λ (u : Table). c.args.n ≤ element_count u) (one_table c.requires.says.whole w) (says_few c.requires.says c.requires.few)) in
+    let own = kept_own c.args.bytes.now c.args.laid t (c.requires.keeps t w) (subst (Fits desk) (one_table c.requires.says.whole w) (says_fits c.requires.says)) h
+    (subst (λ (u : Table). c.args.n ≤ element_count u) (one_table c.requires.says.whole w) (says_few c.requires.says c.requires.few)) in
     let same = c.same_as_kept.ensures ∙ ap (alike eqb c.args.row.now) own in
     let on = met_on (elements_of desk t) c.args.n c.args.row.now c.args.index.now c.loop-x.met c.loop-x.x c.wide-x-in-loop-x.result (c.requires.earlier t w) m c.loop-x-test.true c.wide-x-in-loop-x.ensures.value
-        {P = c.same_as_kept.result ≡ true} {Q = c.same_as_kept.result ≡ false} c.if-same_as_kept.met in
+    {P = c.same_as_kept.result ≡ true} {Q = c.same_as_kept.result ≡ false} c.if-same_as_kept.met in
     elim c.if-same_as_kept.branch [
       | then-same_as_kept w ↦ on (inl (w.if-same_as_kept.true, w.met-is)) (λ p. sym same ∙ p) (λ q. sym same ∙ q)
       | else-same_as_kept w ↦ on (inr (w.if-same_as_kept.false, w.met-is)) (λ p. sym same ∙ p) (λ q. sym same ∙ q)

@@ -7,7 +7,6 @@ use native.Mathlib.Nat.{le_of_eq}
 use native.Mathlib.Omega.{arith}
 use lib.Dec.{eqb}
 use lib.Seq.{take_all}
-use borrow.Author.Rules.{rules}
 use Rattle.rules.specs.Held.{elements_of}
 use Rattle.rules.specs.Limits.{desk}
 use Rattle.rules.specs.Lists.{alike, find, rows}
@@ -19,15 +18,15 @@ use Rattle.files.proofs.rows.row_new.Goals as goal
 
 pub returns-then-last_kept-ne0 : goal.returns-then-last_kept-ne0
 returns-then-last_kept-ne0 c = record {
-      told = λ t w.
-          let es = elements_of desk t in
-          record {
-            told = row_met es c.args.n _ (number_less c.last_kept.result c.if-last_kept-ne0.true ∙ c.last_kept.ensures.found t w ∙ ap (λ (r : List ℕ). find (alike eqb r) (rows c.args.n 36 es)) (c.requires.own t w));
-            indexed = λ q. absurd (false≢true q);
-            joins = λ q. absurd (false≢true q);
-            stays = λ q. refl;
-          };
-    }
+  told = λ t w.
+      let es = elements_of desk t in
+      record {
+        told = row_met es c.args.n _ (number_less c.last_kept.result c.if-last_kept-ne0.true ∙ c.last_kept.ensures.found t w ∙ ap (λ (r : List ℕ). find (alike eqb r) (rows c.args.n 36 es)) (c.requires.own t w));
+        indexed = λ q. absurd (false≢true q);
+        joins = λ q. absurd (false≢true q);
+        stays = λ q. refl;
+      };
+}
 
 pub join-requires : goal.join-requires
 join-requires c = let r = says_room c.requires.search.says c.requires.more in

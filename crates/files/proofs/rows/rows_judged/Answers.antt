@@ -3,9 +3,8 @@ use Prim.Native.Nat.{◌+◌, ◌-◌}
 use mathlib.Core.Path.{◌≡◌, refl, ◌∙◌}
 use native.Mathlib.Omega.{arith}
 use borrow.Author.Rules.{rules}
-use Rattle.rules.proofs.Laws.{not_true, not_false}
 use Rattle.files.specs.Entries.{RowReady}
-use Rattle.files.proofs.RowsJudged.{SoFar, judged_start, judged_here, in_room_lem, place_low, judged_count, judged_ready, judged_keep, judged_not_sound, judged_not_new, judged_on, judged_end}
+use Rattle.files.proofs.RowsJudged.{judged_start, judged_here, in_room_lem, place_low, judged_count, judged_ready, judged_keep, judged_not_sound, judged_not_new, judged_on, judged_end}
 use Rattle.files.proofs.rows.rows_judged.Goals as goal
 
 pub loop-i-init : goal.loop-i-init
@@ -36,14 +35,14 @@ overflow_add-k c = let room = in_room_lem c.requires c.loop-i.invariant c.loop-i
     omega (arith, c.loop-i.invariant.few, room, c.one_if_corner-k.ensures.most)
 
 pub overflow_add-at : goal.overflow_add-at
-overflow_add-at c = 
+overflow_add-at c =
     let ready : RowReady c.args.bytes.now c.loop-i.at =
     (judged_here c.requires c.loop-i.invariant c.loop-i-test.true).ready in
     let w = ready.within in
     search rules
 
 pub overflow_add-at-in-loop-i : goal.overflow_add-at-in-loop-i
-overflow_add-at-in-loop-i c = 
+overflow_add-at-in-loop-i c =
     let ready : RowReady c.args.bytes.now c.loop-i.at =
     (judged_here c.requires c.loop-i.invariant c.loop-i-test.true).ready in
     let w = ready.within in

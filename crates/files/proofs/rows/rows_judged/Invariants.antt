@@ -1,11 +1,6 @@
 -- A row that is read is the next row of the slice that the table would have; its laws say what is left.
-use Prim.Native.Nat.{◌+◌, ◌-◌}
-use mathlib.Core.Path.{◌≡◌, refl, ◌∙◌}
-use native.Mathlib.Omega.{arith}
-use borrow.Author.Rules.{rules}
-use Rattle.rules.proofs.Laws.{not_true, not_false}
-use Rattle.files.specs.Entries.{RowReady}
-use Rattle.files.proofs.RowsJudged.{SoFar, judged_start, judged_here, in_room_lem, place_low, judged_count, judged_ready, judged_keep, judged_not_sound, judged_not_new, judged_on, judged_end}
+use Prim.Native.Nat.{◌-◌}
+use Rattle.files.proofs.RowsJudged.{SoFar}
 use Rattle.files.proofs.rows.rows_judged.Given as goal
 
 abbrev pub invariant-loop-i : goal.invariant-loop-i

@@ -6,7 +6,6 @@ use native.Mathlib.Nat.{le_of_eq}
 use lib.Dec.{eqb}
 use lib.ListN.{length, get_or}
 use lib.Seq.{take_all}
-use borrow.Author.Rules.{rules}
 use Rattle.rules.specs.Lists.{alike, pad}
 use Rattle.rules.proofs.Laws.{refute}
 use Rattle.rules.proofs.Selves.{alike_eq}

@@ -1,8 +1,6 @@
 -- The invariant: what is counted, and the records that are left, make all of it.
 use Prim.Native.Nat.{◌-◌}
-use native.Mathlib.Omega.{arith}
-use borrow.Author.Rules.{rules}
-use Rattle.files.proofs.SavedSizes.{SizeSoFar, no_size, next_size, whole_size}
+use Rattle.files.proofs.SavedSizes.{SizeSoFar}
 use Rattle.files.proofs.save.elements_size.Given as goal
 
 abbrev pub invariant-loop-e : goal.invariant-loop-e

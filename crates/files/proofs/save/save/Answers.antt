@@ -1,8 +1,6 @@
 -- Each reply is read off the tests: 3 where the memory is not sound, 12 where the size that was counted is more than the room.
 use mathlib.Core.Bool.{true}
 use mathlib.Core.Path.{◌≡◌, sym, ◌∙◌}
-use native.Mathlib.Omega.{arith}
-use borrow.Author.Tests.{not-true, not-false}
 use borrow.Author.Rules.{rules}
 use Rattle.rules.specs.Limits.{desk}
 use Rattle.rules.specs.Memory.{sound_memory}
@@ -14,25 +12,25 @@ pub returns-then-not-memory_sound : goal.returns-then-not-memory_sound
 returns-then-not-memory_sound c = save_three _ _ _ _ _ (sym c.memory_sound.ensures ∙ c.if-not-memory_sound.true)
 
 pub file_size-requires : goal.file_size-requires
-file_size-requires c = 
+file_size-requires c =
     let is_sound : sound_memory desk (memory_of c.args.counts.now c.args.points.now c.args.planes.now c.args.elements.now) ≡ true =
     sym c.memory_sound.ensures ∙ c.if-not-memory_sound.false in
     size_ready c.args.counts.now c.args.points.now c.args.planes.now c.args.elements.now is_sound
 
 pub returns-then-file-file_size : goal.returns-then-file-file_size
-returns-then-file-file_size c = 
+returns-then-file-file_size c =
     let is_sound : sound_memory desk (memory_of c.args.counts.now c.args.points.now c.args.planes.now c.args.elements.now) ≡ true =
     sym c.memory_sound.ensures ∙ c.if-not-memory_sound.false in
     save_twelve c.args.counts.now c.args.points.now c.args.planes.now c.args.elements.now c.args.file.now is_sound c.file_size.ensures c.if-file-file_size.true
 
 pub table-size-requires : goal.table-size-requires
-table-size-requires c = 
+table-size-requires c =
     let is_sound : sound_memory desk (memory_of c.args.counts.now c.args.points.now c.args.planes.now c.args.elements.now) ≡ true =
     sym c.memory_sound.ensures ∙ c.if-not-memory_sound.false in
     record { is_sound = is_sound; fits_room = save_fits c.args.counts.now c.args.points.now c.args.planes.now c.args.elements.now c.args.file.now is_sound c.file_size.ensures (search rules) }
 
 pub returns : goal.returns
-returns c = 
+returns c =
     let is_sound : sound_memory desk (memory_of c.args.counts.now c.args.points.now c.args.planes.now c.args.elements.now) ≡ true =
     sym c.memory_sound.ensures ∙ c.if-not-memory_sound.false in
     save_done c.args.counts.now c.args.points.now c.args.planes.now c.args.elements.now c.args.file.now is_sound

@@ -1,10 +1,7 @@
 -- The invariant: all numbers so far are those of the row. A count or a number that differs is one that the row does not have.
-use Prim.Native.Nat.{ℕ, ◌+◌, ◌-◌, ◌*◌, ◌≤◌, ◌<◌}
 use mathlib.Core.Bool.{false≢true}
-use mathlib.Core.Path.{◌≡◌, refl, sym, ◌∙◌}
-use mathlib.Core.List.{List}
+use mathlib.Core.Path.{refl, sym, ◌∙◌}
 use native.Mathlib.Omega.{arith}
-use lib.ListN.{get_or}
 use borrow.Author.Count.{below_none, below_more}
 use borrow.Author.Rules.{rules}
 use Rattle.gathered.proofs.answer.is_own.Goals as goal
@@ -17,15 +14,15 @@ loop-j-init c = record { within = search rules; same = below_none _ }
 
 pub returns-then-boundary_at-set : goal.returns-then-boundary_at-set
 returns-then-boundary_at-set c = record {
-      only = λ h. absurd (false≢true h);
-      wherever = λ own. absurd (c.if-boundary_at-set.true (c.boundary_at.ensures ∙ sym (own.same c.loop-j.j c.loop-j-test.true)));
-    }
+  only = λ h. absurd (false≢true h);
+  wherever = λ own. absurd (c.if-boundary_at-set.true (c.boundary_at.ensures ∙ sym (own.same c.loop-j.j c.loop-j-test.true)));
+}
 
 pub loop-j-preserved : goal.loop-j-preserved
 loop-j-preserved c = record { within = search rules; same = below_more _ c.loop-j.j c.loop-j.invariant.same (sym c.if-boundary_at-set.false ∙ c.boundary_at.ensures) }
 
 pub returns : goal.returns
 returns c = record {
-      only = λ h. record { size = sym c.size_of.ensures ∙ c.if-size_of-n.false; same = λ k l. c.loop-j.invariant.same k (omega arith) };
-      wherever = λ own. refl;
-    }
+  only = λ h. record { size = sym c.size_of.ensures ∙ c.if-size_of-n.false; same = λ k l. c.loop-j.invariant.same k (omega arith) };
+  wherever = λ own. refl;
+}

@@ -1,12 +1,8 @@
 -- The invariant: all numbers so far are those of the row. A count or a number that differs is one that the row does not have.
 use Prim.Native.Nat.{ℕ, ◌+◌, ◌-◌, ◌*◌, ◌≤◌, ◌<◌}
-use mathlib.Core.Bool.{false≢true}
-use mathlib.Core.Path.{◌≡◌, refl, sym, ◌∙◌}
+use mathlib.Core.Path.{◌≡◌}
 use mathlib.Core.List.{List}
-use native.Mathlib.Omega.{arith}
 use lib.ListN.{get_or}
-use borrow.Author.Count.{below_none, below_more}
-use borrow.Author.Rules.{rules}
 use Rattle.gathered.proofs.answer.is_own.Given as goal
 
 pub record SoFar (es : List ℕ) (e : ℕ) (set : List ℕ) (n j : ℕ) : Type 0 where

@@ -1,10 +1,9 @@
 -- Two ways: the rank is the dimension, or not.
+use Rattle.std.specs.Prelude.{if◌then◌else◌}
 use mathlib.Core.Path.{sym, ap, ◌∙◌}
 use mathlib.Core.Bool.{Bool}
 use borrow.Author.Tests.{eq-eqb, ne_eqb}
 use Rattle.rules.specs.Limits.{no_plane}
-use Rattle.rules.specs.Lists.{if◌then◌else◌}
-use borrow.Author.Rules.{rules}
 use Rattle.gathered.proofs.answer.plane_of_intersection.Goals as goal
 
 pub returns-then-rank-wide : goal.returns-then-rank-wide

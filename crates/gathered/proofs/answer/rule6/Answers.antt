@@ -1,6 +1,5 @@
 -- Four ways: more than one flush answer, exactly one, and without one the intersection refused or known.
 use Rattle.gathered.proofs.Answering.{rule6_flush, flush_ready, rule6_one, intersection_ready, intersection_refused, intersection_known, rule6_none}
-use borrow.Author.Rules.{rules}
 use Rattle.gathered.proofs.answer.rule6.Goals as goal
 
 pub returns-then-flushes-gt1 : goal.returns-then-flushes-gt1

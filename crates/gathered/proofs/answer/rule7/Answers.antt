@@ -1,6 +1,5 @@
 -- Three ways: inside refused, outside refused, or both sides known.
 use Rattle.gathered.proofs.Answering.{inside_ready, inside_refused, outside_ready, outside_refused, rule7_answered}
-use borrow.Author.Rules.{rules}
 use Rattle.gathered.proofs.answer.rule7.Goals as goal
 
 pub side_of_cut-first-requires : goal.side_of_cut-first-requires

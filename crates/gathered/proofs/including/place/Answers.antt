@@ -1,9 +1,5 @@
 -- The invariant: the search has passed all numbers so far.
-use Prim.Native.Nat.{ℕ, ◌≤◌, ◌-◌}
-use mathlib.Core.List.{List}
-use mathlib.Core.Path.{◌≡◌}
 use native.Mathlib.Omega.{arith}
-use Rattle.gathered.specs.Sets.{size_in, numbers_in, Passed}
 use Rattle.gathered.proofs.Inserting.{passed_none, passed_next}
 use borrow.Author.Rules.{rules}
 use Rattle.gathered.proofs.including.place.Goals as goal
@@ -16,10 +12,10 @@ returns-then-x-s c = record { passed = c.loop-at.invariant.passed; within = sear
 
 pub loop-at-preserved : goal.loop-at-preserved
 loop-at-preserved c = record {
-      within = search rules;
-      size = search rules;
-      passed = passed_next c.args.s.now c.args.x c.requires c.loop-at.at c.loop-at.invariant.passed (search rules) (search rules);
-    }
+  within = search rules;
+  size = search rules;
+  passed = passed_next c.args.s.now c.args.x c.requires c.loop-at.at c.loop-at.invariant.passed (search rules) (search rules);
+}
 
 pub returns : goal.returns
 returns c = record { passed = c.loop-at.invariant.passed; within = search rules; stop = λ h. absurd (omega arith) }

@@ -2,10 +2,7 @@
 use Prim.Native.Nat.{ℕ, ◌≤◌, ◌-◌}
 use mathlib.Core.List.{List}
 use mathlib.Core.Path.{◌≡◌}
-use native.Mathlib.Omega.{arith}
 use Rattle.gathered.specs.Sets.{size_in, numbers_in, Passed}
-use Rattle.gathered.proofs.Inserting.{passed_none, passed_next}
-use borrow.Author.Rules.{rules}
 use Rattle.gathered.proofs.including.place.Given as goal
 
 pub record Searching (s : List ℕ) (x n at : ℕ) : Type 0 where

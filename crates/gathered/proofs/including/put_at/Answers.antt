@@ -1,9 +1,6 @@
 -- The invariant: x is stored at its place, behind it the first j of those that move up, and the next of them is at hand.
 -- Where the loop begins, the words of before are s₀ with what stood at the place put back.
-use Prim.Native.Nat.{ℕ, ◌≤◌, ◌-◌}
-use mathlib.Core.List.{List}
-use lib.ListN.{set}
-use Rattle.gathered.proofs.Inserting.{Moving, moving_start, moving_more, moving_end}
+use Rattle.gathered.proofs.Inserting.{moving_start, moving_more, moving_end}
 use borrow.Author.Rules.{rules}
 use Rattle.gathered.proofs.including.put_at.Goals as goal
 
@@ -12,9 +9,9 @@ loop-j-init c = record { within = search rules; moving = moving_start c.args.s.n
 
 pub loop-j-preserved : goal.loop-j-preserved
 loop-j-preserved c = record {
-      within = search rules;
-      moving = moving_more c.args.s.now c.args.x c.requires.sized c.args.at c.requires.within c.loop-j.j (search rules) c.loop-j.invariant.moving;
-    }
+  within = search rules;
+  moving = moving_more c.args.s.now c.args.x c.requires.sized c.args.at c.requires.within c.loop-j.j (search rules) c.loop-j.invariant.moving;
+}
 
 pub returns : goal.returns
 returns c = moving_end c.args.s.now c.args.x c.requires.sized c.args.at c.requires.within c.loop-j.j _ (search rules) (search rules) c.loop-j.invariant.moving

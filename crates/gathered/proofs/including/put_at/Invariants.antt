@@ -3,8 +3,7 @@
 use Prim.Native.Nat.{ℕ, ◌≤◌, ◌-◌}
 use mathlib.Core.List.{List}
 use lib.ListN.{set}
-use Rattle.gathered.proofs.Inserting.{Moving, moving_start, moving_more, moving_end}
-use borrow.Author.Rules.{rules}
+use Rattle.gathered.proofs.Inserting.{Moving}
 use Rattle.gathered.proofs.including.put_at.Given as goal
 
 pub record MovingUp (s : List ℕ) (x at m j : ℕ) (words : List ℕ) (next : ℕ) : Type 0 where

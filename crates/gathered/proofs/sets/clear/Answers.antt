@@ -1,6 +1,5 @@
 -- The counts are written, and no number of a set.
 use Rattle.gathered.proofs.Gathering.{cleared}
-use borrow.Author.Rules.{rules}
 use Rattle.gathered.proofs.sets.clear.Goals as goal
 
 pub returns : goal.returns

@@ -1,6 +1,5 @@
 -- A flush answer is counted; the parts of another go to their sets, one after another.
 use Rattle.gathered.proofs.Gathering.{inside_sized, outside_sized, intersections_sized, outside_other, intersections_other, gather_flush, gather_sides, include_ready, include_ready_as, sides_room}
-use borrow.Author.Rules.{rules}
 use Rattle.gathered.proofs.sets.gather_in.Goals as goal
 
 pub include-requires : goal.include-requires

@@ -1,6 +1,5 @@
 -- One word of the tally is written.
 use Rattle.gathered.proofs.Gathering.{noted}
-use borrow.Author.Rules.{rules}
 use Rattle.gathered.proofs.sets.note.Goals as goal
 
 pub returns : goal.returns

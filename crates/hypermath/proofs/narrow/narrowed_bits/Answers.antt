@@ -5,7 +5,6 @@ use native.Mathlib.Omega.{arith}
 use lib.Ieee.{is_nan}
 use Rattle.rules.proofs.Laws.{falsely}
 use Rattle.hypermath.proofs.Narrowing.{narrow_plus, narrow_minus}
-use borrow.Author.Rules.{rules}
 use Rattle.hypermath.proofs.narrow.narrowed_bits.Goals as goal
 
 pub float_to_bits-bits : goal.float_to_bits-bits

@@ -1,9 +1,5 @@
 -- By which way twice what is left over compares with the unit.
-use Prim.Native.Nat.{ℕ, ◌%◌, ◌/◌, ◌≤◌, ◌<◌}
-use mathlib.Core.Path.{◌≡◌}
 use native.Mathlib.Nat.{mod-le, div-le_self}
-use native.Mathlib.Omega.{arith}
-use Rattle.hypermath.proofs.Narrowing.{rounded_down, rounded_up, rounded_even}
 use borrow.Author.Rules.{rules}
 use Rattle.hypermath.proofs.narrow.rounded.Goals as goal
 

@@ -1,11 +1,10 @@
 -- A pattern above an infinity's is a NaN's, and stands for the one NaN; no other is one.
-use Prim.Native.Nat.{ℕ, ◌%◌, ◌≤◌, ◌<◌}
+use Prim.Native.Nat.{ℕ, ◌%◌, ◌<◌}
 use mathlib.Core.Bool.{true, false≢true}
 use mathlib.Core.Path.{◌≡◌, refl, sym, ◌∙◌}
 use native.Mathlib.Omega.{arith}
-use borrow.Author.Rules.{rules}
 use lib.Arith.{le→nltb}
-use lib.Dec.{T, lt→ltb}
+use lib.Dec.{lt→ltb}
 use lib.Ieee.{Float, nan, inf, fin, binary64, div, of_bits, is_nan}
 use lib.Ieee.Bits.{is_true, nan_bits_is, nan_bits_above}
 use Rattle.hypermath.proofs.patterns.float_of.Goals as goal

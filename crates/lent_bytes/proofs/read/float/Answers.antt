@@ -1,7 +1,6 @@
 -- By the bits.
 use mathlib.Core.Path.{ap, ◌∙◌}
 use lib.Ieee.{binary64, of_bits}
-use borrow.Author.Rules.{rules}
 use Rattle.lent_bytes.proofs.read.float.Goals as goal
 
 pub returns : goal.returns

@@ -8,6 +8,6 @@ use Rattle.lent_bytes.proofs.read.four.Goals as goal
 
 pub returns : goal.returns
 returns c = record {
-      value = ap₂ (λ (x y : ℕ). x + 0x10000 * y) c.two-low.ensures.value c.two-high.ensures.value ∙ four_is c.args.bytes.now c.args.at (search rules);
-      below = omega (arith, c.two-low.ensures.below, c.two-high.ensures.below);
-    }
+  value = ap₂ (λ (x y : ℕ). x + 0x10000 * y) c.two-low.ensures.value c.two-high.ensures.value ∙ four_is c.args.bytes.now c.args.at (search rules);
+  below = omega (arith, c.two-low.ensures.below, c.two-high.ensures.below);
+}

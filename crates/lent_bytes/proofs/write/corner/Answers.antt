@@ -1,5 +1,4 @@
 -- The invariant: the floats that are left, put behind those that stand there, make all of them, and none of them is a NaN.
-use Prim.Native.Nat.{ℕ, ◌-◌}
 use mathlib.Core.Path.{◌≡◌, refl, ◌∙◌}
 use native.Mathlib.Omega.{arith}
 use lib.ListN.{length}
@@ -7,7 +6,7 @@ use lib.Ieee.{Float, nan, binary32, to_bits}
 use borrow.Author.Rules.{rules}
 use Rattle.rules.specs.Print.{narrowed, narrowed_bytes}
 use Rattle.rules.proofs.ByteLaws.{bytes_long}
-use Rattle.lent_bytes.proofs.FloatParts.{first_is, others_are, SoFar}
+use Rattle.lent_bytes.proofs.FloatParts.{first_is, others_are}
 use Rattle.lent_bytes.proofs.Puts.{put_length}
 use Rattle.lent_bytes.proofs.Rests.{all_left, part_long, next_fits, next_entry, no_entry}
 use Rattle.lent_bytes.proofs.write.corner.Goals as goal
@@ -26,11 +25,11 @@ narrowed-end-requires c =
 
 pub loop-i-preserved : goal.loop-i-preserved
 loop-i-preserved c = record {
-      within = search rules;
-      numbers = others_are c.args.list.now c.loop-i.i c.args.to (search rules) c.requires.part.within c.loop-i.invariant.numbers;
-      long = put_length c.narrowed-end.ensures ∙ c.loop-i.invariant.long;
-      rest = next_entry narrowed_bytes c.args.list.now nan c.loop-i.i c.args.to c.requires.part.within c.loop-i.invariant.rest (search rules) c.narrowed-end.ensures;
-    }
+  within = search rules;
+  numbers = others_are c.args.list.now c.loop-i.i c.args.to (search rules) c.requires.part.within c.loop-i.invariant.numbers;
+  long = put_length c.narrowed-end.ensures ∙ c.loop-i.invariant.long;
+  rest = next_entry narrowed_bytes c.args.list.now nan c.loop-i.i c.args.to c.requires.part.within c.loop-i.invariant.rest (search rules) c.narrowed-end.ensures;
+}
 
 pub returns : goal.returns
 returns c = no_entry narrowed_bytes c.args.list.now nan c.loop-i.i c.args.to c.requires.part.within c.loop-i.invariant.rest (search rules)

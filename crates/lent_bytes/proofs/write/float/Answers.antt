@@ -1,6 +1,5 @@
 -- The bits of a float that is no NaN, in eight bytes.
 use lib.Ieee.{is_nan}
-use borrow.Author.Rules.{rules}
 use Rattle.rules.proofs.Laws.{falsely}
 use Rattle.lent_bytes.proofs.write.float.Goals as goal
 

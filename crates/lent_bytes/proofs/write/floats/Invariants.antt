@@ -1,15 +1,7 @@
 -- The invariant: the floats that are left, put behind those that stand there, make all of them, and none of them is a NaN.
-use Prim.Native.Nat.{ℕ, ◌-◌}
-use mathlib.Core.Path.{◌≡◌, refl, ◌∙◌}
-use native.Mathlib.Omega.{arith}
-use lib.ListN.{length}
-use lib.Ieee.{Float, nan, binary64, to_bits}
-use borrow.Author.Rules.{rules}
+use Prim.Native.Nat.{◌-◌}
 use Rattle.rules.specs.Bytes.{float_byte8}
-use Rattle.rules.proofs.ByteLaws.{bytes_long}
-use Rattle.lent_bytes.proofs.FloatParts.{first_is, others_are, SoFar}
-use Rattle.lent_bytes.proofs.Puts.{put_length}
-use Rattle.lent_bytes.proofs.Rests.{all_left, part_long, next_fits, next_entry, no_entry}
+use Rattle.lent_bytes.proofs.FloatParts.{SoFar}
 use Rattle.lent_bytes.proofs.write.floats.Given as goal
 
 abbrev pub invariant-loop-i : goal.invariant-loop-i

@@ -2,7 +2,6 @@
 use mathlib.Core.Path.{ap}
 use Rattle.rules.specs.Bytes.{bytes_of}
 use Rattle.lent_bytes.proofs.Puts.{put_as}
-use borrow.Author.Rules.{rules}
 use Rattle.lent_bytes.proofs.write.narrowed.Goals as goal
 
 pub returns : goal.returns

@@ -1,12 +1,10 @@
 -- The invariant: the bytes of what is left, put behind those that stand there, make the number.
 use Prim.Native.Nat.{ℕ, ◌+◌, ◌-◌, ◌≤◌}
 use mathlib.Core.List.{List}
-use mathlib.Core.Path.{◌≡◌, refl}
-use native.Mathlib.Omega.{arith}
-use lib.ListN.{length, length-set}
-use borrow.Author.Rules.{rules}
+use mathlib.Core.Path.{◌≡◌}
+use lib.ListN.{length}
 use Rattle.rules.specs.Bytes.{bytes_of}
-use Rattle.lent_bytes.proofs.Rests.{Rest, lows_left, next_low, no_low}
+use Rattle.lent_bytes.proofs.Rests.{Rest}
 use Rattle.lent_bytes.proofs.write.number.Given as goal
 
 pub record SoFar (k n : ℕ) (before : List ℕ) (at : ℕ) (room : List ℕ) (left i : ℕ) : Type 0 where

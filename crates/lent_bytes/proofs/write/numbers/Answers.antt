@@ -1,14 +1,12 @@
 -- The invariant: the words that are left, put behind those that stand there, make all of them.
-use Prim.Native.Nat.{ℕ, ◌-◌, ◌≤◌}
-use mathlib.Core.List.{List}
-use mathlib.Core.Path.{◌≡◌, refl, ◌∙◌}
+use mathlib.Core.Path.{refl, ◌∙◌}
 use native.Mathlib.Omega.{arith}
-use lib.ListN.{length, get_or, take, drop}
+use lib.ListN.{get_or}
 use borrow.Author.Rules.{rules}
-use Rattle.rules.specs.Bytes.{bytes_of, number_bytes}
+use Rattle.rules.specs.Bytes.{bytes_of}
 use Rattle.rules.proofs.ByteLaws.{bytes_long}
 use Rattle.lent_bytes.proofs.Puts.{put_length}
-use Rattle.lent_bytes.proofs.Rests.{Rest, all_left, part_long, next_fits, next_entry, no_entry}
+use Rattle.lent_bytes.proofs.Rests.{all_left, part_long, next_fits, next_entry, no_entry}
 use Rattle.lent_bytes.proofs.write.numbers.Goals as goal
 
 pub loop-i-init : goal.loop-i-init
@@ -22,10 +20,10 @@ number-end-requires c = let f = next_fits (bytes_of c.args.k) c.args.words.now 0
 
 pub loop-i-preserved : goal.loop-i-preserved
 loop-i-preserved c = record {
-      within = search rules;
-      long = put_length c.number-end.ensures ∙ c.loop-i.invariant.long;
-      rest = next_entry (bytes_of c.args.k) c.args.words.now 0 c.loop-i.i c.args.to c.requires.part.within c.loop-i.invariant.rest (search rules) c.number-end.ensures;
-    }
+  within = search rules;
+  long = put_length c.number-end.ensures ∙ c.loop-i.invariant.long;
+  rest = next_entry (bytes_of c.args.k) c.args.words.now 0 c.loop-i.i c.args.to c.requires.part.within c.loop-i.invariant.rest (search rules) c.number-end.ensures;
+}
 
 pub returns : goal.returns
 returns c = no_entry (bytes_of c.args.k) c.args.words.now 0 c.loop-i.i c.args.to c.requires.part.within c.loop-i.invariant.rest (search rules)

@@ -1,14 +1,10 @@
 -- The invariant: the words that are left, put behind those that stand there, make all of them.
 use Prim.Native.Nat.{ℕ, ◌-◌, ◌≤◌}
 use mathlib.Core.List.{List}
-use mathlib.Core.Path.{◌≡◌, refl, ◌∙◌}
-use native.Mathlib.Omega.{arith}
-use lib.ListN.{length, get_or, take, drop}
-use borrow.Author.Rules.{rules}
-use Rattle.rules.specs.Bytes.{bytes_of, number_bytes}
-use Rattle.rules.proofs.ByteLaws.{bytes_long}
-use Rattle.lent_bytes.proofs.Puts.{put_length}
-use Rattle.lent_bytes.proofs.Rests.{Rest, all_left, part_long, next_fits, next_entry, no_entry}
+use mathlib.Core.Path.{◌≡◌}
+use lib.ListN.{length, take, drop}
+use Rattle.rules.specs.Bytes.{number_bytes}
+use Rattle.lent_bytes.proofs.Rests.{Rest}
 use Rattle.lent_bytes.proofs.write.numbers.Given as goal
 
 pub record SoFar (k : ℕ) (words : List ℕ) (from to : ℕ) (before : List ℕ) (at : ℕ) (room : List ℕ) (end i : ℕ) : Type 0 where

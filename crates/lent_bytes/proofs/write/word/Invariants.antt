@@ -1,11 +1,9 @@
 -- The invariant: the bytes that are left, put behind those that stand there, make all of them.
 use Prim.Native.Nat.{ℕ, ◌+◌, ◌-◌, ◌≤◌}
 use mathlib.Core.List.{List}
-use mathlib.Core.Path.{◌≡◌, refl}
-use native.Mathlib.Omega.{arith}
-use lib.ListN.{length, drop, length-set}
-use borrow.Author.Rules.{rules}
-use Rattle.lent_bytes.proofs.Rests.{Rest, bytes_left, next_byte, no_byte}
+use mathlib.Core.Path.{◌≡◌}
+use lib.ListN.{length, drop}
+use Rattle.lent_bytes.proofs.Rests.{Rest}
 use Rattle.lent_bytes.proofs.write.word.Given as goal
 
 pub record SoFar (bytes before : List ℕ) (at end : ℕ) (room : List ℕ) (i : ℕ) : Type 0 where

@@ -2,7 +2,6 @@
 use native.Mathlib.Omega.{arith}
 use Rattle.lent_bytes.proofs.Puts.{put_as}
 use Rattle.print.proofs.Facing.{edges_are, walk_low, fan_is}
-use borrow.Author.Rules.{rules}
 use Rattle.print.proofs.triangles.face.Goals as goal
 
 pub size_of-n-requires : goal.size_of-n-requires

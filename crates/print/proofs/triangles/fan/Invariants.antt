@@ -1,17 +1,14 @@
 -- The invariant: the triangles from edge k on, put behind those that stand there, make the fan.
-use Prim.Native.Nat.{ℕ, ◌+◌, ◌*◌, ◌-◌, ◌≤◌, ◌<◌}
+use Prim.Native.Nat.{ℕ, ◌-◌, ◌≤◌}
 use mathlib.Core.List.{List, map}
-use mathlib.Core.Path.{◌≡◌, refl, sym, ap, ◌∙◌}
-use native.Mathlib.Omega.{arith}
+use mathlib.Core.Path.{◌≡◌}
 use lib.ListN.{length, get_or}
 use lib.Ieee.{Float}
 use Rattle.rules.specs.Lists.{joined}
-use Rattle.rules.specs.Print.{Triangle, triangle_bytes}
-use Rattle.lent_bytes.proofs.Puts.{put_as, put_length}
-use Rattle.lent_bytes.proofs.Rests.{Rest, all_left, left_as}
-use Rattle.print.specs.Pieces.{point_in, triangle_at, fan_in}
-use Rattle.print.proofs.Fanning.{left_from, left_start, next_fits, next_triangle, no_triangle}
-use borrow.Author.Rules.{rules}
+use Rattle.rules.specs.Print.{triangle_bytes}
+use Rattle.lent_bytes.proofs.Rests.{Rest}
+use Rattle.print.specs.Pieces.{point_in, fan_in}
+use Rattle.print.proofs.Fanning.{left_from}
 use Rattle.print.proofs.triangles.fan.Given as goal
 
 pub record SoFar (ps : List Float) (ns : List ℕ) (n : ℕ) (before : List ℕ) (at : ℕ) (room : List ℕ) (end k : ℕ) : Type 0 where

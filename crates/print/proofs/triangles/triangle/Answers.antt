@@ -2,7 +2,6 @@
 use native.Mathlib.Omega.{arith}
 use Rattle.rules.proofs.ByteLaws.{bytes_long}
 use Rattle.print.proofs.Fanning.{corner_twelve, room_left, triangle_put}
-use borrow.Author.Rules.{rules}
 use Rattle.print.proofs.triangles.triangle.Goals as goal
 
 pub corner-second-requires : goal.corner-second-requires

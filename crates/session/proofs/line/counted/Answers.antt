@@ -1,6 +1,5 @@
 -- The name, and the counts behind it.
 use lib.ListN.{drop}
-use borrow.Author.Rules.{rules}
 use Rattle.session.proofs.Puts.{then_line}
 use Rattle.session.proofs.line.counted.Goals as goal
 

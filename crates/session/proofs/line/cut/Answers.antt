@@ -11,7 +11,7 @@ returns c = then_line (drop 1 c.args.counts.now)
     (then (then (then c.word-at.ensures c.element-i.ensures) c.element-o.ensures) c.element-x.ensures) c.counts_end.ensures
 
 pub element-o-requires : goal.element-o-requires
-element-o-requires c = 
+element-o-requires c =
     let far_name : Far c.word-at.new.room c.word-at.result 3 =
     far_word c.requires.room c.word-at.ensures in
     let far_inside : Far c.element-i.new.room c.element-i.result 9 =
@@ -19,7 +19,7 @@ element-o-requires c =
     record { element = c.requires.outside; room = far_left 21 far_inside (omega arith) }
 
 pub element-x-requires : goal.element-x-requires
-element-x-requires c = 
+element-x-requires c =
     let far_name : Far c.word-at.new.room c.word-at.result 3 =
     far_word c.requires.room c.word-at.ensures in
     let far_inside : Far c.element-i.new.room c.element-i.result 9 =
@@ -29,7 +29,7 @@ element-x-requires c =
     record { element = c.requires.intersection; room = far_left 21 far_outside (omega arith) }
 
 pub counts_end-requires : goal.counts_end-requires
-counts_end-requires c = 
+counts_end-requires c =
     let far_name : Far c.word-at.new.room c.word-at.result 3 =
     far_word c.requires.room c.word-at.ensures in
     let far_inside : Far c.element-i.new.room c.element-i.result 9 =
@@ -39,4 +39,3 @@ counts_end-requires c =
     let far_intersection : Far c.element-x.new.room c.element-x.result 21 =
     far_element c.args.intersection c.requires.intersection far_outside c.element-x.ensures in
     record { counts = search rules; room = far_left 34 far_intersection (omega arith) }
-

@@ -1,7 +1,6 @@
 -- The record is long enough for what is read; a cube that is made has four counts.
 use native.Mathlib.Omega.{arith}
 use lib.Dec.{lit≤}
-use borrow.Author.Rules.{rules}
 use Rattle.session.proofs.Turns.{cube_long, cube_counts, cube_made, cube_refused}
 use Rattle.session.proofs.record.cube_turn.Goals as goal
 

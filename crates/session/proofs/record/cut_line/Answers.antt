@@ -1,7 +1,6 @@
 -- The two cases of a reply.
 use mathlib.Core.Path.{sym, ap, subst}
 use lib.ListN.{drop}
-use borrow.Author.Rules.{rules}
 use Rattle.rules.specs.declared.CutReply.{CutReply}
 use Rattle.rules.specs.Session.{text, cut_text}
 use Rattle.session.specs.Written.{LineFits}

@@ -3,7 +3,6 @@ use Prim.Native.Nat.{ℕ, ◌≤◌}
 use mathlib.Core.Path.{sym, subst}
 use native.Mathlib.Omega.{arith}
 use lib.ListN.{length}
-use borrow.Author.Rules.{rules}
 use Rattle.rules.specs.Replies.{cut_by}
 use Rattle.rules.specs.Session.{cut_length}
 use Rattle.session.proofs.Turns.{cut_long, line_fits, cut_taken}

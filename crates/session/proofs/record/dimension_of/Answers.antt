@@ -3,7 +3,6 @@ use mathlib.Core.Path.{sym}
 use native.Mathlib.Omega.{arith}
 use lib.ListN.{get_or-eq_default}
 use lib.Dec.{lit≤}
-use borrow.Author.Rules.{rules}
 use Rattle.session.proofs.record.dimension_of.Goals as goal
 
 pub returns-then-counts-eq0 : goal.returns-then-counts-eq0

@@ -1,5 +1,4 @@
 -- Component by component, where the dimension is within the room.
-use borrow.Author.Rules.{rules}
 use Rattle.session.proofs.Records.{divider_is}
 use Rattle.session.proofs.record.divider_at.Goals as goal
 

@@ -1,6 +1,5 @@
 -- Too short, or the mark tells.
 use native.Mathlib.Omega.{arith}
-use borrow.Author.Rules.{rules}
 use Rattle.session.proofs.Records.{cube_short, cube_marked}
 use Rattle.session.proofs.record.is_cube.Goals as goal
 

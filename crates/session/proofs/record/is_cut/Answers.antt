@@ -3,7 +3,6 @@ use Prim.Native.Nat.{ℕ, ◌≤◌, ◌<◌}
 use mathlib.Core.Path.{◌≡◌, subst}
 use mathlib.Core.Bool.{false}
 use native.Mathlib.Omega.{arith}
-use borrow.Author.Rules.{rules}
 use Rattle.rules.specs.Session.{is_cut}
 use Rattle.session.proofs.Records.{cut_short, cut_unkept, cut_marked}
 use Rattle.session.proofs.record.is_cut.Goals as goal

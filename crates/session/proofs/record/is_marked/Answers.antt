@@ -1,6 +1,5 @@
 -- By the first byte, then by the second.
 use native.Mathlib.Omega.{arith}
-use borrow.Author.Rules.{rules}
 use Rattle.session.proofs.Records.{no_first, by_second}
 use Rattle.session.proofs.record.is_marked.Goals as goal
 

@@ -1,6 +1,5 @@
 -- The two cases of an element or none.
 use mathlib.Core.Path.{sym, ap}
-use borrow.Author.Rules.{rules}
 use Rattle.rules.specs.Session.{place}
 use Rattle.lent_bytes.proofs.Puts.{put_as}
 use Rattle.session.proofs.write.element.Goals as goal

@@ -1,11 +1,9 @@
 -- Those that are left are in use exactly when all are, until one is not.
-use Prim.Native.Nat.{ℕ, suc, ◌-◌, ◌≤◌}
-use mathlib.Core.Path.{◌≡◌, refl}
-use mathlib.Core.List.{List}
+use Prim.Native.Nat.{ℕ, suc}
+use mathlib.Core.Path.{refl}
 use native.Mathlib.Omega.{arith}
 use lib.Dec.{ltb}
-use lib.ListN.{length, get_or, drop}
-use Rattle.rules.specs.Lists.{all}
+use lib.ListN.{get_or}
 use Rattle.rules.proofs.Indexed.{all_go, all_no, all_end}
 use Rattle.rules.proofs.Laws.{test_le, test_above}
 use borrow.Author.Rules.{rules}
@@ -19,10 +17,10 @@ returns-then-n-roots c = all_no (λ (e : ℕ). ltb e c.args.n) 0 c.args.roots.no
 
 pub loop-i-preserved : goal.loop-i-preserved
 loop-i-preserved c = record {
-      low = search rules;
-      size = search rules;
-      same = all_go (λ (e : ℕ). ltb e c.args.n) 0 c.args.roots.now c.loop-i.i c.loop-i.invariant.same (search rules) (test_le (suc (get_or c.args.roots.now c.loop-i.i 0)) c.args.n (omega arith));
-    }
+  low = search rules;
+  size = search rules;
+  same = all_go (λ (e : ℕ). ltb e c.args.n) 0 c.args.roots.now c.loop-i.i c.loop-i.invariant.same (search rules) (test_le (suc (get_or c.args.roots.now c.loop-i.i 0)) c.args.n (omega arith));
+}
 
 pub returns : goal.returns
 returns c = all_end (λ (e : ℕ). ltb e c.args.n) 0 c.args.roots.now c.loop-i.i c.loop-i.invariant.same (search rules)

@@ -1,14 +1,10 @@
 -- Those that are left are in use exactly when all are, until one is not.
-use Prim.Native.Nat.{ℕ, suc, ◌-◌, ◌≤◌}
-use mathlib.Core.Path.{◌≡◌, refl}
+use Prim.Native.Nat.{ℕ, ◌-◌, ◌≤◌}
+use mathlib.Core.Path.{◌≡◌}
 use mathlib.Core.List.{List}
-use native.Mathlib.Omega.{arith}
 use lib.Dec.{ltb}
-use lib.ListN.{length, get_or, drop}
+use lib.ListN.{length, drop}
 use Rattle.rules.specs.Lists.{all}
-use Rattle.rules.proofs.Indexed.{all_go, all_no, all_end}
-use Rattle.rules.proofs.Laws.{test_le, test_above}
-use borrow.Author.Rules.{rules}
 use Rattle.soundness.proofs.asked.all_used.Given as goal
 
 -- the roots from i on are left

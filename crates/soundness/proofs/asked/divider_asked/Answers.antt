@@ -1,16 +1,14 @@
 -- A sound memory has its index, and its counts tell what its table tells.
 use mathlib.Core.Path.{◌≡◌, sym, ◌∙◌}
 use mathlib.Core.Bool.{Bool, true, false≢true}
-use borrow.Author.Tests.{not-true, not-false}
 use Rattle.rules.specs.Limits.{desk}
 use Rattle.rules.specs.Memory.{sound_memory}
 use Rattle.rules.specs.Held.{memory_of}
 use Rattle.soundness.proofs.AskedOnce.{counts_long, asked_three, asked_sound}
-use borrow.Author.Rules.{rules}
 use Rattle.soundness.proofs.asked.divider_asked.Goals as goal
 
 pub returns-then-not-memory_indexed : goal.returns-then-not-memory_indexed
-returns-then-not-memory_indexed c = 
+returns-then-not-memory_indexed c =
     let isSound : Bool =
     sound_memory desk (memory_of c.args.counts.now c.args.points.now c.args.planes.now c.args.elements.now) in
     let told : c.memory_indexed.result ≡ isSound =
@@ -19,7 +17,7 @@ returns-then-not-memory_indexed c =
     record { told = asked_three _ _ _ _ _ _ no; indexed = λ t. absurd (false≢true (sym no ∙ t)) }
 
 pub sound_asked-requires : goal.sound_asked-requires
-sound_asked-requires c = 
+sound_asked-requires c =
     let isSound : Bool =
     sound_memory desk (memory_of c.args.counts.now c.args.points.now c.args.planes.now c.args.elements.now) in
     let told : c.memory_indexed.result ≡ isSound =
@@ -29,7 +27,7 @@ sound_asked-requires c =
     counts_long _ _ _ _ is_sound
 
 pub returns : goal.returns
-returns c = 
+returns c =
     let isSound : Bool =
     sound_memory desk (memory_of c.args.counts.now c.args.points.now c.args.planes.now c.args.elements.now) in
     let told : c.memory_indexed.result ≡ isSound =

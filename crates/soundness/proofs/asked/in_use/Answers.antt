@@ -1,7 +1,6 @@
 -- The count is read as a number.
 use mathlib.Core.Path.{ap}
 use lib.Dec.{ltb}
-use borrow.Author.Rules.{rules}
 use Rattle.soundness.proofs.asked.in_use.Goals as goal
 
 pub returns : goal.returns

@@ -2,32 +2,30 @@
 use mathlib.Core.Path.{◌≡◌, sym, ◌∙◌}
 use mathlib.Core.List.{[], ◌∷◌}
 use mathlib.Core.Bool.{true}
-use borrow.Author.Tests.{not-true, not-false}
 use Rattle.rules.specs.Limits.{desk}
 use Rattle.rules.specs.Memory.{sound_memory}
 use Rattle.rules.specs.Held.{memory_of}
 use Rattle.soundness.proofs.ReadBack.{and_one}
 use Rattle.soundness.proofs.AskedOnce.{counts_long, counted, three, four, none_refused}
-use borrow.Author.Rules.{rules}
 use Rattle.soundness.proofs.asked.root_refusal.Goals as goal
 
 pub returns-then-not-memory_sound : goal.returns-then-not-memory_sound
 returns-then-not-memory_sound c = three _ _ _ _ _ (sym c.memory_sound.ensures ∙ c.if-not-memory_sound.true)
 
 pub in_use-requires : goal.in_use-requires
-in_use-requires c = 
+in_use-requires c =
     let is_sound : sound_memory desk (memory_of c.args.counts.now c.args.points.now c.args.planes.now c.args.elements.now) ≡ true =
     sym c.memory_sound.ensures ∙ c.if-not-memory_sound.false in
     counts_long _ _ _ _ is_sound
 
 pub returns-then-not-in_use : goal.returns-then-not-in_use
-returns-then-not-in_use c = 
+returns-then-not-in_use c =
     let is_sound : sound_memory desk (memory_of c.args.counts.now c.args.points.now c.args.planes.now c.args.elements.now) ≡ true =
     sym c.memory_sound.ensures ∙ c.if-not-memory_sound.false in
     four _ _ _ _ _ is_sound (counted _ _ _ _ is_sound (c.args.root.0 ∷ []) (and_one _ ∙ sym c.in_use.ensures ∙ c.if-not-in_use.true))
 
 pub returns : goal.returns
-returns c = 
+returns c =
     let is_sound : sound_memory desk (memory_of c.args.counts.now c.args.points.now c.args.planes.now c.args.elements.now) ≡ true =
     sym c.memory_sound.ensures ∙ c.if-not-memory_sound.false in
     none_refused _ _ _ _ _ is_sound (counted _ _ _ _ is_sound (c.args.root.0 ∷ []) (and_one _ ∙ sym c.in_use.ensures ∙ c.if-not-in_use.false))

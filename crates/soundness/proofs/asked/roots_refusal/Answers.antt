@@ -1,9 +1,7 @@
 -- Each answer is read off the tests.
 use mathlib.Core.Path.{sym, ◌∙◌}
 use native.Mathlib.Omega.{arith}
-use borrow.Author.Tests.{not-true, not-false}
 use Rattle.soundness.proofs.AskedOnce.{counts_long, counted, three, four, none_refused}
-use borrow.Author.Rules.{rules}
 use Rattle.soundness.proofs.asked.roots_refusal.Goals as goal
 
 pub returns-then-not-memory_sound : goal.returns-then-not-memory_sound

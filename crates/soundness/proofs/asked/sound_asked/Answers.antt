@@ -1,15 +1,11 @@
 -- 4, then the two halves of 5: the normal, and the kind of the distance.
 use Prim.Native.Nat.{ℕ}
 use mathlib.Core.Path.{◌≡◌, sym, ap, ◌∙◌}
-use mathlib.Core.Bool.{Bool, true}
-use borrow.Author.Tests.{not-true, not-false}
+use mathlib.Core.Bool.{true}
 use lib.Dec.{ltb}
-use lib.ListN.{length, length-map, get_or}
-use Rattle.hypermath.specs.Answers.{unit_normal, distance_kind}
-use Rattle.hypermath.specs.declared.DistanceKind.{DistanceKind}
-use Rattle.hypermath.specs.declared.DistanceKind.TheVariants.{Unfit, Finite, PlusInfinity, MinusInfinity}
-use Rattle.soundness.specs.Asked.{asked_of}
-use Rattle.soundness.proofs.AskedOnce.{kind_asked, asked_unused, asked_not_unit, asked_kind}
+use lib.ListN.{get_or}
+use Rattle.hypermath.specs.Answers.{unit_normal}
+use Rattle.soundness.proofs.AskedOnce.{asked_unused, asked_not_unit, asked_kind}
 use borrow.Author.Rules.{rules}
 use Rattle.soundness.proofs.asked.sound_asked.Goals as goal
 

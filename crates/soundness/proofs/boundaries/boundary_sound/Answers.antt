@@ -4,7 +4,6 @@ use mathlib.Core.Bool.{false, false≢true}
 use mathlib.Core.List.{List}
 use mathlib.Core.Path.{refl}
 use native.Mathlib.Omega.{arith}
-use borrow.Author.Rules.{rules}
 use borrow.Author.Tests.{le-ltb, lt-ltb}
 use Rattle.space.specs.Closed.{few}
 use Rattle.soundness.specs.Known.{known_rows}
@@ -13,7 +12,7 @@ use Rattle.soundness.proofs.FaceLoops.{unmet_next}
 use Rattle.soundness.proofs.boundaries.boundary_sound.Goals as goal
 
 pub returns-then-n-rank : goal.returns-then-n-rank
-returns-then-n-rank c = 
+returns-then-n-rank c =
     let known : List ℕ =
     known_rows c.args.earlier.now c.args.spacing in
     record {
@@ -25,7 +24,7 @@ pub numbers_fit-requires : goal.numbers_fit-requires
 numbers_fit-requires c = record { part = record { order = omega arith; end = c.requires.end }; spaced = c.requires.spaced; room = omega (arith, c.requires.in_room) }
 
 pub returns-then-rank-ne2 : goal.returns-then-rank-ne2
-returns-then-rank-ne2 c = 
+returns-then-rank-ne2 c =
     let known : List ℕ =
     known_rows c.args.earlier.now c.args.spacing in
     record {
@@ -35,16 +34,16 @@ returns-then-rank-ne2 c =
 
 pub few_fits-requires : goal.few_fits-requires
 few_fits-requires c = record {
-      part = record { order = omega arith; end = c.requires.end };
-      size = omega (arith, c.requires.size);
-      spaced = c.requires.spaced;
-      in_room = c.requires.in_room;
-      edges = c.requires.edges;
-      unmet = c.requires.unmet;
-    }
+  part = record { order = omega arith; end = c.requires.end };
+  size = omega (arith, c.requires.size);
+  spaced = c.requires.spaced;
+  in_room = c.requires.in_room;
+  edges = c.requires.edges;
+  unmet = c.requires.unmet;
+}
 
 pub returns-then-n-few_edges : goal.returns-then-n-few_edges
-returns-then-n-few_edges c = 
+returns-then-n-few_edges c =
     let known : List ℕ =
     known_rows c.args.earlier.now c.args.spacing in
     record {
@@ -55,16 +54,16 @@ returns-then-n-few_edges c =
 
 pub face_fits-requires : goal.face_fits-requires
 face_fits-requires c = record {
-      part = record { order = omega arith; end = c.requires.end };
-      size = omega (arith, c.requires.size);
-      spaced = c.requires.spaced;
-      in_room = c.requires.in_room;
-      edges = c.requires.edges;
-      unmet = c.requires.unmet;
-    }
+  part = record { order = omega arith; end = c.requires.end };
+  size = omega (arith, c.requires.size);
+  spaced = c.requires.spaced;
+  in_room = c.requires.in_room;
+  edges = c.requires.edges;
+  unmet = c.requires.unmet;
+}
 
 pub returns : goal.returns
-returns c = 
+returns c =
     let known : List ℕ =
     known_rows c.args.earlier.now c.args.spacing in
     record {

@@ -6,15 +6,13 @@ use mathlib.Core.Path.{◌≡◌, sym, ap, subst, ◌∙◌}
 use native.Mathlib.Omega.{arith}
 use lib.Dec.{eqb}
 use lib.ListN.{drop, take}
-use borrow.Author.Rules.{rules}
 use Rattle.rules.specs.Limits.{desk}
-use Rattle.rules.proofs.Laws.{not_true, not_false}
 use Rattle.space.specs.Closed.{Stamped, Unmet, joining, joined}
 use Rattle.space.proofs.PathsJoined.{Paths, paths_start, paths_few, paths_stamped}
 use Rattle.soundness.specs.Known.{known_rows}
 use Rattle.soundness.specs.declared.row.Spacing.{Spacing}
 use Rattle.soundness.specs.Words.{number_fits, face_words, stamp_of}
-use Rattle.soundness.proofs.EdgesRead.{Numbers, NumberRead, numbers_start, numbers_end, read_no, read_ends, read_edge, read_on}
+use Rattle.soundness.proofs.EdgesRead.{NumberRead, numbers_start, numbers_end, read_no, read_ends, read_edge, read_on}
 use Rattle.soundness.proofs.FaceLoops.{face_go, face_thrice, face_early, face_last, face_none, stamped_next}
 use Rattle.soundness.proofs.boundaries.face_fits.Invariants.{SoFar}
 use Rattle.soundness.proofs.boundaries.face_fits.Goals as goal
@@ -76,13 +74,13 @@ pub number_fits-requires : goal.number_fits-requires
 number_fits-requires c = record { spaced = c.requires.spaced; room = omega (arith, c.requires.in_room) }
 
 pub returns-then-not-number_fits : goal.returns-then-not-number_fits
-returns-then-not-number_fits c = 
+returns-then-not-number_fits c =
     let number : NumberRead c.args.words.now c.args.from c.args.to c.args.earlier.now c.args.spacing c.args.e.0 c.args.met.now c.stamp_of-stamp.result c.loop-i.low c.loop-i.i c.wide-x.result =
     record { ready = c.requires; numbers = c.loop-i.invariant.numbers; room = c.stamp_of-stamp.ensures.bound; more = c.loop-i-test.true; read = c.wide-x.ensures.value } in
     record { told = read_no number _ (sym c.number_fits.ensures ∙ c.if-not-number_fits.true); unmet = λ t. absurd (false≢true t) }
 
 pub join_ends-joins-requires : goal.join_ends-joins-requires
-join_ends-joins-requires c = 
+join_ends-joins-requires c =
     let number : NumberRead c.args.words.now c.args.from c.args.to c.args.earlier.now c.args.spacing c.args.e.0 c.args.met.now c.stamp_of-stamp.result c.loop-i.low c.loop-i.i c.wide-x.result =
     record { ready = c.requires; numbers = c.loop-i.invariant.numbers; room = c.stamp_of-stamp.ensures.bound; more = c.loop-i-test.true; read = c.wide-x.ensures.value } in
     let fits : number_fits desk (known_rows c.args.earlier.now c.args.spacing) c.args.e.0 2 c.loop-i.low c.wide-x.result ≡ true =
@@ -91,13 +89,13 @@ join_ends-joins-requires c =
     record { edge = read_edge R fits; stamped = subst (λ (s : ℕ). Stamped s c.loop-i.met) (sym R.numbers.same) (stamped R c.loop-i.invariant) }
 
 pub returns-then-joins-eq-THRICE : goal.returns-then-joins-eq-THRICE
-returns-then-joins-eq-THRICE c = 
+returns-then-joins-eq-THRICE c =
     let number : NumberRead c.args.words.now c.args.from c.args.to c.args.earlier.now c.args.spacing c.args.e.0 c.args.met.now c.stamp_of-stamp.result c.loop-i.low c.loop-i.i c.wide-x.result =
     record { ready = c.requires; numbers = c.loop-i.invariant.numbers; room = c.stamp_of-stamp.ensures.bound; more = c.loop-i-test.true; read = c.wide-x.ensures.value } in
     record { told = thrice number c.loop-i.invariant c.join_ends-joins.ensures.code c.if-joins-eq-THRICE.true; unmet = λ t. absurd (false≢true t) }
 
 pub returns-then-i-to : goal.returns-then-i-to
-returns-then-i-to c = 
+returns-then-i-to c =
     let number : NumberRead c.args.words.now c.args.from c.args.to c.args.earlier.now c.args.spacing c.args.e.0 c.args.met.now c.stamp_of-stamp.result c.loop-i.low c.loop-i.i c.wide-x.result =
     record { ready = c.requires; numbers = c.loop-i.invariant.numbers; room = c.stamp_of-stamp.ensures.bound; more = c.loop-i-test.true; read = c.wide-x.ensures.value } in
     record {
@@ -106,7 +104,7 @@ returns-then-i-to c =
     }
 
 pub overflow_add-result : goal.overflow_add-result
-overflow_add-result c = 
+overflow_add-result c =
     let number : NumberRead c.args.words.now c.args.from c.args.to c.args.earlier.now c.args.spacing c.args.e.0 c.args.met.now c.stamp_of-stamp.result c.loop-i.low c.loop-i.i c.wide-x.result =
     record { ready = c.requires; numbers = c.loop-i.invariant.numbers; room = c.stamp_of-stamp.ensures.bound; more = c.loop-i-test.true; read = c.wide-x.ensures.value } in
     let R = number in
@@ -114,13 +112,13 @@ overflow_add-result c =
     omega (arith, most, R.ready.size, R.numbers.order, R.numbers.bound)
 
 pub overflow_sub-result : goal.overflow_sub-result
-overflow_sub-result c = 
+overflow_sub-result c =
     let number : NumberRead c.args.words.now c.args.from c.args.to c.args.earlier.now c.args.spacing c.args.e.0 c.args.met.now c.stamp_of-stamp.result c.loop-i.low c.loop-i.i c.wide-x.result =
     record { ready = c.requires; numbers = c.loop-i.invariant.numbers; room = c.stamp_of-stamp.ensures.bound; more = c.loop-i-test.true; read = c.wide-x.ensures.value } in
     number.ready.part.order
 
 pub returns-then-joins-eq-CLOSES : goal.returns-then-joins-eq-CLOSES
-returns-then-joins-eq-CLOSES c = 
+returns-then-joins-eq-CLOSES c =
     let number : NumberRead c.args.words.now c.args.from c.args.to c.args.earlier.now c.args.spacing c.args.e.0 c.args.met.now c.stamp_of-stamp.result c.loop-i.low c.loop-i.i c.wide-x.result =
     record { ready = c.requires; numbers = c.loop-i.invariant.numbers; room = c.stamp_of-stamp.ensures.bound; more = c.loop-i-test.true; read = c.wide-x.ensures.value } in
     let fits : number_fits desk (known_rows c.args.earlier.now c.args.spacing) c.args.e.0 2 c.loop-i.low c.wide-x.result ≡ true =
@@ -133,7 +131,7 @@ returns-then-joins-eq-CLOSES c =
     }
 
 pub overflow_add-twice : goal.overflow_add-twice
-overflow_add-twice c = 
+overflow_add-twice c =
     let number : NumberRead c.args.words.now c.args.from c.args.to c.args.earlier.now c.args.spacing c.args.e.0 c.args.met.now c.stamp_of-stamp.result c.loop-i.low c.loop-i.i c.wide-x.result =
     record { ready = c.requires; numbers = c.loop-i.invariant.numbers; room = c.stamp_of-stamp.ensures.bound; more = c.loop-i-test.true; read = c.wide-x.ensures.value } in
     let R = number in
@@ -141,7 +139,7 @@ overflow_add-twice c =
     omega (arith, most, c.join_ends-joins.ensures.most, R.ready.size, R.numbers.order, R.numbers.bound)
 
 pub loop-i-preserved : goal.loop-i-preserved
-loop-i-preserved c = 
+loop-i-preserved c =
     let number : NumberRead c.args.words.now c.args.from c.args.to c.args.earlier.now c.args.spacing c.args.e.0 c.args.met.now c.stamp_of-stamp.result c.loop-i.low c.loop-i.i c.wide-x.result =
     record { ready = c.requires; numbers = c.loop-i.invariant.numbers; room = c.stamp_of-stamp.ensures.bound; more = c.loop-i-test.true; read = c.wide-x.ensures.value } in
     let fits : number_fits desk (known_rows c.args.earlier.now c.args.spacing) c.args.e.0 2 c.loop-i.low c.wide-x.result ≡ true =
@@ -155,7 +153,8 @@ overflow_sub-result-2 c = c.requires.part.order
 pub returns : goal.returns
 returns c = let e : c.loop-i.i ≡ c.args.to = omega (arith, c.loop-i.invariant.numbers.bound, c.loop-i-test.false) in
     record {
-      told = face_none (known_rows c.args.earlier.now c.args.spacing) c.args.words.now c.args.from c.args.to c.args.e.0 c.requires.part.end c.requires.in_room c.requires.edges c.loop-i.met c.loop-i.twice c.loop-i.i (stamp_of c.args.e.0) c.loop-i.invariant.paths
+      told = face_none (known_rows c.args.earlier.now c.args.spacing) c.args.words.now c.args.from c.args.to c.args.e.0 c.requires.part.end c.requires.in_room c.requires.edges c.loop-i.met c.loop-i.twice c.loop-i.i
+          (stamp_of c.args.e.0) c.loop-i.invariant.paths
           c.loop-i.invariant.numbers.order e (numbers_end c.requires c.loop-i.invariant.numbers c.loop-i-test.false);
       unmet = λ t. stamped_next c.args.e.0 c.loop-i.met (paths_stamped _ _ (stamp_of c.args.e.0) c.loop-i.met c.loop-i.twice (c.loop-i.i - c.args.from) c.loop-i.invariant.paths);
     }

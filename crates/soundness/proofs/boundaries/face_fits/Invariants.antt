@@ -1,21 +1,11 @@
 -- The numbers that are left fit exactly when all do, until one does not; the edges before have joined paths, and none closed one.
-use Prim.Native.Nat.{ℕ, ◌+◌, ◌-◌, ◌<◌, ◌≤◌}
-use mathlib.Core.Bool.{true, false, false≢true}
+use Prim.Native.Nat.{ℕ, ◌-◌}
 use mathlib.Core.List.{List}
-use mathlib.Core.Path.{◌≡◌, sym, ap, subst, ◌∙◌}
-use native.Mathlib.Omega.{arith}
-use lib.Dec.{eqb}
 use lib.ListN.{drop, take}
-use borrow.Author.Rules.{rules}
-use Rattle.rules.specs.Limits.{desk}
-use Rattle.rules.proofs.Laws.{not_true, not_false}
-use Rattle.space.specs.Closed.{Stamped, Unmet, joining, joined}
-use Rattle.space.proofs.PathsJoined.{Paths, paths_start, paths_few, paths_stamped}
+use Rattle.space.proofs.PathsJoined.{Paths}
 use Rattle.soundness.specs.Known.{known_rows}
-use Rattle.soundness.specs.declared.row.Spacing.{Spacing}
-use Rattle.soundness.specs.Words.{number_fits, face_words, stamp_of}
-use Rattle.soundness.proofs.EdgesRead.{Numbers, NumberRead, numbers_start, numbers_end, read_no, read_ends, read_edge, read_on}
-use Rattle.soundness.proofs.FaceLoops.{face_go, face_thrice, face_early, face_last, face_none, stamped_next}
+use Rattle.soundness.specs.Words.{stamp_of}
+use Rattle.soundness.proofs.EdgesRead.{Numbers}
 use Rattle.soundness.proofs.boundaries.face_fits.Given as goal
 
 -- up to place i the numbers fit, and their edges have joined paths, of which none is closed

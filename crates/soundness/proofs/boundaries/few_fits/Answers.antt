@@ -1,17 +1,14 @@
 -- The numbers that are left fit exactly when all do, until one does not; the ends of those before are met.
 use Prim.Native.Nat.{ℕ, ◌+◌, ◌-◌}
 use mathlib.Core.Bool.{true, false≢true}
-use mathlib.Core.List.{List}
 use mathlib.Core.Path.{◌≡◌, sym, subst, ◌∙◌}
 use native.Mathlib.Omega.{arith}
 use lib.ListN.{drop, take}
-use borrow.Author.Rules.{rules}
 use Rattle.rules.specs.Limits.{desk}
-use Rattle.rules.proofs.Laws.{not_true, not_false}
 use Rattle.space.proofs.EndsCounted.{Round, round_start, round_few, round_out}
 use Rattle.soundness.specs.Known.{known_rows}
 use Rattle.soundness.specs.Words.{number_fits, stamp_of}
-use Rattle.soundness.proofs.EdgesRead.{Numbers, NumberRead, numbers_start, numbers_end, read_no, read_ends, read_edge, read_on}
+use Rattle.soundness.proofs.EdgesRead.{NumberRead, numbers_start, numbers_end, read_no, read_ends, read_edge, read_on}
 use Rattle.soundness.proofs.FaceLoops.{few_go, few_end, unmet_above}
 use Rattle.soundness.proofs.boundaries.few_fits.Goals as goal
 
@@ -31,13 +28,13 @@ pub number_fits-requires : goal.number_fits-requires
 number_fits-requires c = record { spaced = c.requires.spaced; room = omega (arith, c.requires.in_room) }
 
 pub returns-then-not-number_fits : goal.returns-then-not-number_fits
-returns-then-not-number_fits c = 
+returns-then-not-number_fits c =
     let number : NumberRead c.args.words.now c.args.from c.args.to c.args.earlier.now c.args.spacing c.args.e.0 c.args.met.now c.stamp_of-stamp.result c.loop-i.low c.loop-i.i c.wide-x.result =
     record { ready = c.requires; numbers = c.loop-i.invariant.numbers; room = c.stamp_of-stamp.ensures.bound; more = c.loop-i-test.true; read = c.wide-x.ensures.value } in
     record { told = read_no number _ (sym c.number_fits.ensures ∙ c.if-not-number_fits.true); unmet = λ t. absurd (false≢true t) }
 
 pub meet_ends-twice-requires : goal.meet_ends-twice-requires
-meet_ends-twice-requires c = 
+meet_ends-twice-requires c =
     let number : NumberRead c.args.words.now c.args.from c.args.to c.args.earlier.now c.args.spacing c.args.e.0 c.args.met.now c.stamp_of-stamp.result c.loop-i.low c.loop-i.i c.wide-x.result =
     record { ready = c.requires; numbers = c.loop-i.invariant.numbers; room = c.stamp_of-stamp.ensures.bound; more = c.loop-i-test.true; read = c.wide-x.ensures.value } in
     let fits : number_fits desk (known_rows c.args.earlier.now c.args.spacing) c.args.e.0 2 c.loop-i.low c.wide-x.result ≡ true =
@@ -45,7 +42,7 @@ meet_ends-twice-requires c =
     read_edge number fits
 
 pub overflow_add-twice : goal.overflow_add-twice
-overflow_add-twice c = 
+overflow_add-twice c =
     let number : NumberRead c.args.words.now c.args.from c.args.to c.args.earlier.now c.args.spacing c.args.e.0 c.args.met.now c.stamp_of-stamp.result c.loop-i.low c.loop-i.i c.wide-x.result =
     record { ready = c.requires; numbers = c.loop-i.invariant.numbers; room = c.stamp_of-stamp.ensures.bound; more = c.loop-i-test.true; read = c.wide-x.ensures.value } in
     let R = number in
@@ -53,7 +50,7 @@ overflow_add-twice c =
     omega (arith, few, c.meet_ends-twice.ensures.most, R.ready.size, R.numbers.order, R.numbers.bound)
 
 pub loop-i-preserved : goal.loop-i-preserved
-loop-i-preserved c = 
+loop-i-preserved c =
     let number : NumberRead c.args.words.now c.args.from c.args.to c.args.earlier.now c.args.spacing c.args.e.0 c.args.met.now c.stamp_of-stamp.result c.loop-i.low c.loop-i.i c.wide-x.result =
     record { ready = c.requires; numbers = c.loop-i.invariant.numbers; room = c.stamp_of-stamp.ensures.bound; more = c.loop-i-test.true; read = c.wide-x.ensures.value } in
     let fits : number_fits desk (known_rows c.args.earlier.now c.args.spacing) c.args.e.0 2 c.loop-i.low c.wide-x.result ≡ true =
@@ -71,7 +68,8 @@ overflow_sub-result c = c.requires.part.order
 pub returns : goal.returns
 returns c = let e : c.loop-i.i ≡ c.args.to = omega (arith, c.loop-i.invariant.numbers.bound, c.loop-i-test.false) in
     record {
-      told = few_end (known_rows c.args.earlier.now c.args.spacing) c.args.words.now c.args.from c.args.to c.args.e.0 c.requires.part.end c.loop-i.met c.loop-i.twice c.loop-i.i (stamp_of c.args.e.0) c.loop-i.invariant.round e c.requires.edges
+      told = few_end (known_rows c.args.earlier.now c.args.spacing) c.args.words.now c.args.from c.args.to c.args.e.0 c.requires.part.end c.loop-i.met c.loop-i.twice c.loop-i.i
+          (stamp_of c.args.e.0) c.loop-i.invariant.round e c.requires.edges
           (numbers_end c.requires c.loop-i.invariant.numbers c.loop-i-test.false);
       unmet = λ t. unmet_above (stamp_of c.args.e.0 + 2) (stamp_of (c.args.e.0 + 1)) c.loop-i.met (omega arith) (round_out _ _ (stamp_of c.args.e.0) c.loop-i.met _ _ c.loop-i.invariant.round);
     }

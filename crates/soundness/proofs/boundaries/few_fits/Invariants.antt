@@ -1,18 +1,11 @@
 -- The numbers that are left fit exactly when all do, until one does not; the ends of those before are met.
-use Prim.Native.Nat.{ℕ, ◌+◌, ◌-◌}
-use mathlib.Core.Bool.{true, false≢true}
+use Prim.Native.Nat.{ℕ, ◌-◌}
 use mathlib.Core.List.{List}
-use mathlib.Core.Path.{◌≡◌, sym, subst, ◌∙◌}
-use native.Mathlib.Omega.{arith}
 use lib.ListN.{drop, take}
-use borrow.Author.Rules.{rules}
-use Rattle.rules.specs.Limits.{desk}
-use Rattle.rules.proofs.Laws.{not_true, not_false}
-use Rattle.space.proofs.EndsCounted.{Round, round_start, round_few, round_out}
+use Rattle.space.proofs.EndsCounted.{Round}
 use Rattle.soundness.specs.Known.{known_rows}
-use Rattle.soundness.specs.Words.{number_fits, stamp_of}
-use Rattle.soundness.proofs.EdgesRead.{Numbers, NumberRead, numbers_start, numbers_end, read_no, read_ends, read_edge, read_on}
-use Rattle.soundness.proofs.FaceLoops.{few_go, few_end, unmet_above}
+use Rattle.soundness.specs.Words.{stamp_of}
+use Rattle.soundness.proofs.EdgesRead.{Numbers}
 use Rattle.soundness.proofs.boundaries.few_fits.Given as goal
 
 -- up to place i the numbers fit, and the ends of their edges are met

@@ -8,7 +8,6 @@ use native.Mathlib.Numerals.{add-one}
 use mathlib.Core.Bool.{true, false}
 use mathlib.Core.Path.{sym, ap, refl, ◌∙◌}
 use Prim.Native.Nat.{ℕ, ◌+◌}
-use borrow.Author.Rules.{rules}
 use Rattle.soundness.proofs.boundaries.number_fits.Goals as goal
 
 pub returns-then-x-low : goal.returns-then-x-low

@@ -1,14 +1,12 @@
 -- The numbers that are left fit, from the least that the next may be, exactly when all do, until one does not.
-use Rattle.soundness.proofs.BoundaryFits.{left, fits_start, fits_go, fits_no, fits_end}
+use Rattle.soundness.proofs.BoundaryFits.{left}
 use Rattle.soundness.specs.Known.{known_rows}
 use Rattle.soundness.specs.Words.{numbers_fit}
-use Rattle.rules.proofs.Laws.{not_true, not_false}
 use Rattle.rules.specs.Limits.{desk}
 use lib.ListN.{drop, take}
-use mathlib.Core.Path.{◌≡◌, sym, ◌∙◌}
+use mathlib.Core.Path.{◌≡◌}
 use Prim.Native.Nat.{ℕ, ◌-◌, ◌≤◌}
 use mathlib.Core.List.{List}
-use borrow.Author.Rules.{rules}
 use Rattle.soundness.proofs.boundaries.numbers_fit.Given as goal
 
 -- from place i on they fit exactly when all do

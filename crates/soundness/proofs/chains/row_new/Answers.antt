@@ -8,7 +8,6 @@ use Rattle.space.proofs.Indexing.{index_joined}
 use Rattle.space.specs.Found.{element_number}
 use Rattle.space.specs.Chains.{Indexed, new_start}
 use Rattle.soundness.proofs.Distinct.{row_met, row_unmet}
-use borrow.Author.Rules.{rules}
 use Rattle.soundness.proofs.chains.row_new.Goals as goal
 
 pub find_row-found-requires : goal.find_row-found-requires
@@ -22,18 +21,18 @@ join-requires c = record { index = c.requires.earlier.long; key = c.key_of-key.e
 
 pub returns-in-At : goal.returns-in-At
 returns-in-At c = record {
-      told = row_met c.args.elements.now c.args.e.0 _ (ap element_number (sym c.in-At.is) ∙ c.find_row-found.ensures);
-      indexed = λ t. absurd (false≢true t);
-      joins = λ t. absurd (false≢true t);
-      stays = λ t. refl;
-    }
+  told = row_met c.args.elements.now c.args.e.0 _ (ap element_number (sym c.in-At.is) ∙ c.find_row-found.ensures);
+  indexed = λ t. absurd (false≢true t);
+  joins = λ t. absurd (false≢true t);
+  stays = λ t. refl;
+}
 
 pub returns-in-None : goal.returns-in-None
 returns-in-None c = record {
-      told = row_unmet c.args.elements.now c.args.e.0 (ap element_number (sym c.in-None.is) ∙ c.find_row-found.ensures);
-      indexed = λ t.
-          subst (λ (l : List ℕ). Indexed c.args.elements.now (c.args.e.0 + 1) l) (sym c.join.ensures)
-          (index_joined c.args.elements.now c.args.e.0 c.args.index.now c.key_of-key.result c.requires.earlier c.key_of-key.ensures.value c.key_of-key.ensures.bound c.requires.in_room);
-      joins = λ t. c.join.ensures ∙ ap (λ (m : ℕ). new_start c.args.index.now m c.args.e.0) c.key_of-key.ensures.value;
-      stays = λ t. absurd (false≢true (sym t));
-    }
+  told = row_unmet c.args.elements.now c.args.e.0 (ap element_number (sym c.in-None.is) ∙ c.find_row-found.ensures);
+  indexed = λ t.
+      subst (λ (l : List ℕ). Indexed c.args.elements.now (c.args.e.0 + 1) l) (sym c.join.ensures)
+      (index_joined c.args.elements.now c.args.e.0 c.args.index.now c.key_of-key.result c.requires.earlier c.key_of-key.ensures.value c.key_of-key.ensures.bound c.requires.in_room);
+  joins = λ t. c.join.ensures ∙ ap (λ (m : ℕ). new_start c.args.index.now m c.args.e.0) c.key_of-key.ensures.value;
+  stays = λ t. absurd (false≢true (sym t));
+}

@@ -1,13 +1,7 @@
 -- All floats are blank exactly when no bit of them has been seen and the floats that are left are.
-use Prim.Native.Nat.{ℕ, ◌-◌, ◌≤◌}
-use mathlib.Core.Path.{◌≡◌, refl, sym}
-use mathlib.Core.Bool.{◌&&◌}
-use mathlib.Core.List.{List}
-use lib.Dec.{eqb}
-use lib.Ieee.{Float, nan}
-use lib.ListN.{drop, take}
+use mathlib.Core.Path.{refl, sym}
+use lib.Ieee.{nan}
 use Rattle.rules.specs.Floats.{same_bits, plus_zero}
-use Rattle.soundness.specs.Words.{blank_floats}
 use Rattle.soundness.proofs.Unseen.{unseen_go, unseen_end}
 use borrow.Author.Rules.{rules}
 use Rattle.soundness.proofs.floats.blank_floats.Goals as goal
@@ -17,9 +11,9 @@ loop-i-init c = record { within = search rules; same = refl }
 
 pub loop-i-preserved : goal.loop-i-preserved
 loop-i-preserved c = record {
-      within = search rules;
-      same = unseen_go (same_bits plus_zero) nan c.args.to c.args.list.now c.requires.end c.loop-i.seen _ c.loop-i.i c.loop-i.invariant.same (search rules) (sym c.bits_of-seen.ensures);
-    }
+  within = search rules;
+  same = unseen_go (same_bits plus_zero) nan c.args.to c.args.list.now c.requires.end c.loop-i.seen _ c.loop-i.i c.loop-i.invariant.same (search rules) (sym c.bits_of-seen.ensures);
+}
 
 pub returns : goal.returns
 returns c = unseen_end (same_bits plus_zero) nan c.args.to c.args.list.now c.requires.end c.loop-i.seen c.loop-i.i c.loop-i.invariant.same (search rules)

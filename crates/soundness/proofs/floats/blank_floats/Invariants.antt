@@ -1,15 +1,12 @@
 -- All floats are blank exactly when no bit of them has been seen and the floats that are left are.
 use Prim.Native.Nat.{ℕ, ◌-◌, ◌≤◌}
-use mathlib.Core.Path.{◌≡◌, refl, sym}
+use mathlib.Core.Path.{◌≡◌}
 use mathlib.Core.Bool.{◌&&◌}
 use mathlib.Core.List.{List}
 use lib.Dec.{eqb}
-use lib.Ieee.{Float, nan}
+use lib.Ieee.{Float}
 use lib.ListN.{drop, take}
-use Rattle.rules.specs.Floats.{same_bits, plus_zero}
 use Rattle.soundness.specs.Words.{blank_floats}
-use Rattle.soundness.proofs.Unseen.{unseen_go, unseen_end}
-use borrow.Author.Rules.{rules}
 use Rattle.soundness.proofs.floats.blank_floats.Given as goal
 
 pub record Seen (list : List Float) (from to seen i : ℕ) : Type 0 where

@@ -1,14 +1,11 @@
 -- The coordinates that are left fit exactly when all do, until one does not.
 use Prim.Native.Nat.{ℕ, ◌-◌, ◌≤◌}
 use mathlib.Core.List.{List}
-use mathlib.Core.Path.{◌≡◌, refl, sym, ◌∙◌}
-use lib.Ieee.{Float, of_bits, nan}
+use mathlib.Core.Path.{◌≡◌}
+use lib.Ieee.{Float}
 use lib.ListN.{drop, take}
 use Rattle.rules.specs.Floats.{within, farthest}
 use Rattle.rules.specs.Lists.{all}
-use Rattle.rules.proofs.Indexed.{all_front_no, all_front_go, all_front_end}
-use Rattle.rules.proofs.Laws.{not_true, not_false}
-use borrow.Author.Rules.{rules}
 use Rattle.soundness.proofs.floats.coordinates_fit.Given as goal
 
 -- from place i on they fit exactly when all do

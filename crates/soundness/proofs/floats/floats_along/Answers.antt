@@ -1,9 +1,7 @@
 -- The answer is read off the tests that were taken.
 use mathlib.Core.Bool.{false, true}
 use mathlib.Core.Path.{sym, ◌∙◌, refl}
-use Rattle.rules.proofs.Laws.{not_true, not_false}
 use Rattle.soundness.proofs.ElementLoops.{floats_are}
-use borrow.Author.Rules.{rules}
 use Rattle.soundness.proofs.floats.floats_along.Goals as goal
 
 pub returns-then-not-points_sound : goal.returns-then-not-points_sound

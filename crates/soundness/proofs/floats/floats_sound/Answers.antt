@@ -4,7 +4,6 @@ use mathlib.Core.Path.{ap, ◌∙◌}
 use native.Mathlib.Omega.{arith}
 use Rattle.rules.specs.Limits.{desk}
 use Rattle.soundness.specs.Words.{floats_sound}
-use borrow.Author.Rules.{rules}
 use Rattle.soundness.proofs.floats.floats_sound.Goals as goal
 
 pub returns-then-d-eq2 : goal.returns-then-d-eq2

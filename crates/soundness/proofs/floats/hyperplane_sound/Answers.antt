@@ -3,8 +3,6 @@ use mathlib.Core.Bool.{Bool, ◌&&◌}
 use mathlib.Core.Path.{ap, ap₂, sym, ◌∙◌}
 use lib.Ieee.{of_bits}
 use Rattle.rules.specs.Floats.{within, farthest_plane}
-use Rattle.rules.proofs.Laws.{not_true, not_false}
-use borrow.Author.Rules.{rules}
 use Rattle.soundness.proofs.floats.hyperplane_sound.Goals as goal
 
 pub returns-then-not-is_unit : goal.returns-then-not-is_unit

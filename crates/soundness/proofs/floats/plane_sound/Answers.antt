@@ -8,7 +8,6 @@ use Rattle.rules.specs.Floats.{within, farthest_plane}
 use Rattle.rules.specs.declared.Hyperplane.{Hyperplane}
 use Rattle.hypermath.specs.Answers.{unit_normal}
 use Rattle.soundness.proofs.PlaneLoops.{plane_is}
-use borrow.Author.Rules.{rules}
 use Rattle.soundness.proofs.floats.plane_sound.Goals as goal
 
 pub hyperplane_at-requires : goal.hyperplane_at-requires

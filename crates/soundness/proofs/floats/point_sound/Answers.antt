@@ -1,9 +1,7 @@
 -- The two parts of a row are those of the definition.
 use mathlib.Core.Bool.{false, true}
 use mathlib.Core.Path.{sym, ◌∙◌, refl}
-use Rattle.rules.proofs.Laws.{not_true, not_false}
 use Rattle.soundness.proofs.RowLoops.{point_is}
-use borrow.Author.Rules.{rules}
 use Rattle.soundness.proofs.floats.point_sound.Goals as goal
 
 pub returns-then-not-coordinates_fit : goal.returns-then-not-coordinates_fit

@@ -1,14 +1,8 @@
 -- The rows that are left are sound exactly when all are, until one is not.
-use Prim.Native.Nat.{ℕ, ◌-◌, ◌≤◌, ◌*◌}
-use mathlib.Core.Bool.{◌&&◌}
-use mathlib.Core.List.{List}
-use mathlib.Core.Path.{◌≡◌, sym, ◌∙◌}
-use lib.Ieee.{Float}
+use Prim.Native.Nat.{◌*◌}
+use mathlib.Core.Path.{sym, ◌∙◌}
 use lib.ListN.{drop}
-use Rattle.rules.specs.Limits.{desk}
-use Rattle.rules.specs.Lists.{all, rows}
-use Rattle.rules.proofs.Laws.{not_true, not_false}
-use Rattle.soundness.specs.Words.{points_sound, point_words, blank_floats}
+use Rattle.soundness.specs.Words.{point_words, blank_floats}
 use Rattle.soundness.proofs.RowLoops.{points_start, row_no, row_go, whole_room, row_end}
 use borrow.Author.Rules.{rules}
 use Rattle.soundness.proofs.floats.points_sound.Goals as goal
@@ -22,10 +16,10 @@ returns-then-not-point_sound c = row_no (point_words c.args.d) 4 c.args.v c.args
 
 pub loop-i-preserved : goal.loop-i-preserved
 loop-i-preserved c = record {
-      bound = search rules;
-      rest = row_go (point_words c.args.d) 4 c.args.v c.args.points.now (blank_floats (drop (c.args.v * 4) c.args.points.now)) c.loop-i.i c.loop-i.invariant.rest (search rules)
-          (sym c.point_sound.ensures ∙ c.if-not-point_sound.false);
-    }
+  bound = search rules;
+  rest = row_go (point_words c.args.d) 4 c.args.v c.args.points.now (blank_floats (drop (c.args.v * 4) c.args.points.now)) c.loop-i.i c.loop-i.invariant.rest (search rules)
+      (sym c.point_sound.ensures ∙ c.if-not-point_sound.false);
+}
 
 pub returns : goal.returns
 returns c = c.blank_floats.ensures ∙ whole_room blank_floats (c.args.v * 4) 1024 c.args.points.now c.requires.long ∙ row_end (point_words c.args.d) 4 c.args.v

@@ -2,15 +2,12 @@
 use Prim.Native.Nat.{ℕ, ◌-◌, ◌≤◌, ◌*◌}
 use mathlib.Core.Bool.{◌&&◌}
 use mathlib.Core.List.{List}
-use mathlib.Core.Path.{◌≡◌, sym, ◌∙◌}
+use mathlib.Core.Path.{◌≡◌}
 use lib.Ieee.{Float}
 use lib.ListN.{drop}
 use Rattle.rules.specs.Limits.{desk}
 use Rattle.rules.specs.Lists.{all, rows}
-use Rattle.rules.proofs.Laws.{not_true, not_false}
 use Rattle.soundness.specs.Words.{points_sound, point_words, blank_floats}
-use Rattle.soundness.proofs.RowLoops.{points_start, row_no, row_go, whole_room, row_end}
-use borrow.Author.Rules.{rules}
 use Rattle.soundness.proofs.floats.points_sound.Given as goal
 
 -- from row i on they are sound exactly when all are

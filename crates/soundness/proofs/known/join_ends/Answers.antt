@@ -1,5 +1,4 @@
 -- The two ends that are known are the corners whose paths the edge joins.
-use borrow.Author.Rules.{rules}
 use Rattle.space.proofs.PathsJoined.{edge_joined}
 use Rattle.soundness.proofs.known.join_ends.Goals as goal
 

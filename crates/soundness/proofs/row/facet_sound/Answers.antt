@@ -5,7 +5,6 @@ use mathlib.Core.Path.{refl}
 use native.Mathlib.Omega.{arith}
 use Rattle.rules.proofs.Laws.{test_eq, not_eq}
 use Rattle.soundness.proofs.BoundaryLoops.{facet_are}
-use borrow.Author.Rules.{rules}
 use Rattle.soundness.proofs.row.facet_sound.Goals as goal
 
 pub returns-then-d-rank-eq1 : goal.returns-then-d-rank-eq1

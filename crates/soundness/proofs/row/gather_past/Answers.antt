@@ -4,7 +4,7 @@ use mathlib.Core.Bool.{Bool, ◌&&◌}
 use mathlib.Core.Path.{sym, ap, ◌∙◌}
 use lib.ListN.{get_or, take, drop}
 use Rattle.soundness.specs.Words.{blank_words}
-use Rattle.soundness.proofs.PastLoops.{Joining, kept_is, joining_start, joining_go, joining_end}
+use Rattle.soundness.proofs.PastLoops.{kept_is, joining_start, joining_go, joining_end}
 use Rattle.soundness.proofs.RowLoops.{past_is}
 use borrow.Author.Rules.{rules}
 use Rattle.soundness.proofs.row.gather_past.Goals as goal
@@ -22,8 +22,8 @@ loop-j-preserved c = let k = 32 - c.args.n + c.loop-j.j in
 
 pub returns : goal.returns
 returns c = record {
-      clear = joining_end c.args.words.now c.args.at c.args.n c.args.seen.now c.requires.fits c.requires.row c.requires.places c.loop-j.seen c.loop-j.j c.loop-j.invariant (search rules)
-          ∙ ap (λ (m : ℕ). blank_words c.args.seen.now && blank_words (drop (c.args.at + 4 + m) (take (c.args.at + 36) c.args.words.now))) c.requires.count
-          ∙ ap (λ (b : Bool). blank_words c.args.seen.now && b) (sym (past_is c.args.at c.args.words.now));
-      long = c.loop-j.invariant.long;
-    }
+  clear = joining_end c.args.words.now c.args.at c.args.n c.args.seen.now c.requires.fits c.requires.row c.requires.places c.loop-j.seen c.loop-j.j c.loop-j.invariant (search rules)
+      ∙ ap (λ (m : ℕ). blank_words c.args.seen.now && blank_words (drop (c.args.at + 4 + m) (take (c.args.at + 36) c.args.words.now))) c.requires.count
+      ∙ ap (λ (b : Bool). blank_words c.args.seen.now && b) (sym (past_is c.args.at c.args.words.now));
+  long = c.loop-j.invariant.long;
+}

@@ -1,9 +1,5 @@
 -- The mask is right up to the entry that is written next.
-use Prim.Native.Nat.{ℕ, ◌-◌, ◌≤◌}
-use mathlib.Core.List.{List}
-use mathlib.Core.Path.{◌≡◌}
-use lib.ListN.{length}
-use Rattle.soundness.proofs.PastLoops.{MaskTo, mask_start, mask_go}
+use Rattle.soundness.proofs.PastLoops.{mask_start, mask_go}
 use borrow.Author.Rules.{rules}
 use Rattle.soundness.proofs.row.past_mask.Goals as goal
 

@@ -3,8 +3,7 @@ use Prim.Native.Nat.{ℕ, ◌-◌, ◌≤◌}
 use mathlib.Core.List.{List}
 use mathlib.Core.Path.{◌≡◌}
 use lib.ListN.{length}
-use Rattle.soundness.proofs.PastLoops.{MaskTo, mask_start, mask_go}
-use borrow.Author.Rules.{rules}
+use Rattle.soundness.proofs.PastLoops.{MaskTo}
 use Rattle.soundness.proofs.row.past_mask.Given as goal
 
 pub record Made (past : List ℕ) (k : ℕ) : Type 0 where

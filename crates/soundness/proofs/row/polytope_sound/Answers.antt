@@ -13,10 +13,10 @@ edge_sound-requires c = c.requires.there
 
 pub returns-then-rank-eq1 : goal.returns-then-rank-eq1
 returns-then-rank-eq1 c = record {
-      told = c.edge_sound.ensures.told c.args.d ∙ ap (λ (r : ℕ). polytope_words desk (known_rows c.args.earlier.now c.args.spacing) c.args.d c.args.e.0 r (take 36 (drop c.args.at c.args.words.now))) (sym c.if-rank-eq1.true);
-      unmet = λ t. unmet_next c.args.e.0 c.args.met.now c.requires.unmet;
-      past = c.edge_sound.ensures.past;
-    }
+  told = c.edge_sound.ensures.told c.args.d ∙ ap (λ (r : ℕ). polytope_words desk (known_rows c.args.earlier.now c.args.spacing) c.args.d c.args.e.0 r (take 36 (drop c.args.at c.args.words.now))) (sym c.if-rank-eq1.true);
+  unmet = λ t. unmet_next c.args.e.0 c.args.met.now c.requires.unmet;
+  past = c.edge_sound.ensures.past;
+}
 
 pub higher_sound-requires : goal.higher_sound-requires
 higher_sound-requires c = record { ready = c.requires; no_edge = c.if-rank-eq1.false }

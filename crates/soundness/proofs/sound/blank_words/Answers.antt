@@ -1,11 +1,7 @@
 -- All words are blank exactly when no bit of them has been seen and the words that are left are.
-use Prim.Native.Nat.{ℕ, ◌-◌, ◌≤◌}
-use mathlib.Core.Path.{◌≡◌, refl}
-use mathlib.Core.Bool.{◌&&◌}
-use mathlib.Core.List.{List}
+use mathlib.Core.Path.{refl}
 use lib.Dec.{eqb}
-use lib.ListN.{get_or, drop, take}
-use Rattle.soundness.specs.Words.{blank_words}
+use lib.ListN.{get_or}
 use Rattle.soundness.proofs.Unseen.{eq_turned, unseen_go, unseen_end}
 use borrow.Author.Rules.{rules}
 use Rattle.soundness.proofs.sound.blank_words.Goals as goal
@@ -15,9 +11,9 @@ loop-i-init c = record { within = search rules; same = refl }
 
 pub loop-i-preserved : goal.loop-i-preserved
 loop-i-preserved c = record {
-      within = search rules;
-      same = unseen_go (eqb 0) 0 c.args.to c.args.list.now c.requires.end c.loop-i.seen _ c.loop-i.i c.loop-i.invariant.same (search rules) (eq_turned 0 (get_or c.args.list.now c.loop-i.i 0));
-    }
+  within = search rules;
+  same = unseen_go (eqb 0) 0 c.args.to c.args.list.now c.requires.end c.loop-i.seen _ c.loop-i.i c.loop-i.invariant.same (search rules) (eq_turned 0 (get_or c.args.list.now c.loop-i.i 0));
+}
 
 pub returns : goal.returns
 returns c = unseen_end (eqb 0) 0 c.args.to c.args.list.now c.requires.end c.loop-i.seen c.loop-i.i c.loop-i.invariant.same (search rules)

@@ -1,13 +1,11 @@
 -- All words are blank exactly when no bit of them has been seen and the words that are left are.
 use Prim.Native.Nat.{ℕ, ◌-◌, ◌≤◌}
-use mathlib.Core.Path.{◌≡◌, refl}
+use mathlib.Core.Path.{◌≡◌}
 use mathlib.Core.Bool.{◌&&◌}
 use mathlib.Core.List.{List}
 use lib.Dec.{eqb}
-use lib.ListN.{get_or, drop, take}
+use lib.ListN.{drop, take}
 use Rattle.soundness.specs.Words.{blank_words}
-use Rattle.soundness.proofs.Unseen.{eq_turned, unseen_go, unseen_end}
-use borrow.Author.Rules.{rules}
 use Rattle.soundness.proofs.sound.blank_words.Given as goal
 
 pub record Seen (list : List ℕ) (from to seen i : ℕ) : Type 0 where

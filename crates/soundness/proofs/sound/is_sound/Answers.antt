@@ -2,7 +2,6 @@
 use mathlib.Core.Path.{sym, ◌∙◌}
 use Rattle.rules.specs.Replies.{is_sound_reply}
 use Rattle.rules.proofs.Laws.{if_true, if_false}
-use borrow.Author.Rules.{rules}
 use Rattle.soundness.proofs.sound.is_sound.Goals as goal
 
 pub returns-then-memory_sound : goal.returns-then-memory_sound

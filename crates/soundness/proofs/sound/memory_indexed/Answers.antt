@@ -3,14 +3,12 @@ use Prim.Native.Nat.{ℕ}
 use mathlib.Core.Path.{refl, sym, ap, ◌∙◌}
 use mathlib.Core.Bool.{false, true, false≢true}
 use native.Mathlib.Omega.{arith}
-use Rattle.rules.proofs.Laws.{not_true, not_false}
 use Rattle.space.proofs.Sizes.{size_known}
 use Rattle.space.proofs.Indexing.{index_count}
 use Rattle.soundness.specs.Tests.{with_rows}
 use Rattle.soundness.proofs.ElementLoops.{memory_is}
 use Rattle.soundness.proofs.RowsRead.{memory_read_lem}
 use Rattle.soundness.proofs.SoundWhole.{fit_counts}
-use borrow.Author.Rules.{rules}
 use Rattle.soundness.proofs.sound.memory_indexed.Goals as goal
 
 pub returns-then-not-right_size : goal.returns-then-not-right_size

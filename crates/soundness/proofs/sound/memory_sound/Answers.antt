@@ -1,6 +1,5 @@
 -- The index starts empty.
 use Rattle.space.proofs.Indexing.{index_blank}
-use borrow.Author.Rules.{rules}
 use Rattle.soundness.proofs.sound.memory_sound.Goals as goal
 
 pub memory_indexed-requires : goal.memory_indexed-requires

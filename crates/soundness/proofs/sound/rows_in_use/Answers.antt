@@ -1,43 +1,46 @@
 -- What is asked of the rows that are rowsLeft, with `k` as the vertex that is to be named next, is what is asked of all, where nothing is seen past a boundary so far; and the rows so far are in the index, no two of them equal.
-use Prim.Native.Nat.{ℕ, ◌-◌, ◌≤◌}
-use mathlib.Core.Bool.{◌&&◌, true, false≢true}
-use mathlib.Core.List.{List}
+use Prim.Native.Nat.{ℕ}
+use mathlib.Core.Bool.{false≢true}
 use mathlib.Core.Path.{◌≡◌, refl, sym, ap, ◌∙◌}
 use native.Mathlib.Omega.{arith}
-use lib.ListN.{length}
 use Rattle.rules.specs.Limits.{desk}
-use Rattle.rules.proofs.Laws.{not_true, not_false}
-use Rattle.space.specs.Chains.{Indexed}
-use Rattle.space.specs.Closed.{Unmet}
 use Rattle.space.proofs.Indexing.{index_count}
 use Rattle.space.proofs.Meetings.{unmet_new}
-use Rattle.soundness.specs.Words.{blank_words, Mask, stamp_of, rows_in_use, EdgesLow}
-use Rattle.soundness.specs.Tests.{rows_read, with_rows}
+use Rattle.soundness.specs.Words.{blank_words, rows_in_use}
+use Rattle.soundness.specs.Tests.{with_rows}
 use Rattle.soundness.proofs.BoundaryLoops.{edges_none, edges_on}
 use Rattle.soundness.proofs.Distinct.{apart, apart_go, apart_no, apart_is}
 use Rattle.soundness.proofs.RowLoops.{whole_room}
-use Rattle.soundness.proofs.RowsRead.{read_from, read_start, read_no, read_known, read_go, read_end, with_go}
-use Rattle.soundness.proofs.OnePass.{rows_left, pass_start, pass_go, pass_no, pass_short, pass_end, row_head, row_element, no_first, no_second, both}
+use Rattle.soundness.proofs.RowsRead.{read_start, read_no, read_known, read_go, read_end, with_go}
+use Rattle.soundness.proofs.OnePass.{pass_start, pass_go, pass_no, pass_short, pass_end, row_head, row_element, no_first, no_second, both}
 use borrow.Author.Rules.{rules}
 use Rattle.soundness.proofs.sound.rows_in_use.Goals as goal
 
 pub loop-i-init : goal.loop-i-init
 loop-i-init c = record {
-      within = search rules;
-      few = search rules;
-      mask = c.past_mask-past.ensures;
-      same = pass_start c.args.elements.now c.args.d c.args.n c.args.v c.args.h;
-      edges = edges_none c.args.elements.now;
-      unmet = unmet_new;
-      places = refl;
-      distinct = refl;
-      indexed = c.requires.empty;
-      read = read_start c.args.elements.now c.args.d c.args.n c.args.h;
-      joins = refl;
-    }
+  within = search rules;
+  few = search rules;
+  mask = c.past_mask-past.ensures;
+  same = pass_start c.args.elements.now c.args.d c.args.n c.args.v c.args.h;
+  edges = edges_none c.args.elements.now;
+  unmet = unmet_new;
+  places = refl;
+  distinct = refl;
+  indexed = c.requires.empty;
+  read = read_start c.args.elements.now c.args.d c.args.n c.args.h;
+  joins = refl;
+}
 
 pub stored_row_sound-requires : goal.stored_row_sound-requires
-stored_row_sound-requires c = record { long = c.requires.long; in_room = omega (arith, c.requires.fits, c.loop-i-test.true); edges = c.loop-i.invariant.edges; unmet = c.loop-i.invariant.unmet; mask = c.loop-i.invariant.mask; places = c.loop-i.invariant.places }
+stored_row_sound-requires c = record {
+  long = c.requires.long;
+  in_room = omega (arith, c.requires.fits, c.loop-i-test.true);
+  edges = c.loop-i.invariant.edges;
+  unmet = c.loop-i.invariant.unmet;
+  mask =
+      c.loop-i.invariant.mask;
+  places = c.loop-i.invariant.places;
+}
 
 pub shape_of-index-then-not-stored_row_sound : goal.shape_of-index-then-not-stored_row_sound
 shape_of-index-then-not-stored_row_sound c = c.loop-i.invariant.indexed.long ∙ sym c.requires.empty.long
@@ -89,11 +92,11 @@ shape_of-index-then-k-v c = c.loop-i.invariant.indexed.long ∙ sym c.requires.e
 
 pub returns-then-k-v : goal.returns-then-k-v
 returns-then-k-v c = record {
-      told = no_first _ _ (pass_short c.args.elements.now c.args.d c.args.n c.args.v c.args.h (blank_words c.loop-i.seen) c.loop-i.k c.loop-i.i c.loop-i.invariant.same c.loop-i-test.false c.if-k-v.true);
-      indexed = λ t. absurd (false≢true t);
-      read = c.loop-i.invariant.joins
-          ∙ ap (λ (m : ℕ). with_rows c.args.elements.now m c.args.index.now) (sym (read_end c.args.elements.now c.args.d c.args.n c.args.h c.loop-i.k c.loop-i.i c.loop-i.invariant.read c.loop-i-test.false));
-    }
+  told = no_first _ _ (pass_short c.args.elements.now c.args.d c.args.n c.args.v c.args.h (blank_words c.loop-i.seen) c.loop-i.k c.loop-i.i c.loop-i.invariant.same c.loop-i-test.false c.if-k-v.true);
+  indexed = λ t. absurd (false≢true t);
+  read = c.loop-i.invariant.joins
+      ∙ ap (λ (m : ℕ). with_rows c.args.elements.now m c.args.index.now) (sym (read_end c.args.elements.now c.args.d c.args.n c.args.h c.loop-i.k c.loop-i.i c.loop-i.invariant.read c.loop-i-test.false));
+}
 
 pub blank_words-requires : goal.blank_words-requires
 blank_words-requires c = record { order = search rules; end = search (rules, c.loop-i.invariant.places) }

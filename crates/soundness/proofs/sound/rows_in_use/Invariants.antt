@@ -1,24 +1,17 @@
 -- What is asked of the rows that are rowsLeft, with `k` as the vertex that is to be named next, is what is asked of all, where nothing is seen past a boundary so far; and the rows so far are in the index, no two of them equal.
 use Prim.Native.Nat.{ℕ, ◌-◌, ◌≤◌}
-use mathlib.Core.Bool.{◌&&◌, true, false≢true}
+use mathlib.Core.Bool.{◌&&◌, true}
 use mathlib.Core.List.{List}
-use mathlib.Core.Path.{◌≡◌, refl, sym, ap, ◌∙◌}
-use native.Mathlib.Omega.{arith}
+use mathlib.Core.Path.{◌≡◌}
 use lib.ListN.{length}
 use Rattle.rules.specs.Limits.{desk}
-use Rattle.rules.proofs.Laws.{not_true, not_false}
 use Rattle.space.specs.Chains.{Indexed}
 use Rattle.space.specs.Closed.{Unmet}
-use Rattle.space.proofs.Indexing.{index_count}
-use Rattle.space.proofs.Meetings.{unmet_new}
 use Rattle.soundness.specs.Words.{blank_words, Mask, stamp_of, rows_in_use, EdgesLow}
 use Rattle.soundness.specs.Tests.{rows_read, with_rows}
-use Rattle.soundness.proofs.BoundaryLoops.{edges_none, edges_on}
-use Rattle.soundness.proofs.Distinct.{apart, apart_go, apart_no, apart_is}
-use Rattle.soundness.proofs.RowLoops.{whole_room}
-use Rattle.soundness.proofs.RowsRead.{read_from, read_start, read_no, read_known, read_go, read_end, with_go}
-use Rattle.soundness.proofs.OnePass.{rows_left, pass_start, pass_go, pass_no, pass_short, pass_end, row_head, row_element, no_first, no_second, both}
-use borrow.Author.Rules.{rules}
+use Rattle.soundness.proofs.Distinct.{apart}
+use Rattle.soundness.proofs.RowsRead.{read_from}
+use Rattle.soundness.proofs.OnePass.{rows_left}
 use Rattle.soundness.proofs.sound.rows_in_use.Given as goal
 
 pub record Passed (es : List ℕ) (d n v h : ℕ) (index₀ past index met seen : List ℕ) (k i : ℕ) : Type 0 where

@@ -7,7 +7,6 @@ use native.Mathlib.Omega.{arith}
 use Rattle.rules.specs.Limits.{desk}
 use Rattle.soundness.specs.Words.{rows_sound}
 use Rattle.soundness.specs.Tests.{RowsTested, rows_read, with_rows}
-use borrow.Author.Rules.{rules}
 use Rattle.soundness.proofs.sound.rows_sound.Goals as goal
 
 -- the answer for the dimension that was compared is that for the dimension

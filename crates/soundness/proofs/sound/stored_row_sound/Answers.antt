@@ -2,22 +2,21 @@
 use Prim.Native.Nat.{◌≤◌}
 use mathlib.Core.Path.{refl, sym, ◌∙◌}
 use native.Mathlib.Omega.{arith}
-use borrow.Author.Rules.{rules}
 use Rattle.soundness.proofs.KnownRows.{own_alike, alike_back, edges_alike, row_alike}
 use Rattle.soundness.proofs.sound.stored_row_sound.Goals as goal
 
 pub row_sound-requires : goal.row_sound-requires
 row_sound-requires c = record {
-      there = record {
-        row = omega (arith, c.requires.long, c.requires.in_room);
-        spaced = record { long = omega (arith, c.requires.long); ends = omega arith; width = omega arith };
-        in_room = c.requires.in_room;
-        mask = c.requires.mask;
-        places = c.requires.places;
-      };
-      edges = edges_alike (alike_back (own_alike c.args.elements.now _ c.args.e.0 (omega (arith, c.requires.in_room)) refl refl)) c.requires.edges;
-      unmet = c.requires.unmet;
-    }
+  there = record {
+    row = omega (arith, c.requires.long, c.requires.in_room);
+    spaced = record { long = omega (arith, c.requires.long); ends = omega arith; width = omega arith };
+    in_room = c.requires.in_room;
+    mask = c.requires.mask;
+    places = c.requires.places;
+  };
+  edges = edges_alike (alike_back (own_alike c.args.elements.now _ c.args.e.0 (omega (arith, c.requires.in_room)) refl refl)) c.requires.edges;
+  unmet = c.requires.unmet;
+}
 
 pub returns : goal.returns
 returns c = let few = (let z : c.args.e.0 ≤ 512 = omega (arith, c.requires.in_room) in z) in

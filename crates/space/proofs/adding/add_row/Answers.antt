@@ -7,11 +7,16 @@ use lib.ListN.{get_or}
 use lib.Seq.{get_or-set_same}
 use Rattle.space.proofs.Indexing.{index_count}
 use Rattle.space.proofs.RowAdds.{row_whole, row_found, row_full, row_new_lem}
-use borrow.Author.Rules.{rules}
 use Rattle.space.proofs.adding.add_row.Goals as goal
 
 pub find_row-found-requires : goal.find_row-found-requires
-find_row-found-requires c = record { elements = c.requires.elements; room = omega (arith, c.wide-n.ensures.value, c.requires.room); row = omega (arith, c.requires.row); index = index_count _ _ _ _ (sym c.wide-n.ensures.value) c.requires.index }
+find_row-found-requires c = record {
+  elements = c.requires.elements;
+  room = omega (arith, c.wide-n.ensures.value, c.requires.room);
+  row = omega (arith, c.requires.row);
+  index = index_count _ _ _ _
+      (sym c.wide-n.ensures.value) c.requires.index;
+}
 
 pub returns-then-n-ge-ELEMENTS : goal.returns-then-n-ge-ELEMENTS
 returns-then-n-ge-ELEMENTS c = let q = row_whole c.args.elements.now c.args.row.now c.wide-n.result c.requires.row c.find_row-found.ensures in

@@ -5,7 +5,6 @@ use native.Mathlib.Omega.{arith}
 use lib.ListN.{length}
 use Rattle.space.specs.Numbers.{row_width}
 use Rattle.space.proofs.Indexing.{index_appended}
-use borrow.Author.Rules.{rules}
 use Rattle.space.proofs.adding.append_row.Goals as goal
 
 pub returns : goal.returns
@@ -13,5 +12,6 @@ returns c = let fit : c.args.n * row_width + row_width ≤ length c.args.element
     record {
       count = refl;
       stored = c.put_row.ensures;
-      index = index_appended c.args.elements.now c.args.row.now c.args.n fit c.requires.row c.args.index.now c.key_of-key.result c.requires.index c.key_of-key.ensures.value c.key_of-key.ensures.bound c.requires.room _ _ c.put_row.ensures c.join.ensures;
+      index = index_appended c.args.elements.now c.args.row.now c.args.n fit c.requires.row c.args.index.now c.key_of-key.result c.requires.index c.key_of-key.ensures.value c.key_of-key.ensures.bound c.requires.room _ _
+          c.put_row.ensures c.join.ensures;
     }

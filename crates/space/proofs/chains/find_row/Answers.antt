@@ -2,7 +2,6 @@
 use mathlib.Core.Path.{sym, ap, ◌∙◌}
 use Rattle.space.specs.Chains.{number_of}
 use Rattle.space.proofs.Indexing.{number_less}
-use borrow.Author.Rules.{rules}
 use Rattle.space.proofs.chains.find_row.Goals as goal
 
 pub returns-then-met-eq0 : goal.returns-then-met-eq0

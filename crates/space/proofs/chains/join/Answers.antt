@@ -2,7 +2,6 @@
 use mathlib.Core.Path.{refl}
 use native.Mathlib.Omega.{arith}
 use lib.ListN.{length-set}
-use borrow.Author.Rules.{rules}
 use Rattle.space.proofs.chains.join.Goals as goal
 
 pub bounds-index-key-2 : goal.bounds-index-key-2

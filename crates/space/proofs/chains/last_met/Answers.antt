@@ -6,8 +6,7 @@ use mathlib.Core.Path.{◌≡◌, sym, ap, ◌∙◌}
 use native.Mathlib.Omega.{arith}
 use lib.ListN.{get_or, take, drop}
 use Rattle.space.specs.Numbers.{row_width}
-use Rattle.space.proofs.Indexing.{Met, met_start, met_less, met_on, met_end}
-use borrow.Author.Rules.{rules}
+use Rattle.space.proofs.Indexing.{met_start, met_less, met_on, met_end}
 use Rattle.space.proofs.chains.last_met.Goals as goal
 use Rattle.space.proofs.chains.last_met.Goals.{then-same_row, else-same_row}
 
@@ -34,12 +33,14 @@ pub bounds-index-x : goal.bounds-index-x
 bounds-index-x c = omega (arith, c.loop-x.invariant.room, c.requires.room, c.requires.index.long, c.loop-x-test.true)
 
 pub loop-x-smaller : goal.loop-x-smaller
-loop-x-smaller c = met_less c.args.elements.now c.args.n (take row_width (drop c.args.from c.args.words.now)) c.args.index.now c.loop-x.met c.loop-x.x c.wide-x-in-loop-x.result c.requires.index c.loop-x.invariant c.loop-x-test.true c.wide-x-in-loop-x.ensures.value
+loop-x-smaller c = met_less c.args.elements.now c.args.n (take row_width (drop c.args.from c.args.words.now)) c.args.index.now c.loop-x.met c.loop-x.x c.wide-x-in-loop-x.result c.requires.index c.loop-x.invariant
+    c.loop-x-test.true c.wide-x-in-loop-x.ensures.value
 
 pub loop-x-preserved : goal.loop-x-preserved
 loop-x-preserved c =
-    let on = met_on c.args.elements.now c.args.n (take row_width (drop c.args.from c.args.words.now)) c.args.index.now c.loop-x.met c.loop-x.x c.wide-x-in-loop-x.result c.requires.index c.loop-x.invariant c.loop-x-test.true c.wide-x-in-loop-x.ensures.value
-        {P = c.same_row.result ≡ true} {Q = c.same_row.result ≡ false} c.if-same_row.met in
+    let on = met_on c.args.elements.now c.args.n (take row_width (drop c.args.from c.args.words.now)) c.args.index.now c.loop-x.met c.loop-x.x c.wide-x-in-loop-x.result c.requires.index c.loop-x.invariant c.loop-x-test.true
+    c.wide-x-in-loop-x.ensures.value
+    {P = c.same_row.result ≡ true} {Q = c.same_row.result ≡ false} c.if-same_row.met in
     elim c.if-same_row.branch [
       | then-same_row w ↦ on (inl (w.if-same_row.true, w.met-is)) (λ p. sym c.same_row.ensures ∙ p) (λ q. sym c.same_row.ensures ∙ q)
       | else-same_row w ↦ on (inr (w.if-same_row.false, w.met-is)) (λ p. sym c.same_row.ensures ∙ p) (λ q. sym c.same_row.ensures ∙ q)

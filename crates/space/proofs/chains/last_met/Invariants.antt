@@ -1,11 +1,7 @@
 -- What has been met is what a search from row x on gives.
-use Prim.Native.Nat.{ℕ}
-use mathlib.Core.Path.{sym, ap, ◌∙◌}
-use native.Mathlib.Omega.{arith}
-use lib.ListN.{get_or, take, drop}
+use lib.ListN.{take, drop}
 use Rattle.space.specs.Numbers.{row_width}
-use Rattle.space.proofs.Indexing.{Met, met_start, met_less, met_on, met_end}
-use borrow.Author.Rules.{rules}
+use Rattle.space.proofs.Indexing.{Met}
 use Rattle.space.proofs.chains.last_met.Given as goal
 
 abbrev pub invariant-loop-x : goal.invariant-loop-x

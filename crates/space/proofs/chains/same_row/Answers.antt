@@ -1,13 +1,6 @@
 -- The invariant: the rows are alike exactly when no bit has differed yet and the words that are left are alike.
-use Prim.Native.Nat.{ℕ, ◌≤◌, ◌-◌}
-use mathlib.Core.Bool.{◌&&◌}
-use mathlib.Core.List.{List}
-use mathlib.Core.Path.{◌≡◌, refl}
+use mathlib.Core.Path.{refl}
 use native.Mathlib.Omega.{arith}
-use lib.Dec.{eqb}
-use lib.ListN.{take, drop}
-use Rattle.rules.specs.Lists.{alike}
-use Rattle.space.specs.Numbers.{row_width}
 use Rattle.space.proofs.RowWords.{unlike_at, same_go, same_end}
 use borrow.Author.Rules.{rules}
 use borrow.Author.Tests.{ne_eqb}

@@ -2,15 +2,11 @@
 use Prim.Native.Nat.{ℕ, ◌≤◌, ◌-◌}
 use mathlib.Core.Bool.{◌&&◌}
 use mathlib.Core.List.{List}
-use mathlib.Core.Path.{◌≡◌, refl}
-use native.Mathlib.Omega.{arith}
+use mathlib.Core.Path.{◌≡◌}
 use lib.Dec.{eqb}
 use lib.ListN.{take, drop}
 use Rattle.rules.specs.Lists.{alike}
 use Rattle.space.specs.Numbers.{row_width}
-use Rattle.space.proofs.RowWords.{unlike_at, same_go, same_end}
-use borrow.Author.Rules.{rules}
-use borrow.Author.Tests.{ne_eqb}
 use Rattle.space.proofs.chains.same_row.Given as goal
 
 pub record Compared (row stored : List ℕ) (differ j : ℕ) : Type 0 where

@@ -1,6 +1,4 @@
 -- The ends that are met so far and those that are left make up the whole; n second meetings mean that each end is met twice.
-use Prim.Native.Nat.{ℕ, ◌-◌, ◌≤◌}
-use mathlib.Core.List.{List}
 use mathlib.Core.Path.{ap, sym, ◌∙◌}
 use lib.Dec.{eqb}
 use lib.ListN.{take, replicate}
@@ -8,7 +6,7 @@ use native.Mathlib.Omega.{arith}
 use borrow.Author.Rules.{rules}
 use Rattle.rules.specs.Limits.{desk}
 use Rattle.space.proofs.TwiceMet.{edges_long, edges_fine, TakenUp, taken_there, taken_here, taken_ends, taken_ready}
-use Rattle.space.proofs.EndsCounted.{Round, round_start, round_met, round_few, round_end}
+use Rattle.space.proofs.EndsCounted.{round_start, round_met, round_few, round_end}
 use Rattle.space.proofs.Meetings.{unmet_new}
 use Rattle.space.proofs.closed.each_twice.Goals as goal
 
@@ -16,20 +14,20 @@ pub loop-k-init : goal.loop-k-init
 loop-k-init c = record { bound = search rules; round = round_start c.args.elements.now (take c.args.n c.args.list.now) 1 (replicate desk.elements 0) unmet_new }
 
 pub meet_ends_in_face-twice-requires : goal.meet_ends_in_face-twice-requires
-meet_ends_in_face-twice-requires c = 
+meet_ends_in_face-twice-requires c =
     let edge : TakenUp c.args.elements.now c.args.list.now c.args.n c.loop-k.k c.wide.result =
     record { ready = c.requires; more = c.loop-k-test.true; read = c.wide.ensures.value } in
     taken_ready edge
 
 pub overflow_add-twice : goal.overflow_add-twice
-overflow_add-twice c = 
+overflow_add-twice c =
     let edge : TakenUp c.args.elements.now c.args.list.now c.args.n c.loop-k.k c.wide.result =
     record { ready = c.requires; more = c.loop-k-test.true; read = c.wide.ensures.value } in
     let few = round_few _ _ 1 c.loop-k.met c.loop-k.twice c.loop-k.k c.loop-k.invariant.round in
     omega (arith, few, c.meet_ends_in_face-twice.ensures.most, edge.ready.size, c.loop-k.invariant.bound)
 
 pub loop-k-preserved : goal.loop-k-preserved
-loop-k-preserved c = 
+loop-k-preserved c =
     let edge : TakenUp c.args.elements.now c.args.list.now c.args.n c.loop-k.k c.wide.result =
     record { ready = c.requires; more = c.loop-k-test.true; read = c.wide.ensures.value } in
     let T = edge in

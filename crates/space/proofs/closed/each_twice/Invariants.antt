@@ -1,15 +1,8 @@
 -- The ends that are met so far and those that are left make up the whole; n second meetings mean that each end is met twice.
 use Prim.Native.Nat.{ℕ, ◌-◌, ◌≤◌}
 use mathlib.Core.List.{List}
-use mathlib.Core.Path.{ap, sym, ◌∙◌}
-use lib.Dec.{eqb}
-use lib.ListN.{take, replicate}
-use native.Mathlib.Omega.{arith}
-use borrow.Author.Rules.{rules}
-use Rattle.rules.specs.Limits.{desk}
-use Rattle.space.proofs.TwiceMet.{edges_long, edges_fine, TakenUp, taken_there, taken_here, taken_ends, taken_ready}
-use Rattle.space.proofs.EndsCounted.{Round, round_start, round_met, round_few, round_end}
-use Rattle.space.proofs.Meetings.{unmet_new}
+use lib.ListN.{take}
+use Rattle.space.proofs.EndsCounted.{Round}
 use Rattle.space.proofs.closed.each_twice.Given as goal
 
 -- k of the edges are met

@@ -4,7 +4,6 @@ use mathlib.Core.List.{List}
 use mathlib.Core.Path.{◌≡◌, ap, ◌∙◌}
 use native.Mathlib.Omega.{arith}
 use lib.ListN.{get_or, length, take}
-use borrow.Author.Rules.{rules}
 use Rattle.space.specs.Closed.{few}
 use Rattle.space.proofs.TwiceMet.{edges_long, closed_one, closed_few, closed_many, closed_other}
 use Rattle.space.proofs.closed.is_closed.Goals as goal

@@ -1,5 +1,5 @@
 -- The edges so far have joined paths, and none of them closed one; what the next edge answers tells the ring, or goes on.
-use Prim.Native.Nat.{ℕ, ◌+◌, ◌-◌, ◌<◌, ◌≤◌}
+use Prim.Native.Nat.{ℕ, ◌+◌, ◌<◌, ◌≤◌}
 use mathlib.Core.Bool.{false}
 use mathlib.Core.List.{List}
 use mathlib.Core.Path.{◌≡◌, ap, sym, ◌∙◌}
@@ -10,7 +10,7 @@ use borrow.Author.Rules.{rules}
 use Rattle.rules.specs.Limits.{desk}
 use Rattle.space.specs.Closed.{EndsLow, FaceReady, Stamped, joining, joined, ring_raw}
 use Rattle.space.proofs.TwiceMet.{edges_long, edges_fine, TakenUp, taken_there, taken_here, taken_ends, taken_ready}
-use Rattle.space.proofs.PathsJoined.{Paths, paths_start, paths_stamped, paths_few, paths_go}
+use Rattle.space.proofs.PathsJoined.{paths_start, paths_stamped, paths_few, paths_go}
 use Rattle.space.proofs.Meetings.{unmet_new}
 use Rattle.space.proofs.Rings.{no_edges, answers_thrice, answers_early, answers_last}
 use Rattle.space.proofs.closed.is_ring.Invariants.{SoFar}
@@ -69,7 +69,7 @@ pub loop-k-init : goal.loop-k-init
 loop-k-init c = record { bound = search rules; paths_so = paths_start c.args.elements.now (take c.args.n c.args.list.now) 1 (replicate desk.elements 0) unmet_new }
 
 pub join_ends_in_face-met-requires : goal.join_ends_in_face-met-requires
-join_ends_in_face-met-requires c = 
+join_ends_in_face-met-requires c =
     let taken : Taken c.args.elements.now c.args.list.now c.args.n c.loop-k.paths c.loop-k.twice c.loop-k.k c.wide.result =
     record {
       edge = record { ready = c.requires; more = c.loop-k-test.true; read = c.wide.ensures.value };
@@ -78,7 +78,7 @@ join_ends_in_face-met-requires c =
     record { edge = taken_ready taken.edge; stamped = stamped taken }
 
 pub returns-then-met-eq-THRICE : goal.returns-then-met-eq-THRICE
-returns-then-met-eq-THRICE c = 
+returns-then-met-eq-THRICE c =
     let taken : Taken c.args.elements.now c.args.list.now c.args.n c.loop-k.paths c.loop-k.twice c.loop-k.k c.wide.result =
     record {
       edge = record { ready = c.requires; more = c.loop-k-test.true; read = c.wide.ensures.value };
@@ -87,7 +87,7 @@ returns-then-met-eq-THRICE c =
     thrice taken c.join_ends_in_face-met.ensures.code c.if-met-eq-THRICE.true
 
 pub returns-then-k-n : goal.returns-then-k-n
-returns-then-k-n c = 
+returns-then-k-n c =
     let taken : Taken c.args.elements.now c.args.list.now c.args.n c.loop-k.paths c.loop-k.twice c.loop-k.k c.wide.result =
     record {
       edge = record { ready = c.requires; more = c.loop-k-test.true; read = c.wide.ensures.value };
@@ -96,7 +96,7 @@ returns-then-k-n c =
     early taken c.join_ends_in_face-met.ensures.code c.if-met-eq-CLOSES.true c.if-k-n.true
 
 pub overflow_add-result : goal.overflow_add-result
-overflow_add-result c = 
+overflow_add-result c =
     let taken : Taken c.args.elements.now c.args.list.now c.args.n c.loop-k.paths c.loop-k.twice c.loop-k.k c.wide.result =
     record {
       edge = record { ready = c.requires; more = c.loop-k-test.true; read = c.wide.ensures.value };
@@ -107,7 +107,7 @@ overflow_add-result c =
     omega (arith, most, T.edge.ready.size, T.so.bound)
 
 pub returns-then-met-eq-CLOSES : goal.returns-then-met-eq-CLOSES
-returns-then-met-eq-CLOSES c = 
+returns-then-met-eq-CLOSES c =
     let taken : Taken c.args.elements.now c.args.list.now c.args.n c.loop-k.paths c.loop-k.twice c.loop-k.k c.wide.result =
     record {
       edge = record { ready = c.requires; more = c.loop-k-test.true; read = c.wide.ensures.value };
@@ -116,7 +116,7 @@ returns-then-met-eq-CLOSES c =
     last taken c.join_ends_in_face-met.ensures.code c.if-met-eq-CLOSES.true c.if-k-n.false
 
 pub overflow_add-twice : goal.overflow_add-twice
-overflow_add-twice c = 
+overflow_add-twice c =
     let taken : Taken c.args.elements.now c.args.list.now c.args.n c.loop-k.paths c.loop-k.twice c.loop-k.k c.wide.result =
     record {
       edge = record { ready = c.requires; more = c.loop-k-test.true; read = c.wide.ensures.value };
@@ -127,7 +127,7 @@ overflow_add-twice c =
     omega (arith, most, c.join_ends_in_face-met.ensures.most, T.edge.ready.size, T.so.bound)
 
 pub loop-k-preserved : goal.loop-k-preserved
-loop-k-preserved c = 
+loop-k-preserved c =
     let taken : Taken c.args.elements.now c.args.list.now c.args.n c.loop-k.paths c.loop-k.twice c.loop-k.k c.wide.result =
     record {
       edge = record { ready = c.requires; more = c.loop-k-test.true; read = c.wide.ensures.value };

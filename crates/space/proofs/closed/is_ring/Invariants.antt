@@ -1,18 +1,8 @@
 -- The edges so far have joined paths, and none of them closed one; what the next edge answers tells the ring, or goes on.
-use Prim.Native.Nat.{ℕ, ◌+◌, ◌-◌, ◌<◌, ◌≤◌}
-use mathlib.Core.Bool.{false}
+use Prim.Native.Nat.{ℕ, ◌-◌, ◌≤◌}
 use mathlib.Core.List.{List}
-use mathlib.Core.Path.{◌≡◌, ap, sym, ◌∙◌}
-use native.Mathlib.Omega.{arith}
-use lib.Dec.{eqb}
-use lib.ListN.{take, length, get_or, replicate}
-use borrow.Author.Rules.{rules}
-use Rattle.rules.specs.Limits.{desk}
-use Rattle.space.specs.Closed.{EndsLow, FaceReady, Stamped, joining, joined, ring_raw}
-use Rattle.space.proofs.TwiceMet.{edges_long, edges_fine, TakenUp, taken_there, taken_here, taken_ends, taken_ready}
-use Rattle.space.proofs.PathsJoined.{Paths, paths_start, paths_stamped, paths_few, paths_go}
-use Rattle.space.proofs.Meetings.{unmet_new}
-use Rattle.space.proofs.Rings.{no_edges, answers_thrice, answers_early, answers_last}
+use lib.ListN.{take}
+use Rattle.space.proofs.PathsJoined.{Paths}
 use Rattle.space.proofs.closed.is_ring.Given as goal
 
 -- k of the edges have joined paths

@@ -1,6 +1,5 @@
 -- The edge's two ends are read, and are the corners whose paths it joins.
 use mathlib.Core.Path.{◌∙◌}
-use borrow.Author.Rules.{rules}
 use Rattle.space.proofs.PathsJoined.{edge_joined, edge_paths}
 use Rattle.space.proofs.closed.join_ends_in_face.Goals as goal
 

@@ -4,7 +4,6 @@ use mathlib.Core.Path.{ap₂, ◌∙◌}
 use native.Mathlib.Omega.{arith}
 use lib.Dec.{lit≤}
 use Rattle.space.proofs.Across.{first_thrice, second_thrice, closing, counting}
-use borrow.Author.Rules.{rules}
 use Rattle.space.proofs.closed.joins.Goals as goal
 
 pub returns-then-x-eq-INSIDE : goal.returns-then-x-eq-INSIDE
@@ -18,6 +17,6 @@ returns-then-x-b c = record { value = closing _ _ _ _ c.if-x-eq-INSIDE.false c.i
 
 pub returns : goal.returns
 returns c = record {
-      value = ap₂ (λ (m n : ℕ). m + n) c.one_unless_same.ensures.value c.one_unless_same-2.ensures.value ∙ counting _ _ _ _ c.if-x-eq-INSIDE.false c.if-y-eq-INSIDE.false c.if-x-b.false;
-      bound = omega (arith, c.one_unless_same.ensures.bound, c.one_unless_same-2.ensures.bound);
-    }
+  value = ap₂ (λ (m n : ℕ). m + n) c.one_unless_same.ensures.value c.one_unless_same-2.ensures.value ∙ counting _ _ _ _ c.if-x-eq-INSIDE.false c.if-y-eq-INSIDE.false c.if-x-b.false;
+  bound = omega (arith, c.one_unless_same.ensures.bound, c.one_unless_same-2.ensures.bound);
+}

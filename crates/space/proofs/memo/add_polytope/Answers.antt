@@ -2,7 +2,6 @@
 use mathlib.Core.Path.{sym, ◌∙◌}
 use Rattle.space.proofs.RowMade.{taken}
 use Rattle.space.proofs.PolytopeMemo.{poly_few, poly_many, poly_open, poly_refused, poly_made}
-use borrow.Author.Tests.{not-true, not-false}
 use borrow.Author.Rules.{rules}
 use Rattle.space.proofs.memo.add_polytope.Goals as goal
 

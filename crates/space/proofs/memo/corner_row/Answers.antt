@@ -1,6 +1,5 @@
 -- Four stores over zeros are the row that the rules write of a corner.
 use Rattle.space.proofs.VertexMemo.{corner_is}
-use borrow.Author.Rules.{rules}
 use Rattle.space.proofs.memo.corner_row.Goals as goal
 
 pub returns : goal.returns

@@ -1,6 +1,5 @@
 -- By the two tests of the dimension.
 use Rattle.space.proofs.HyperplaneMemo.{primordials_none, primordials_two}
-use borrow.Author.Rules.{rules}
 use Rattle.space.proofs.memo.primordials.Goals as goal
 
 pub returns-then-d-lt2 : goal.returns-then-d-lt2

@@ -3,7 +3,6 @@ use native.Mathlib.Omega.{arith}
 use lib.Ieee.{nan}
 use lib.ListN.{get_or, length-set}
 use Rattle.space.proofs.HyperplaneMemo.{five_stores}
-use borrow.Author.Rules.{rules}
 use Rattle.space.proofs.memo.put_hyperplane.Goals as goal
 
 pub bounds-planes-at-2 : goal.bounds-planes-at-2

@@ -3,7 +3,6 @@ use native.Mathlib.Omega.{arith}
 use lib.Ieee.{nan}
 use lib.ListN.{get_or, length-set}
 use Rattle.space.proofs.VertexMemo.{four_stores}
-use borrow.Author.Rules.{rules}
 use Rattle.space.proofs.memo.put_point.Goals as goal
 
 pub bounds-points-at-2 : goal.bounds-points-at-2

@@ -1,6 +1,5 @@
 -- A hyperplane found, no room, or a new one: each is the step of the rules with what was found.
 use Rattle.space.proofs.HyperplaneMemo.{shared_full, shared_old, shared_new}
-use borrow.Author.Rules.{rules}
 use Rattle.space.proofs.memo.share_hyperplane.Goals as goal
 
 pub returns-then-n-ge-HYPERPLANES : goal.returns-then-n-ge-HYPERPLANES

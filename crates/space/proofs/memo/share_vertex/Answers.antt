@@ -33,6 +33,6 @@ returns-in-At c = record { shared = shared_old _ c.in-At.is c.corner_row-row.ens
 
 pub returns-else-n-ge-VERTICES : goal.returns-else-n-ge-VERTICES
 returns-else-n-ge-VERTICES c = record {
-      shared = shared_new _ c.wide-n.ensures.value c.in-None.is c.if-n-ge-VERTICES.false c.put_point.ensures c.corner_row-row-in-None.ensures c.add_row-in-None.ensures.added;
-      index = c.add_row-in-None.ensures.index;
-    }
+  shared = shared_new _ c.wide-n.ensures.value c.in-None.is c.if-n-ge-VERTICES.false c.put_point.ensures c.corner_row-row-in-None.ensures c.add_row-in-None.ensures.added;
+  index = c.add_row-in-None.ensures.index;
+}

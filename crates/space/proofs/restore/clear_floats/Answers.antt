@@ -2,8 +2,8 @@
 use lib.Ieee
 use Rattle.space.proofs.Zeros.{zeros_more}
 use Rattle.rules.specs.Floats.{plus_zero}
-use Prim.Native.Nat.{ℕ, ◌+◌, ◌≤◌, ◌-◌}
-use lib.ListN.{length, set, replicate, length-set}
+use Prim.Native.Nat.{ℕ, ◌+◌}
+use lib.ListN.{set, replicate, length-set}
 use lib.Ieee.{Float}
 use lib.Seq.{sets}
 use native.Mathlib.Omega.{arith}
@@ -18,10 +18,10 @@ loop-j-init c = record { most = search rules; long = refl; zeros = refl }
 pub loop-j-preserved : goal.loop-j-preserved
 unfolding lib.Ieee.of_bits
 loop-j-preserved c = record {
-      most = search rules;
-      long = simp length-set (omega arith);
-      zeros = ap (λ (l : List Float). set l (c.args.at + c.loop-j.j) plus_zero) c.loop-j.invariant.zeros ∙ zeros_more plus_zero c.args.words.now c.args.at c.loop-j.j (omega arith);
-    }
+  most = search rules;
+  long = simp length-set (omega arith);
+  zeros = ap (λ (l : List Float). set l (c.args.at + c.loop-j.j) plus_zero) c.loop-j.invariant.zeros ∙ zeros_more plus_zero c.args.words.now c.args.at c.loop-j.j (omega arith);
+}
 
 pub returns : goal.returns
 returns c = let e : c.loop-j.j ≡ c.args.n = omega arith in

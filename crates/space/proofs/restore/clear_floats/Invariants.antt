@@ -1,15 +1,11 @@
 -- The invariant: the floats so far are zeros.
-use lib.Ieee
-use Rattle.space.proofs.Zeros.{zeros_more}
 use Rattle.rules.specs.Floats.{plus_zero}
-use Prim.Native.Nat.{ℕ, ◌+◌, ◌≤◌, ◌-◌}
-use lib.ListN.{length, set, replicate, length-set}
+use Prim.Native.Nat.{ℕ, ◌≤◌, ◌-◌}
+use lib.ListN.{length, replicate}
 use lib.Ieee.{Float}
 use lib.Seq.{sets}
-use native.Mathlib.Omega.{arith}
 use mathlib.Core.List.{List}
-use mathlib.Core.Path.{◌≡◌, refl, ap, ◌∙◌}
-use borrow.Author.Rules.{rules}
+use mathlib.Core.Path.{◌≡◌}
 use Rattle.space.proofs.restore.clear_floats.Given as goal
 
 pub record Cleared (words₀ : List Float) (at n : ℕ) (words : List Float) (j : ℕ) : Type 0 where

@@ -1,7 +1,7 @@
 -- The invariant: the numbers so far are zeros.
 use Rattle.space.proofs.Zeros.{zeros_more}
-use Prim.Native.Nat.{ℕ, ◌+◌, ◌≤◌, ◌-◌}
-use lib.ListN.{length, set, replicate, length-set}
+use Prim.Native.Nat.{ℕ, ◌+◌}
+use lib.ListN.{set, replicate, length-set}
 use lib.Seq.{sets}
 use native.Mathlib.Omega.{arith}
 use mathlib.Core.List.{List}
@@ -14,10 +14,10 @@ loop-j-init c = record { most = search rules; long = refl; zeros = refl }
 
 pub loop-j-preserved : goal.loop-j-preserved
 loop-j-preserved c = record {
-      most = search rules;
-      long = simp length-set (omega arith);
-      zeros = ap (λ (l : List ℕ). set l (c.args.at + c.loop-j.j) 0) c.loop-j.invariant.zeros ∙ zeros_more 0 c.args.words.now c.args.at c.loop-j.j (omega arith);
-    }
+  most = search rules;
+  long = simp length-set (omega arith);
+  zeros = ap (λ (l : List ℕ). set l (c.args.at + c.loop-j.j) 0) c.loop-j.invariant.zeros ∙ zeros_more 0 c.args.words.now c.args.at c.loop-j.j (omega arith);
+}
 
 pub returns : goal.returns
 returns c = let e : c.loop-j.j ≡ c.args.n = omega arith in

@@ -1,12 +1,9 @@
 -- The invariant: the numbers so far are zeros.
-use Rattle.space.proofs.Zeros.{zeros_more}
-use Prim.Native.Nat.{ℕ, ◌+◌, ◌≤◌, ◌-◌}
-use lib.ListN.{length, set, replicate, length-set}
+use Prim.Native.Nat.{ℕ, ◌≤◌, ◌-◌}
+use lib.ListN.{length, replicate}
 use lib.Seq.{sets}
-use native.Mathlib.Omega.{arith}
 use mathlib.Core.List.{List}
-use mathlib.Core.Path.{◌≡◌, refl, ap, ◌∙◌}
-use borrow.Author.Rules.{rules}
+use mathlib.Core.Path.{◌≡◌}
 use Rattle.space.proofs.restore.clear_numbers.Given as goal
 
 pub record Cleared (words₀ : List ℕ) (at n : ℕ) (words : List ℕ) (j : ℕ) : Type 0 where

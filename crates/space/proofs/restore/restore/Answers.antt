@@ -2,7 +2,6 @@
 use Rattle.space.proofs.Zeros.{restored}
 use lib.ListN.{length-set}
 use native.Mathlib.Omega.{arith}
-use borrow.Author.Rules.{rules}
 use Rattle.space.proofs.restore.restore.Goals as goal
 
 pub bounds-counts-2-2 : goal.bounds-counts-2-2

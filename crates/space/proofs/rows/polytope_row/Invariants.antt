@@ -1,14 +1,10 @@
 -- The invariant: the boundary so far is stored behind the four head words.
-use borrow.Author.Rules.{rules}
-use mathlib.Core.Path.{◌≡◌, refl, ap, ◌∙◌}
+use mathlib.Core.Path.{◌≡◌}
 use mathlib.Core.List.{List}
-use Prim.Native.Nat.{ℕ, ◌+◌, ◌≤◌, ◌<◌, ◌-◌}
-use native.Mathlib.Omega.{arith}
+use Prim.Native.Nat.{ℕ, ◌≤◌, ◌-◌}
 use lib.Seq.{sets}
-use lib.ListN.{length, get_or, set, take, replicate}
+use lib.ListN.{length, take}
 use Rattle.space.specs.Numbers.{row_width}
-use Rattle.space.proofs.RowWords.{sets_more}
-use Rattle.space.proofs.RowMade.{row_is}
 use Rattle.space.proofs.rows.polytope_row.Given as goal
 
 pub record Filled (list : List ℕ) (n : ℕ) (row₀ row : List ℕ) (j : ℕ) : Type 0 where

@@ -1,13 +1,10 @@
 -- The invariant: the words so far are stored.
-use Prim.Native.Nat.{ℕ, ◌+◌, ◌≤◌, ◌-◌}
-use mathlib.Core.Path.{◌≡◌, refl, sym, ap, ◌∙◌}
+use Prim.Native.Nat.{ℕ, ◌≤◌, ◌-◌}
+use mathlib.Core.Path.{◌≡◌}
 use mathlib.Core.List.{List}
-use native.Mathlib.Omega.{arith}
-use lib.ListN.{length, get_or, set, take, length-set}
+use lib.ListN.{length, take}
 use lib.Seq.{sets}
 use Rattle.space.specs.Numbers.{row_width}
-use Rattle.space.proofs.RowWords.{sets_more, sets_all}
-use borrow.Author.Rules.{rules}
 use Rattle.space.proofs.rows.put_row.Given as goal
 
 pub record Stored (elements₀ : List ℕ) (at : ℕ) (row elements : List ℕ) (j : ℕ) : Type 0 where

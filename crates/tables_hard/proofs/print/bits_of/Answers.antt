@@ -1,5 +1,5 @@
 -- `tables_hard::print::bits_of` is safe: a float that equals itself has bits. Assumes nothing.
-use Rattle.std.proofs.Common.{◌≡◌, false, not, T, subst, rules}
+use Rattle.std.proofs.Common.{◌≡◌, false, not, T, subst}
 use lib.Ieee.{Float, nan, inf, fin, ne, eq, is_nan}
 use Rattle.tables_hard.proofs.print.bits_of.Goals as goal
 

@@ -1,14 +1,11 @@
 -- Some of what is left has the mark exactly when some of the whole has.
 use Prim.Native.Nat.{ℕ, ◌-◌, ◌+◌, ◌*◌, ◌≤◌}
-use mathlib.Core.Path.{◌≡◌, sym, ◌∙◌}
+use mathlib.Core.Path.{◌≡◌}
 use mathlib.Core.List.{List}
-use borrow.Author.Rules.{rules}
 use lib.ListN.{get_or, drop}
 use Rattle.rules.specs.Lists.{any}
 use Rattle.walk.specs.Boundaries.{row_boundary}
 use Rattle.walk.specs.Facets.{row_primordial}
-use Rattle.walk.proofs.Boundaries.{number_low}
-use Rattle.walk.proofs.Facets.{any_here, any_go, any_end}
 use Rattle.walk.proofs.facet.any_primordial.Given as goal
 
 -- the places from i on are left

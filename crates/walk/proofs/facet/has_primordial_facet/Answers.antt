@@ -2,7 +2,6 @@
 use native.Mathlib.Omega.{arith}
 use Rattle.walk.proofs.Asking.{counts_four, rank_asked}
 use Rattle.walk.proofs.Facets.{refused, another_rank, facets_fit, has}
-use borrow.Author.Rules.{rules}
 use Rattle.walk.proofs.facet.has_primordial_facet.Goals as goal
 
 pub returns-then-no-ne0 : goal.returns-then-no-ne0
