@@ -24,7 +24,8 @@ use Rattle.rules.specs.declared.CutReply.{CutReply}
 use Rattle.rules.specs.declared.CutReply.TheVariants as reply
 use Rattle.rules.specs.declared.CutListReply.{CutListReply}
 use Rattle.rules.specs.declared.CutListReply.TheVariants.{Refused, Stopped, Answered}
-use Rattle.rules.proofs.CutLists.{list_by, list_by_lem, cut_list_is_cuts}
+use Rattle.rules.proofs.AfterList.{list_by, list_by_lem}
+use Rattle.rules.proofs.CutLists.{cut_list_is_cuts}
 use Rattle.rules.proofs.Laws.{and_left, and_right, eq_test, test_eq, not_eq, le_test, test_le, test_above}
 use Rattle.hypermath.specs.Answers.{row_hyperplane}
 use Rattle.cut.specs.Whole.{SoundCut}
