@@ -1,9 +1,11 @@
-"""The edits that make wrong programs: a file, a text that stands in it once, and another in its place. A text may go on over lines."""
+"""The edits that make wrong programs: a file, a text that stands in it once, and another in its place. A text may go on over lines.
+A condition that reads otherwise gives the places after it other names. A line `names:` says an old name and the new one, and the proof of
+the function takes the new one along: so that what refuses is a fact, and no name that is gone."""
 
 import re
 import sys
 
-WORDS = re.compile(r"^(file|old|new|row): ?(.*(?:\n(?!(?:file|old|new|row):|#).*)*)", re.M)
+WORDS = re.compile(r"^(file|old|new|row|names): ?(.*(?:\n(?!(?:file|old|new|row|names):|#).*)*)", re.M)
 
 
 def words_of(edit):
@@ -30,3 +32,13 @@ def put_in(edit, crate):
     for file, old, new in pairs_of(edit, crate):
         path = crate / file
         path.write_text(path.read_text(encoding="utf-8").replace(old, new), encoding="utf-8")
+
+
+def carry_names(edit, folders):
+    """Puts the names that an edit makes into its function's proof, where they end a name of a place."""
+    for word, text in words_of(edit):
+        if word == "names":
+            old, new = text.split()
+            name = re.compile(rf"(?<![\w-])([\w-]+-){re.escape(old)}(?![\w-])")
+            for path in [path for folder in folders for path in folder.glob("*.antt")]:
+                path.write_text(name.sub(rf"\g<1>{new}", path.read_text(encoding="utf-8")), encoding="utf-8")
