@@ -15,6 +15,7 @@ import filecmp
 import pathlib
 import sys
 import tempfile
+import textwrap
 from fractions import Fraction
 
 CRATE = pathlib.Path(__file__).resolve().parents[2] / "crates" / "floats_hard"
@@ -1115,10 +1116,15 @@ def constant_of(name):
     return f"\nconst {name}: u64 = 0x{pattern(name):016x};\n"
 
 
+def laid_out(words):
+    """As `rt fmt` does it: each word on a line of its own, or lines that are filled where all of them are short."""
+    width = 95 if max(map(len, words)) <= 10 else 1
+    return textwrap.indent(textwrap.fill(", ".join(words) + ",", width, break_long_words=False), "    ") + "\n"
+
+
 def table_of(name, holds, rows):
     words = words_of(rows)
-    body = "".join(f"    {word},\n" for word in words)
-    return f"\n// {holds}\npub const {name}: [u64; {len(words)}] = [\n{body}];\n"
+    return f"\n// {holds}\npub const {name}: [u64; {len(words)}] = [\n{laid_out(words)}];\n"
 
 
 def table_file():

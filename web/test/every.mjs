@@ -140,7 +140,7 @@ async function checkTold(checks, hands) {
     const bytes = await hands.download("#savebytes", "desk.session");
     const engine = await load(readFileSync("target/web/desk.wasm"), TABLE_BYTES);
     checks.same("its bytes give its lines, one by one", [...turns(new Table(engine), bytes)].map(({ line }) => line + "\n").join(""), printed);
-    if (existsSync("target/bin/cutlist")) checks.same("and cutlist's", execFileSync("./cutlist", { input: bytes }).toString(), printed);
+    if (existsSync("crates/cutlist/out/cutlist")) checks.same("and cutlist's", execFileSync("./cutlist", { input: bytes }).toString(), printed);
 
     // within the click: a record of it has its own table, and undo leads out of it
     await hands.press("#history button[data-step='7']");

@@ -42,7 +42,7 @@ export async function checkSessions(checks, hands) {
 
 // what the page did by hand, cutlist repeats; it is there once it was proved and built
 export async function checkCutlist(checks, hands) {
-    if (!existsSync("target/bin/cutlist")) return console.log("cutlist is not built, so what the page did was not held against it");
+    if (!existsSync("crates/cutlist/out/cutlist")) return console.log("cutlist is not built, so what the page did was not held against it");
     await hands.start(3);
     for (const [root, kept, x, y, z, distance] of [[26, "both", "0.6", "0.8", "0", "0.3"], [52, "inside", "0", "0", "1", "-1/3"], [53, "neither", "0", "-0", "1", "0"],
         [8, "both", "0", "0", "1", "-1"], [600, "both", "1", "0", "0", "0"], [53, "outside", "1", "1", "0", "0"], [53, "both", "1", "0", "0", "inf"]]) {
