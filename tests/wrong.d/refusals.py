@@ -7,11 +7,11 @@ import re
 ERROR = re.compile(r"^(\S+?):\d+:\d+: error(?:\[[\w-]+\])?: (.*(?:\n  .*)*)", re.M)
 DECLARATION = re.compile(r"`([^`\s]+)`: ")
 # the checker goes on past a declaration that it refused
-FOLLOWS = re.compile(r"was not admitted \(|which was rejected, was not checked")
+FOLLOWS = re.compile(r"was not admitted \(|which was rejected, w(?:as|ere) not checked")
 # two types, values or sides are not the same; a tactic finds that the goal does not follow
 FACTS = re.compile(
     r"the two (?:types|values|sides) (?:first )?differ|the two (?:types|values|sides) are |expected type `|does not hold \(this comparison"
-    r"|`omega`: the goal does not follow|`search`: no proof of|`grind`: |`cc`: ")
+    r"|`omega`: the goal does not follow|`search`: no proof of|`grind` found no proof|`rw`: no occurrence of|`cc`: ")
 # another step of the function stands where one is to be
 STEPS = re.compile(r"(?:expected type|but this has type) `\S+\.Lts\.\S")
 # a function whose search leaves some of its goals, with no answers of its own for them
