@@ -7,7 +7,7 @@ import re
 ERROR = re.compile(r"^(\S+?):\d+:\d+: error(?:\[[\w-]+\])?: (.*(?:\n  .*)*)", re.M)
 DECLARATION = re.compile(r"`([^`\s]+)`: ")
 # the checker goes on past a declaration that it refused
-FOLLOWS = re.compile(r"was not admitted \(|which was rejected, w(?:as|ere) not checked")
+FOLLOWS = re.compile(r"was not admitted|declarations? that depends? on ")
 # two types, values or sides are not the same; a tactic finds that the goal does not follow
 FACTS = re.compile(
     r"the two (?:types|values|sides) (?:first )?differ|the two (?:types|values|sides) are |expected type `|does not hold \(this comparison"
