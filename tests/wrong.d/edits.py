@@ -40,5 +40,10 @@ def carry_names(edit, folders):
         if word == "names":
             old, new = text.split()
             name = re.compile(rf"(?<![\w-])([\w-]+-){re.escape(old)}(?![\w-])")
+            carried = 0
             for path in [path for folder in folders for path in folder.glob("*.antt")]:
-                path.write_text(name.sub(rf"\g<1>{new}", path.read_text(encoding="utf-8")), encoding="utf-8")
+                proof, times = name.subn(rf"\g<1>{new}", path.read_text(encoding="utf-8"))
+                path.write_text(proof, encoding="utf-8")
+                carried += times
+            if not carried:
+                sys.exit(f"{edit.stem}: no name of the proof ends with {old!r}")

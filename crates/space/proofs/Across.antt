@@ -72,6 +72,10 @@ pub record Across (s : ℕ) (paths : List ℕ) (a b x y met : ℕ) : Type 0 wher
   pub code : met ≡ join_code a b x y
   pub few : met < 5
 
+pub across : (s : ℕ) (paths : List ℕ) (a b : ℕ) {x y met : ℕ} → x ≡ far_end s paths a → y ≡ far_end s paths b → met ≡ join_code a b x y → met < 5
+    → Across s paths a b x y met
+across s paths a b first second code few = record { first = first; second = second; code = code; few = few }
+
 module _ {s : ℕ} {paths : List ℕ} {a b x y met : ℕ} (E : Across s paths a b x y met) where
   answers : met ≡ path_code s paths a b
   answers = E.code ∙ (λ i. join_code a b (E.first i) (E.second i))

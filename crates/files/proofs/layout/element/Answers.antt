@@ -1,102 +1,57 @@
 -- Not begun; a head that does not fit; too short for its boundary; or it ends behind that.
-use Prim.Native.Nat.{◌+◌, ◌≤◌}
-use mathlib.Core.Bool.{true}
+use Prim.Native.Nat.{ℕ, ◌+◌, ◌≤◌}
+use mathlib.Core.Bool.{Bool, true}
+use mathlib.Core.List.{List}
 use mathlib.Core.Path.{◌≡◌, sym, ◌∙◌}
 use native.Mathlib.Omega.{arith}
 use lib.ListN.{length, drop}
+use Rattle.rules.specs.Bytes.{number_at}
 use Rattle.files.specs.Passed.{begins}
 use Rattle.files.proofs.Sizes.{begun_within}
 use Rattle.files.proofs.Passes.{no_element, Head, element_unfit, element_cut_off, element_ends}
 use borrow.Author.Rules.{rules}
 use Rattle.files.proofs.layout.element.Goals as goal
 
+-- a record that has begun has its first eight bytes
+within : (bytes : List ℕ) (at : ℕ) {said : Bool} → said ≡ begins 0x45 0x4C 6 (drop at bytes) → said ≡ true → at + 8 ≤ length bytes
+within bytes at told so = let w = begun_within 0x45 0x4C 6 bytes at (sym told ∙ so) in omega (arith, w)
+
+-- its head, read
+headed : (bytes : List ℕ) (at : ℕ) {said : Bool} {r m h n : ℕ} → said ≡ begins 0x45 0x4C 6 (drop at bytes) → said ≡ true → r ≡ number_at 1 (at + 2) bytes
+    → m ≡ number_at 1 (at + 3) bytes → h ≡ number_at 2 (at + 4) bytes → n ≡ number_at 2 (at + 6) bytes → Head bytes at r m h n
+headed bytes at told so rank mark plane count = record { begun = sym told ∙ so; rank = rank; mark = mark; plane = plane; count = count }
+
 pub returns-then-not-begins_with : goal.returns-then-not-begins_with
 returns-then-not-begins_with c = no_element c.args.bytes.now c.args.at (sym c.begins_with.ensures ∙ c.if-not-begins_with.true)
 
 pub one-rank-requires : goal.one-rank-requires
-one-rank-requires c =
-    let marked : begins 0x45 0x4C 6 (drop c.args.at c.args.bytes.now) ≡ true =
-    sym c.begins_with.ensures ∙ c.if-not-begins_with.false in
-    let within : c.args.at + 8 ≤ length c.args.bytes.now =
-    let w = begun_within 0x45 0x4C 6 c.args.bytes.now c.args.at marked in omega (arith, w) in
-    let w = within in search rules
+one-rank-requires c = let w = within c.args.bytes.now c.args.at c.begins_with.ensures c.if-not-begins_with.false in search rules
 
 pub one-mark-requires : goal.one-mark-requires
-one-mark-requires c =
-    let marked : begins 0x45 0x4C 6 (drop c.args.at c.args.bytes.now) ≡ true =
-    sym c.begins_with.ensures ∙ c.if-not-begins_with.false in
-    let within : c.args.at + 8 ≤ length c.args.bytes.now =
-    let w = begun_within 0x45 0x4C 6 c.args.bytes.now c.args.at marked in omega (arith, w) in
-    let w = within in search rules
+one-mark-requires c = let w = within c.args.bytes.now c.args.at c.begins_with.ensures c.if-not-begins_with.false in search rules
 
 pub two-plane-requires : goal.two-plane-requires
-two-plane-requires c =
-    let marked : begins 0x45 0x4C 6 (drop c.args.at c.args.bytes.now) ≡ true =
-    sym c.begins_with.ensures ∙ c.if-not-begins_with.false in
-    let within : c.args.at + 8 ≤ length c.args.bytes.now =
-    let w = begun_within 0x45 0x4C 6 c.args.bytes.now c.args.at marked in omega (arith, w) in
-    let w = within in search rules
+two-plane-requires c = let w = within c.args.bytes.now c.args.at c.begins_with.ensures c.if-not-begins_with.false in search rules
 
 pub two-n-requires : goal.two-n-requires
-two-n-requires c =
-    let marked : begins 0x45 0x4C 6 (drop c.args.at c.args.bytes.now) ≡ true =
-    sym c.begins_with.ensures ∙ c.if-not-begins_with.false in
-    let within : c.args.at + 8 ≤ length c.args.bytes.now =
-    let w = begun_within 0x45 0x4C 6 c.args.bytes.now c.args.at marked in omega (arith, w) in
-    let w = within in search rules
+two-n-requires c = let w = within c.args.bytes.now c.args.at c.begins_with.ensures c.if-not-begins_with.false in search rules
 
 pub returns-then-not-head_fits : goal.returns-then-not-head_fits
-returns-then-not-head_fits c =
-    let marked : begins 0x45 0x4C 6 (drop c.args.at c.args.bytes.now) ≡ true =
-    sym c.begins_with.ensures ∙ c.if-not-begins_with.false in
-    let headed : Head c.args.bytes.now c.args.at c.one-rank.result c.one-mark.result c.two-plane.result c.two-n.result =
-    record {
-      begun = marked;
-      rank = c.one-rank.ensures.value;
-      mark = c.one-mark.ensures.value;
-      plane = c.two-plane.ensures.value;
-      count = c.two-n.ensures.value;
-    } in
-    element_unfit _ _ _ _ _ _ headed (sym c.head_fits.ensures ∙ c.if-not-head_fits.true)
+returns-then-not-head_fits c = let head = headed c.args.bytes.now c.args.at c.begins_with.ensures c.if-not-begins_with.false c.one-rank.ensures.value c.one-mark.ensures.value
+    c.two-plane.ensures.value c.two-n.ensures.value in
+    element_unfit _ _ _ _ _ _ head (sym c.head_fits.ensures ∙ c.if-not-head_fits.true)
 
 pub overflow_sub-bytes-2 : goal.overflow_sub-bytes-2
-overflow_sub-bytes-2 c =
-    let marked : begins 0x45 0x4C 6 (drop c.args.at c.args.bytes.now) ≡ true =
-    sym c.begins_with.ensures ∙ c.if-not-begins_with.false in
-    let within : c.args.at + 8 ≤ length c.args.bytes.now =
-    let w = begun_within 0x45 0x4C 6 c.args.bytes.now c.args.at marked in omega (arith, w) in
-    let w = within in search rules
+overflow_sub-bytes-2 c = let w = within c.args.bytes.now c.args.at c.begins_with.ensures c.if-not-begins_with.false in search rules
 
 pub returns-then-bytes-at : goal.returns-then-bytes-at
-returns-then-bytes-at c =
-    let marked : begins 0x45 0x4C 6 (drop c.args.at c.args.bytes.now) ≡ true =
-    sym c.begins_with.ensures ∙ c.if-not-begins_with.false in
-    let within : c.args.at + 8 ≤ length c.args.bytes.now =
-    let w = begun_within 0x45 0x4C 6 c.args.bytes.now c.args.at marked in omega (arith, w) in
-    let headed : Head c.args.bytes.now c.args.at c.one-rank.result c.one-mark.result c.two-plane.result c.two-n.result =
-    record {
-      begun = marked;
-      rank = c.one-rank.ensures.value;
-      mark = c.one-mark.ensures.value;
-      plane = c.two-plane.ensures.value;
-      count = c.two-n.ensures.value;
-    } in
-    let w = within in
-    element_cut_off _ _ _ _ _ _ headed (omega arith)
+returns-then-bytes-at c = let w = within c.args.bytes.now c.args.at c.begins_with.ensures c.if-not-begins_with.false in
+    let head = headed c.args.bytes.now c.args.at c.begins_with.ensures c.if-not-begins_with.false c.one-rank.ensures.value c.one-mark.ensures.value
+    c.two-plane.ensures.value c.two-n.ensures.value in
+    element_cut_off _ _ _ _ _ _ head (omega arith)
 
 pub returns : goal.returns
-returns c =
-    let marked : begins 0x45 0x4C 6 (drop c.args.at c.args.bytes.now) ≡ true =
-    sym c.begins_with.ensures ∙ c.if-not-begins_with.false in
-    let within : c.args.at + 8 ≤ length c.args.bytes.now =
-    let w = begun_within 0x45 0x4C 6 c.args.bytes.now c.args.at marked in omega (arith, w) in
-    let headed : Head c.args.bytes.now c.args.at c.one-rank.result c.one-mark.result c.two-plane.result c.two-n.result =
-    record {
-      begun = marked;
-      rank = c.one-rank.ensures.value;
-      mark = c.one-mark.ensures.value;
-      plane = c.two-plane.ensures.value;
-      count = c.two-n.ensures.value;
-    } in
-    let w = within in
-    element_ends _ _ _ _ _ _ headed (sym c.head_fits.ensures ∙ c.if-not-head_fits.false) (omega arith)
+returns c = let w = within c.args.bytes.now c.args.at c.begins_with.ensures c.if-not-begins_with.false in
+    let head = headed c.args.bytes.now c.args.at c.begins_with.ensures c.if-not-begins_with.false c.one-rank.ensures.value c.one-mark.ensures.value
+    c.two-plane.ensures.value c.two-n.ensures.value in
+    element_ends _ _ _ _ _ _ head (sym c.head_fits.ensures ∙ c.if-not-head_fits.false) (omega arith)

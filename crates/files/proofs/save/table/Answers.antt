@@ -1,7 +1,15 @@
 -- Each part behind the one before; what a sound memory tells of its words is what each part asks.
+use Prim.Native.Nat.{ℕ}
+use mathlib.Core.List.{List}
+use mathlib.Core.Path.{◌≡◌}
+use lib.ListN.{get_or}
 use native.Mathlib.Omega.{arith}
 use Rattle.files.proofs.SavedTable.{Counted, size_ready, header_ready, points_ready, planes_ready, elements_ready, file_put}
 use Rattle.files.proofs.save.table.Goals as goal
+
+-- the counts, as they were read
+counted : (cs : List ℕ) {d n v h : ℕ} → d ≡ get_or cs 0 0 → n ≡ get_or cs 1 0 → v ≡ get_or cs 2 0 → h ≡ get_or cs 3 0 → Counted cs d n v h
+counted cs d n v h = record { dimension = d; elements = n; vertices = v; hyperplanes = h }
 
 pub bounds-counts-0 : goal.bounds-counts-0
 bounds-counts-0 c = let l = (size_ready c.args.counts.now c.args.points.now c.args.planes.now c.args.elements.now c.requires.is_sound).counts in
@@ -21,58 +29,28 @@ bounds-counts-3 c = let l = (size_ready c.args.counts.now c.args.points.now c.ar
 
 pub header-points_at-requires : goal.header-points_at-requires
 header-points_at-requires c =
-    let told : Counted c.args.counts.now c.wide-d.result c.wide-n.result c.wide-v.result c.wide-h.result =
-    record {
-      dimension = c.wide-d.ensures.value;
-      elements = c.wide-n.ensures.value;
-      vertices = c.wide-v.ensures.value;
-      hyperplanes = c.wide-h.ensures.value;
-    } in
+    let told = counted c.args.counts.now c.wide-d.ensures.value c.wide-n.ensures.value c.wide-v.ensures.value c.wide-h.ensures.value in
     header_ready c.args.counts.now c.args.points.now c.args.planes.now c.args.elements.now c.requires.is_sound c.requires.fits_room told
 
 pub elements-requires : goal.elements-requires
 elements-requires c =
-    let told : Counted c.args.counts.now c.wide-d.result c.wide-n.result c.wide-v.result c.wide-h.result =
-    record {
-      dimension = c.wide-d.ensures.value;
-      elements = c.wide-n.ensures.value;
-      vertices = c.wide-v.ensures.value;
-      hyperplanes = c.wide-h.ensures.value;
-    } in
+    let told = counted c.args.counts.now c.wide-d.ensures.value c.wide-n.ensures.value c.wide-v.ensures.value c.wide-h.ensures.value in
     elements_ready c.args.counts.now c.args.points.now c.args.planes.now c.args.elements.now c.requires.is_sound c.requires.fits_room told c.header-points_at.ensures c.vertices-planes_at.ensures
     c.hyperplanes-elements_at.ensures
 
 pub returns : goal.returns
 returns c =
-    let told : Counted c.args.counts.now c.wide-d.result c.wide-n.result c.wide-v.result c.wide-h.result =
-    record {
-      dimension = c.wide-d.ensures.value;
-      elements = c.wide-n.ensures.value;
-      vertices = c.wide-v.ensures.value;
-      hyperplanes = c.wide-h.ensures.value;
-    } in
+    let told = counted c.args.counts.now c.wide-d.ensures.value c.wide-n.ensures.value c.wide-v.ensures.value c.wide-h.ensures.value in
     file_put c.args.counts.now c.args.points.now c.args.planes.now c.args.elements.now c.requires.is_sound c.requires.fits_room told c.header-points_at.ensures c.vertices-planes_at.ensures
     c.hyperplanes-elements_at.ensures c.elements.ensures
 
 pub vertices-planes_at-requires : goal.vertices-planes_at-requires
 vertices-planes_at-requires c =
-    let told : Counted c.args.counts.now c.wide-d.result c.wide-n.result c.wide-v.result c.wide-h.result =
-    record {
-      dimension = c.wide-d.ensures.value;
-      elements = c.wide-n.ensures.value;
-      vertices = c.wide-v.ensures.value;
-      hyperplanes = c.wide-h.ensures.value;
-    } in
+    let told = counted c.args.counts.now c.wide-d.ensures.value c.wide-n.ensures.value c.wide-v.ensures.value c.wide-h.ensures.value in
     let r = points_ready c.args.counts.now c.args.points.now c.args.planes.now c.args.elements.now c.requires.is_sound c.requires.fits_room told c.header-points_at.ensures in record { d_le_dimensions = r.0; rows_ready = r.1 }
 
 pub hyperplanes-elements_at-requires : goal.hyperplanes-elements_at-requires
 hyperplanes-elements_at-requires c =
-    let told : Counted c.args.counts.now c.wide-d.result c.wide-n.result c.wide-v.result c.wide-h.result =
-    record {
-      dimension = c.wide-d.ensures.value;
-      elements = c.wide-n.ensures.value;
-      vertices = c.wide-v.ensures.value;
-      hyperplanes = c.wide-h.ensures.value;
-    } in
+    let told = counted c.args.counts.now c.wide-d.ensures.value c.wide-n.ensures.value c.wide-v.ensures.value c.wide-h.ensures.value in
     let r = planes_ready c.args.counts.now c.args.points.now c.args.planes.now c.args.elements.now c.requires.is_sound c.requires.fits_room told c.header-points_at.ensures c.vertices-planes_at.ensures in record
     { d_le_dimensions = r.0; rows_ready = r.1 }

@@ -23,6 +23,10 @@ record Taken (es list : List ℕ) (n : ℕ) (paths : List ℕ) (twice k x : ℕ)
   edge : TakenUp es list n k x
   so : SoFar es list n paths twice k
 
+taken : {es list : List ℕ} {n : ℕ} {paths : List ℕ} {twice k x : ℕ} → FaceReady es list n → k < n → x ≡ get_or list k 0 → SoFar es list n paths twice k
+    → Taken es list n paths twice k x
+taken ready more read so = record { edge = record { ready = ready; more = more; read = read }; so = so }
+
 module _ {es list : List ℕ} {n : ℕ} {paths : List ℕ} {twice k x : ℕ} (T : Taken es list n paths twice k x) where
   abbrev edges : List ℕ
   edges = take n list
@@ -69,72 +73,35 @@ pub loop-k-init : goal.loop-k-init
 loop-k-init c = record { bound = search rules; paths_so = paths_start c.args.elements.now (take c.args.n c.args.list.now) 1 (replicate desk.elements 0) unmet_new }
 
 pub join_ends_in_face-met-requires : goal.join_ends_in_face-met-requires
-join_ends_in_face-met-requires c =
-    let taken : Taken c.args.elements.now c.args.list.now c.args.n c.loop-k.paths c.loop-k.twice c.loop-k.k c.wide.result =
-    record {
-      edge = record { ready = c.requires; more = c.loop-k-test.true; read = c.wide.ensures.value };
-      so = c.loop-k.invariant;
-    } in
-    record { edge = taken_ready taken.edge; stamped = stamped taken }
+join_ends_in_face-met-requires c = let T = taken c.requires c.loop-k-test.true c.wide.ensures.value c.loop-k.invariant in
+    record { edge = taken_ready T.edge; stamped = stamped T }
 
 pub returns-then-met-eq-THRICE : goal.returns-then-met-eq-THRICE
-returns-then-met-eq-THRICE c =
-    let taken : Taken c.args.elements.now c.args.list.now c.args.n c.loop-k.paths c.loop-k.twice c.loop-k.k c.wide.result =
-    record {
-      edge = record { ready = c.requires; more = c.loop-k-test.true; read = c.wide.ensures.value };
-      so = c.loop-k.invariant;
-    } in
-    thrice taken c.join_ends_in_face-met.ensures.code c.if-met-eq-THRICE.true
+returns-then-met-eq-THRICE c = let T = taken c.requires c.loop-k-test.true c.wide.ensures.value c.loop-k.invariant in
+    thrice T c.join_ends_in_face-met.ensures.code c.if-met-eq-THRICE.true
 
 pub returns-then-k-n : goal.returns-then-k-n
-returns-then-k-n c =
-    let taken : Taken c.args.elements.now c.args.list.now c.args.n c.loop-k.paths c.loop-k.twice c.loop-k.k c.wide.result =
-    record {
-      edge = record { ready = c.requires; more = c.loop-k-test.true; read = c.wide.ensures.value };
-      so = c.loop-k.invariant;
-    } in
-    early taken c.join_ends_in_face-met.ensures.code c.if-met-eq-CLOSES.true c.if-k-n.true
+returns-then-k-n c = let T = taken c.requires c.loop-k-test.true c.wide.ensures.value c.loop-k.invariant in
+    early T c.join_ends_in_face-met.ensures.code c.if-met-eq-CLOSES.true c.if-k-n.true
 
 pub overflow_add-result : goal.overflow_add-result
-overflow_add-result c =
-    let taken : Taken c.args.elements.now c.args.list.now c.args.n c.loop-k.paths c.loop-k.twice c.loop-k.k c.wide.result =
-    record {
-      edge = record { ready = c.requires; more = c.loop-k-test.true; read = c.wide.ensures.value };
-      so = c.loop-k.invariant;
-    } in
-    let T = taken in
+overflow_add-result c = let T = taken c.requires c.loop-k-test.true c.wide.ensures.value c.loop-k.invariant in
     let most = few T in
     omega (arith, most, T.edge.ready.size, T.so.bound)
 
 pub returns-then-met-eq-CLOSES : goal.returns-then-met-eq-CLOSES
-returns-then-met-eq-CLOSES c =
-    let taken : Taken c.args.elements.now c.args.list.now c.args.n c.loop-k.paths c.loop-k.twice c.loop-k.k c.wide.result =
-    record {
-      edge = record { ready = c.requires; more = c.loop-k-test.true; read = c.wide.ensures.value };
-      so = c.loop-k.invariant;
-    } in
-    last taken c.join_ends_in_face-met.ensures.code c.if-met-eq-CLOSES.true c.if-k-n.false
+returns-then-met-eq-CLOSES c = let T = taken c.requires c.loop-k-test.true c.wide.ensures.value c.loop-k.invariant in
+    last T c.join_ends_in_face-met.ensures.code c.if-met-eq-CLOSES.true c.if-k-n.false
 
 pub overflow_add-twice : goal.overflow_add-twice
-overflow_add-twice c =
-    let taken : Taken c.args.elements.now c.args.list.now c.args.n c.loop-k.paths c.loop-k.twice c.loop-k.k c.wide.result =
-    record {
-      edge = record { ready = c.requires; more = c.loop-k-test.true; read = c.wide.ensures.value };
-      so = c.loop-k.invariant;
-    } in
-    let T = taken in
+overflow_add-twice c = let T = taken c.requires c.loop-k-test.true c.wide.ensures.value c.loop-k.invariant in
     let most = few T in
     omega (arith, most, c.join_ends_in_face-met.ensures.most, T.edge.ready.size, T.so.bound)
 
 pub loop-k-preserved : goal.loop-k-preserved
-loop-k-preserved c =
-    let taken : Taken c.args.elements.now c.args.list.now c.args.n c.loop-k.paths c.loop-k.twice c.loop-k.k c.wide.result =
-    record {
-      edge = record { ready = c.requires; more = c.loop-k-test.true; read = c.wide.ensures.value };
-      so = c.loop-k.invariant;
-    } in
+loop-k-preserved c = let T = taken c.requires c.loop-k-test.true c.wide.ensures.value c.loop-k.invariant in
     let small : c.join_ends_in_face-met.result < 3 = omega (arith, c.join_ends_in_face-met.ensures.most, c.if-met-eq-THRICE.false, c.if-met-eq-CLOSES.false) in
-    goes_on taken c.join_ends_in_face-met.ensures.code small _ (c.join_ends_in_face-met.ensures.words small)
+    goes_on T c.join_ends_in_face-met.ensures.code small _ (c.join_ends_in_face-met.ensures.words small)
 
 pub returns : goal.returns
 returns c = let l = edges_long c.args.list.now c.args.n c.requires.long in
