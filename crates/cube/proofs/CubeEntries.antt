@@ -1,9 +1,8 @@
 -- One element of the cube more: its row, and its point or its hyperplane, stand behind the others.
 -- How many come before it is its number, so nothing is counted twice.
-use Rattle.std.specs.Prelude.{if◌then◌else◌}
+use Rattle.std.specs.Prelude.{if◌then◌else◌, Option, Some, None}
 use Prim.Native.Nat.{ℕ, zero, suc, ◌+◌, ◌*◌, ◌^◌, ◌/◌, ◌-◌, ◌≤◌, ◌<◌}
 use mathlib.Core.Bool.{Bool, true, false, not, cond, ◌&&◌}
-use mathlib.Core.Option.{Option, some, none}
 use mathlib.Core.Path.{◌≡◌, refl, sym, ap, ap₂, subst, ◌∙◌}
 use mathlib.Core.List.{List, [], ◌∷◌, ◌++◌, map, append-nil}
 use native.Mathlib.Nat.{pow-le-pow_right, le_of_eq}
@@ -88,7 +87,7 @@ facet_room d e low l p =
 abbrev element_by : ℕ → ℕ → Bool → Element
 element_by d e b =
     if b then corner (length (chosen is_vertex d e))
-    else polytope (twos (digits d e)) (map of_digits (faces (digits d e))) (if is_facet (digits d e) then some (length (chosen is_facet d e)) else none) (is_facet (digits d e))
+    else polytope (twos (digits d e)) (map of_digits (faces (digits d e))) (if is_facet (digits d e) then Some (length (chosen is_facet d e)) else None) (is_facet (digits d e))
 
 pub row_corner : (d e v : ℕ) → is_vertex (digits d e) ≡ true → v ≡ length (chosen is_vertex d e) → element_words desk (corner v) ≡ element_words desk (cube_element d e)
 unfolding cube_element
@@ -97,13 +96,13 @@ row_corner d e v p q =
     ∙ ap (λ (b : Bool). element_words desk (element_by d e b)) (sym p)
 
 pub row_polytope : (d e : ℕ) (f : Faces) (h : ℕ) (b : Bool) → is_vertex (digits d e) ≡ false → is_facet (digits d e) ≡ b → FacesSoFar f (map of_digits (faces (digits d e)))
-    → plane_named h ≡ (if b then some (length (chosen is_facet d e)) else none)
+    → plane_named h ≡ (if b then Some (length (chosen is_facet d e)) else None)
     → element_words desk (polytope (f.n / 2) (take f.n f.list) (plane_named h) b) ≡ element_words desk (cube_element d e)
 unfolding cube_element
 row_polytope d e f h b p q g n =
     ap₂ (λ (r : ℕ) (l : List ℕ). element_words desk (polytope r l (plane_named h) b)) (rank_half d e f g) list
     ∙ ap (λ (o : Option ℕ). element_words desk (polytope (twos (digits d e)) xs o b)) n
-    ∙ ap (λ (c : Bool). element_words desk (polytope (twos (digits d e)) xs (if c then some (length (chosen is_facet d e)) else none) c)) (sym q)
+    ∙ ap (λ (c : Bool). element_words desk (polytope (twos (digits d e)) xs (if c then Some (length (chosen is_facet d e)) else None) c)) (sym q)
     ∙ ap (λ (c : Bool). element_words desk (element_by d e c)) (sym p)
   where
     xs : List ℕ
@@ -112,8 +111,8 @@ row_polytope d e f h b p q g n =
     list : take f.n f.list ≡ xs
     list = ap₂ take g.size g.list ∙ take-append_seam xs (replicate (34 - length xs) 0)
 
-pub facet_named : (h n : ℕ) → h ≡ n → n < 9 → plane_named h ≡ some n
-facet_named h n q l = ap plane_named q ∙ ap (λ (b : Bool). if b then none else some n) (not_eq n no_plane (λ e. let z : ⊥ = omega (arith, l, e) in z))
+pub facet_named : (h n : ℕ) → h ≡ n → n < 9 → plane_named h ≡ Some n
+facet_named h n q l = ap plane_named q ∙ ap (λ (b : Bool). if b then None else Some n) (not_eq n no_plane (λ e. let z : ⊥ = omega (arith, l, e) in z))
 
 -- ---- floats worked out of digits
 

@@ -20,8 +20,6 @@ use Rattle.rules.specs.declared.Hyperplane.{Hyperplane}
 use Rattle.rules.specs.declared.PolytopeFate.{PolytopeFate}
 use Rattle.rules.specs.declared.ElementCutOutput.{ElementCutOutput}
 use Rattle.rules.specs.declared.CutParams.{CutParams}
-use Rattle.rules.specs.declared.CutReply.{CutReply}
-use Rattle.rules.specs.declared.CutReply.TheVariants as reply
 use Rattle.rules.specs.declared.CutListReply.{CutListReply}
 use Rattle.rules.specs.declared.CutListReply.TheVariants.{Refused, Stopped, Answered}
 use Rattle.rules.proofs.AfterList.{list_by, list_by_lem}
@@ -32,6 +30,11 @@ use Rattle.cut.specs.Whole.{SoundCut}
 use Rattle.cut.specs.Lists.{cut_list_of, RowReady, params_at, ListReady, PositionReady, after_made, CutMade, CutsMade}
 use Rattle.cut.specs.declared.lists.Made.{Made}
 use Rattle.cut.specs.declared.lists.Made.TheVariants as made
+use Rattle.rules.specs.Refusals.{Reply}
+use Rattle.rules.specs.declared.ElementAnswer.{ElementAnswer}
+use Rattle.rules.specs.declared.Refusal.TheVariants.{ListLong, NotSound, RoomShort}
+use Rattle.std.specs.Prelude.{Err}
+use Rattle.rules.specs.Replies.{answer_with}
 
 abbrev Result : Type 0
 Result = CutListReply × List ℕ × Memory
@@ -89,18 +92,18 @@ params_are ds ks i p q r j = cut_by (p j) (q j) (r j)
 -- ---- the cut at a position
 
 module _ {cs : List ℕ} {ps hs : List Float} {es : List ℕ} (ds : List Float) (ks rs : List ℕ) (i : ℕ) {p : CutParams} {root : ℕ} (pe : p ≡ params_at ds ks i) (re : root ≡ get_or rs i 0)
-    {r : CutReply} {cs' : List ℕ} {ps' hs' : List Float} {es' ix' : List ℕ} (S : SoundCut cs ps hs es p root r cs' ps' hs' es' ix') where
+    {r : Reply ElementAnswer} {cs' : List ℕ} {ps' hs' : List Float} {es' ix' : List ℕ} (S : SoundCut cs ps hs es p root r cs' ps' hs' es' ix') where
   goes_as : (x : List ℕ) (rest : List ℕ → Memory → Result) → going_on i x (r, memory_of cs' ps' hs' es') rest
       ≡ going_on i x (cut_reply desk (cut_at desk (cut_list_of ds ks rs) i).params (cut_at desk (cut_list_of ds ks rs) i).root (memory_of cs ps hs es)) rest
   goes_as x rest = (λ j. going_on i x (S.reply j) rest) ∙ (λ j. going_on i x (cut_reply desk (pe j) (re j) (memory_of cs ps hs es)) rest)
 
-  pub made_refused : {room : List ℕ} (n : ℕ) → r ≡ reply.Refused n → CutMade cs ps hs es (cut_list_of ds ks rs) room i (made.Refused n) cs' ps' hs' es' ix' room
+  pub made_refused : {room : List ℕ} (n : ℕ) → r ≡ Err n → CutMade cs ps hs es (cut_list_of ds ks rs) room i (made.Refused n) cs' ps' hs' es' ix' room
   made_refused {room} n q = record {
     goes = λ rest. (λ j. going_on i room (sym q j, memory_of cs' ps' hs' es') rest) ∙ goes_as room rest;
     again = λ e. let z : ◌≡◌ {A = ℕ} 0 1 = cc in absurd (omega arith);
   }
 
-  pub made_answered : {ix room : List ℕ} (a : ElementCutOutput) (w : Bool) {word : ℕ} → r ≡ reply.Answered a w → word ≡ output_word a w
+  pub made_answered : {ix room : List ℕ} (a : ElementCutOutput) (w : Bool) {word : ℕ} → r ≡ Ok (answer_with a w) → word ≡ output_word a w
       → PositionReady cs ps hs es ix (cut_list_of ds ks rs) room i → CutMade cs ps hs es (cut_list_of ds ks rs) room i made.Answered cs' ps' hs' es' ix' (set room i word)
   made_answered {room = room} a w {word} q told P = record {
     goes = λ rest. (λ j. rest (set room i (told j)) (memory_of cs' ps' hs' es')) ∙ (λ j. going_on i room (sym q j, memory_of cs' ps' hs' es') rest) ∙ goes_as room rest;
@@ -167,15 +170,15 @@ module _ (l : CutList) (room : List ℕ) (m : Memory) where
   listed : (s f k : Bool) → sound_memory desk m ≡ s → list_fits desk l ≡ f → ltb (length room) (length l.roots) ≡ k → list_by desk l room m s f k ≡ cut_list_reply desk l room m
   listed s f k p q r = (λ j. list_by desk l room m (sym p j) (sym q j) (sym r j)) ∙ sym (list_by_lem desk l room m)
 
-  pub list_unsound : sound_memory desk m ≡ false → ◌≡◌ {A = Result} (Refused 3, room, m) (cut_list_reply desk l room m)
+  pub list_unsound : sound_memory desk m ≡ false → ◌≡◌ {A = Result} (Refused NotSound, room, m) (cut_list_reply desk l room m)
   list_unsound s = listed false _ _ s refl refl
 
   module _ (s : sound_memory desk m ≡ true) where
-    pub list_unfit : list_fits desk l ≡ false → ◌≡◌ {A = Result} (Refused 26, room, m) (cut_list_reply desk l room m)
+    pub list_unfit : list_fits desk l ≡ false → ◌≡◌ {A = Result} (Refused ListLong, room, m) (cut_list_reply desk l room m)
     list_unfit f = listed true false _ s f refl
 
     module _ (f : list_fits desk l ≡ true) where
-      pub list_short : length room < length l.roots → ◌≡◌ {A = Result} (Refused 12, room, m) (cut_list_reply desk l room m)
+      pub list_short : length room < length l.roots → ◌≡◌ {A = Result} (Refused RoomShort, room, m) (cut_list_reply desk l room m)
       list_short h = listed true true true s f (lt-ltb (length room) (length l.roots) h)
 
       pub list_made : length l.roots ≤ length room → {r : Result} → r ≡ cuts_from desk (cuts_of desk l) 0 room m → r ≡ cut_list_reply desk l room m

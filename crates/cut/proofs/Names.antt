@@ -9,18 +9,19 @@ use Rattle.rules.specs.Memory.{Memory, decode}
 use Rattle.rules.specs.Replies.{cut_reply}
 use Rattle.rules.specs.Promises.{OneBelow, NamesBelow}
 use Rattle.rules.specs.declared.CutParams.{CutParams}
-use Rattle.rules.specs.declared.ElementOrNone.{ElementOrNone}
-use Rattle.rules.specs.declared.ElementOrNone.TheVariants.{None, Some}
 use Rattle.rules.specs.declared.ElementCutOutput.{ElementCutOutput}
 use Rattle.rules.specs.declared.ElementCutOutput.TheVariants.{Flush, NonFlush}
-use Rattle.rules.specs.declared.CutReply.{CutReply}
-use Rattle.rules.specs.declared.CutReply.TheVariants.{Answered}
 use Rattle.rules.proofs.OneCall.{memory_sound, names_in_use}
 use Rattle.space.proofs.Lent.{memory_holds}
 use Rattle.space.proofs.RowAdds.{readable_desk}
 use Rattle.space.proofs.Slices.{Slices, slices}
+use Rattle.rules.specs.Refusals.{Reply}
+use Rattle.rules.specs.declared.ElementAnswer.{ElementAnswer}
+use Rattle.rules.specs.declared.ElementId.{ElementId}
+use Rattle.std.specs.Prelude.{Option, Some, None}
+use Rattle.rules.specs.Replies.{answer_with}
 
-one_below : (n m : ℕ) (x : ElementOrNone) → n ≤ m → OneBelow n x → OneBelow m x
+one_below : (n m : ℕ) (x : Option ElementId) → n ≤ m → OneBelow n x → OneBelow m x
 one_below n m None l h = tt
 one_below n m (Some e) l h = le_trans h l
 
@@ -28,8 +29,8 @@ names_below : (n m : ℕ) (a : ElementCutOutput) → n ≤ m → NamesBelow n a 
 names_below n m Flush l h = tt
 names_below n m (NonFlush i o x) l h = (one_below n m i l h.0, one_below n m o l h.1, one_below n m x l h.2)
 
-module _ (p : CutParams) (root : ℕ) (m m' : Memory) {r : CutReply} (e : (r, m') ≡ cut_reply desk p root m) (a : ElementCutOutput) (w : Bool) (q : r ≡ Answered a w) where
-  answered : cut_reply desk p root m ≡ (Answered a w, m')
+module _ (p : CutParams) (root : ℕ) (m m' : Memory) {r : Reply ElementAnswer} (e : (r, m') ≡ cut_reply desk p root m) (a : ElementCutOutput) (w : Bool) (q : r ≡ Ok (answer_with a w)) where
+  answered : cut_reply desk p root m ≡ (Ok (answer_with a w), m')
   answered = sym e ∙ (λ j. (q j, m'))
 
   after : Slices m'.counts m'.points m'.planes m'.elements (decode desk m')

@@ -12,8 +12,6 @@ use Rattle.rules.specs.Limits.{desk}
 use Rattle.rules.specs.Table.{Table, element_count, rank}
 use Rattle.rules.specs.Held.{Extends, Holds}
 use Rattle.rules.specs.Cut.{done, cut_element}
-use Rattle.rules.specs.declared.ElementOrNone.{ElementOrNone}
-use Rattle.rules.specs.declared.ElementOrNone.TheVariants.{None, Some}
 use Rattle.rules.specs.declared.ElementCutOutput.{ElementCutOutput}
 use Rattle.rules.specs.declared.ElementCutOutput.TheVariants.{Flush, NonFlush}
 use Rattle.rules.specs.declared.ElementAnswer.{ElementAnswer}
@@ -34,6 +32,8 @@ use Rattle.ends.specs.Elements.{LowAsked, LowLeft}
 use Rattle.cut.specs.Known.{known_at, output_at, with_answer, with_reply, ReplyInRoom, asked_by, KeepReady, ReplyKept, Repeats, Knows, KnownStill}
 use Rattle.cut.specs.Rounds.{AskReady, LowReady, ElementAsked, ElementEnded, went, stopped}
 use Rattle.cut.proofs.Words.{zeros_unknown, kept_long, kept_same, kept_known, kept_other_known, kept_other}
+use Rattle.rules.specs.declared.ElementId.{ElementId}
+use Rattle.std.specs.Prelude.{Option, Some, None}
 
 -- nothing is known at first
 pub knows_nothing : (k : Cutter) (w : Bool) (t : Table) → Knows k (replicate 512 0) w t
@@ -82,7 +82,7 @@ module _ (k : Cutter) (e : ℕ) (a : ElementAnswer) {t u : Table} (g : Good desk
   pub asked_room : element_count u ≤ 512 → OutputInRoom a.output
   asked_room m = go a.output replays.value
     where
-      one : (x : ElementOrNone) → SomeIn x (element_count u) → InRoom x
+      one : (x : Option ElementId) → SomeIn x (element_count u) → InRoom x
       one None h = tt
       one (Some d) h = le_trans h m
 

@@ -13,13 +13,11 @@ use Rattle.rules.specs.Table.{Element, Plane, Table, element_count, rank}
 use Rattle.rules.specs.Held as held
 use Rattle.rules.specs.Held.{Extends, Holds, Came, memory_of}
 use Rattle.rules.specs.Cut.{Outcome, done, next, add_plane, cut_element, cut_finite}
-use Rattle.rules.specs.Replies.{divider_of, params_of, as_reply, written}
+use Rattle.rules.specs.Replies.{divider_of, params_of, written}
 use Rattle.rules.specs.declared.Hyperplane.{Hyperplane}
 use Rattle.rules.specs.declared.HyperplaneId.{HyperplaneId}
 use Rattle.rules.specs.declared.ElementCutOutput.{ElementCutOutput}
 use Rattle.rules.specs.declared.CutParams.{CutParams}
-use Rattle.rules.specs.declared.CutReply.{CutReply}
-use Rattle.rules.specs.declared.CutReply.TheVariants as public
 use Rattle.rules.proofs.Extends.{extends_trans, count_more, begins_length}
 use Rattle.rules.proofs.Good.{Good, sound_good, good_sound}
 use Rattle.rules.proofs.Laws.{le_test}
@@ -43,6 +41,10 @@ use Rattle.cut.specs.Rounds.{AskReady, ElementAsked, ElementEnded, went, stopped
 use Rattle.cut.specs.Whole.{CutFit, CutReady, CutTried, WholeCut}
 use Rattle.cut.proofs.StaysKnown.{knows_nothing}
 use Rattle.cut.proofs.Rounds.{element_not_0}
+use Rattle.rules.specs.Refusals.{Reply}
+use Rattle.rules.specs.declared.ElementAnswer.{ElementAnswer}
+use Rattle.std.specs.Prelude.{Err}
+use Rattle.rules.specs.Replies.{answer_with}
 
 -- ---- the hyperplane, then the root
 
@@ -94,16 +96,16 @@ module _ (p : CutParams) {cs : List ℕ} {ps hs : List Float} {es : List ℕ} {r
     added {t} F = P.of ps es t (divider_of t.dimension p.divider) F.holds F.sound F.row F.plane
 
     -- no room for the hyperplane
-    pub plane_refused : {ix : List ℕ} (n : ℕ) → x ≡ hyperplane.Refused n → CutTried cs ps hs es p root (public.Refused n) cs₁ ps hs₁ es ix
+    pub plane_refused : {ix : List ℕ} (n : ℕ) → x ≡ hyperplane.Refused n → CutTried cs ps hs es p root (Err n) cs₁ ps hs₁ es ix
     plane_refused n q = record { of = λ t F. go t (added F); indexed = λ a w. let z : ◌≡◌ {A = ℕ} 0 1 = cc in absurd (omega arith) }
       where
-        go : (t : Table) → Added ps es p.divider x cs₁ hs₁ t → Came as_reply public.Refused (Holds desk cs₁ ps hs₁ es) t (cut_finite desk (params_of t.dimension p) root t) (public.Refused n)
+        go : (t : Table) → Added ps es p.divider x cs₁ hs₁ t → Came Ok Err (Holds desk cs₁ ps hs₁ es) t (cut_finite desk (params_of t.dimension p) root t) (Err n)
         go t (held.went j u m w H) = let z : ◌≡◌ {A = ℕ} 0 1 = cc in absurd (omega arith)
         go t (held.stopped j u m w y H) =
             let z : n ≡ j = cc in
             held.stopped j u
             (ap (λ (q' : Outcome ℕ). next q' (λ v l. cut_element desk (record { params = params_of t.dimension p; number = v }) (rank l root) root l)) m)
-            (ap public.Refused z) y H
+            (ap Err z) y H
 
     -- the hyperplane's number is known
     module _ (v : HyperplaneId) (q : x ≡ hyperplane.At v) where
@@ -162,28 +164,28 @@ module _ (p : CutParams) {cs : List ℕ} {ps hs : List Float} {es : List ℕ} {r
               ap (λ (q' : Outcome ℕ). next q' (λ n l. cut_element desk (record { params = params_of t.dimension p; number = n }) (rank l root) root l)) (named F).ended
               ∙ ap₂ (λ (d n : ℕ). cut_element desk (cut_of d (cutter p v)) n root (named F).table) (sym (named F).extends.dimension) (root_fit F).ranked
 
-          pub root_refused : (y ≡ 0 → ⊥) → CutTried cs ps hs es p root (public.Refused y) cs₂ ps₂ hs₁ es₂ ix₂
+          pub root_refused : (y ≡ 0 → ⊥) → CutTried cs ps hs es p root (Err y) cs₂ ps₂ hs₁ es₂ ix₂
           root_refused ended = record { of = λ t F. go t F (root_ended F); indexed = λ a w. C.indexed }
             where
               go : (t : Table) (F : CutFit cs ps hs es p.divider root t) → ElementEnded cs₂ ps₂ hs₁ es₂ ms₂ (warning_in s₂) r root (cutter p v) y false (named F).table
-                  → Came as_reply public.Refused (Holds desk cs₂ ps₂ hs₁ es₂) t (cut_finite desk (params_of t.dimension p) root t) (public.Refused y)
+                  → Came Ok Err (Holds desk cs₂ ps₂ hs₁ es₂) t (cut_finite desk (params_of t.dimension p) root t) (Err y)
               go t F (went a u m d w H) = absurd (ended d)
-              go t F (stopped j u m d z H) = held.stopped j u (steps F ∙ m) (ap public.Refused d) (extends_trans (named F).extends z) H
+              go t F (stopped j u m d z H) = held.stopped j u (steps F ∙ m) (ap Err d) (extends_trans (named F).extends z) H
 
-          pub root_answered : y ≡ 0 → (o : ElementCutOutput) (w : Bool) → o ≡ output_at ms₂ root → w ≡ warning_in s₂ → CutTried cs ps hs es p root (public.Answered o w) cs₂ ps₂ hs₁ es₂ ix₂
+          pub root_answered : y ≡ 0 → (o : ElementCutOutput) (w : Bool) → o ≡ output_at ms₂ root → w ≡ warning_in s₂ → CutTried cs ps hs es p root (Ok (answer_with o w)) cs₂ ps₂ hs₁ es₂ ix₂
           root_answered ended o w told warned = record { of = λ t F. go t F (root_ended F); indexed = λ a q. C.indexed }
             where
               go : (t : Table) (F : CutFit cs ps hs es p.divider root t) → ElementEnded cs₂ ps₂ hs₁ es₂ ms₂ (warning_in s₂) r root (cutter p v) y false (named F).table
-                  → Came as_reply public.Refused (Holds desk cs₂ ps₂ hs₁ es₂) t (cut_finite desk (params_of t.dimension p) root t) (public.Answered o w)
+                  → Came Ok Err (Holds desk cs₂ ps₂ hs₁ es₂) t (cut_finite desk (params_of t.dimension p) root t) (Ok (answer_with o w))
               go t F (stopped j u m d z H) = absurd (element_not_0 (cut_of (named F).table.dimension (cutter p v)) r root (named F).table m d ended)
-              go t F (went a u m d n H) = held.went a u (steps F ∙ m) (λ l. public.Answered ((told ∙ H.output) l) ((warned ∙ n) l)) H.holds
+              go t F (went a u m d n H) = held.went a u (steps F ∙ m) (λ l. Ok (answer_with ((told ∙ H.output) l) ((warned ∙ n) l))) H.holds
 
 -- ---- the counts, lent in an array of their own
 
 pub counts_lent : {cs cs₁ us : List ℕ} {hs hs₁ : List Float} {h : Hyperplane} {x : PlacedHyperplane} → us ≡ cs₁ → HyperplaneAdded cs hs h x cs₁ hs₁ → HyperplaneAdded cs hs h x us hs₁
 counts_lent {cs} {hs = hs} {hs₁} {h} {x} e = subst (λ (l : List ℕ). HyperplaneAdded cs hs h x l hs₁) (sym e)
 
-pub counts_back : {cs cs' us : List ℕ} {ps hs ps' hs' : List Float} {es es' ix' : List ℕ} {p : CutParams} {root : ℕ} {r : CutReply}
+pub counts_back : {cs cs' us : List ℕ} {ps hs ps' hs' : List Float} {es es' ix' : List ℕ} {p : CutParams} {root : ℕ} {r : Reply ElementAnswer}
     → cs' ≡ us → CutTried cs ps hs es p root r us ps' hs' es' ix' → CutTried cs ps hs es p root r cs' ps' hs' es' ix'
 counts_back {cs} {ps = ps} {hs} {ps'} {hs'} {es} {es'} {ix'} {p} {root} {r} e = subst (λ (l : List ℕ). CutTried cs ps hs es p root r l ps' hs' es' ix') (sym e)
 
@@ -211,20 +213,20 @@ restore_asks {t = t} {u} H₀ X H =
       plane_room = b.planes_fit;
     }
 
-module _ {cs : List ℕ} {ps hs : List Float} {es : List ℕ} {p : CutParams} {root : ℕ} {y : CutReply} {cs₁ : List ℕ} {ps₁ hs₁ : List Float} {es₁ ix₁ : List ℕ}
+module _ {cs : List ℕ} {ps hs : List Float} {es : List ℕ} {p : CutParams} {root : ℕ} {y : Reply ElementAnswer} {cs₁ : List ℕ} {ps₁ hs₁ : List Float} {es₁ ix₁ : List ℕ}
     (T : CutTried cs ps hs es p root y cs₁ ps₁ hs₁ es₁ ix₁) where
   abbrev Tried : Table → Type 0
-  Tried t = Came as_reply public.Refused (Holds desk cs₁ ps₁ hs₁ es₁) t (cut_finite desk (params_of t.dimension p) root t) y
+  Tried t = Came Ok Err (Holds desk cs₁ ps₁ hs₁ es₁) t (cut_finite desk (params_of t.dimension p) root t) y
 
-  pub whole_done : (o : ElementCutOutput) (v : Bool) → y ≡ public.Answered o v → WholeCut cs ps hs es p root (public.Answered o v) cs₁ ps₁ hs₁ es₁ ix₁
+  pub whole_done : (o : ElementCutOutput) (v : Bool) → y ≡ Ok (answer_with o v) → WholeCut cs ps hs es p root (Ok (answer_with o v)) cs₁ ps₁ hs₁ es₁ ix₁
   whole_done o v w = record { of = λ t F. go t (T.of t F); indexed = λ b q. T.indexed b (w ∙ q) }
     where
       go : (t : Table) → Tried t
-          → ◌≡◌ {A = CutReply × Memory} (public.Answered o v, memory_of cs₁ ps₁ hs₁ es₁) (written desk (memory_of cs ps hs es) (cut_finite desk (params_of t.dimension p) root t))
+          → ◌≡◌ {A = Reply ElementAnswer × Memory} (Ok (answer_with o v), memory_of cs₁ ps₁ hs₁ es₁) (written desk (memory_of cs ps hs es) (cut_finite desk (params_of t.dimension p) root t))
       go t (held.stopped j u m w' z H) = let e : ◌≡◌ {A = ℕ} 0 1 = cc in absurd (omega arith)
       go t (held.went b u m w' H) = (λ l. ((sym w ∙ w') l, holds_memory desk readable_desk H l)) ∙ sym (ap (written desk (memory_of cs ps hs es)) m)
 
-  module _ (n : ℕ) (w : y ≡ public.Refused n) where
+  module _ (n : ℕ) (w : y ≡ Err n) where
     pub whole_asks : {ix : List ℕ} → CutReady cs ps hs es ix p.divider root → RestoreAsks cs cs₁ ps₁ hs₁ es₁
     whole_asks R = go (T.of R.table R.fit)
       where
@@ -233,15 +235,15 @@ module _ {cs : List ℕ} {ps hs : List Float} {es : List ℕ} {p : CutParams} {r
         go (held.stopped j u m w' z H) = restore_asks R.fit.holds z H
 
     pub whole_refused : {cs' : List ℕ} {ps' hs' : List Float} {es' ix' : List ℕ} → Restored cs₁ ps₁ hs₁ es₁ (get_or cs 1 0) (get_or cs 2 0) (get_or cs 3 0) cs' ps' hs' es'
-        → WholeCut cs ps hs es p root (public.Refused n) cs' ps' hs' es' ix'
+        → WholeCut cs ps hs es p root (Err n) cs' ps' hs' es' ix'
     whole_refused {cs'} {ps'} {hs'} {es'} R = record { of = λ t F. go t F (T.of t F); indexed = λ a q. let z : ◌≡◌ {A = ℕ} 0 1 = cc in absurd (omega arith) }
       where
         go : (t : Table) → CutFit cs ps hs es p.divider root t → Tried t
-            → ◌≡◌ {A = CutReply × Memory} (public.Refused n, memory_of cs' ps' hs' es') (written desk (memory_of cs ps hs es) (cut_finite desk (params_of t.dimension p) root t))
+            → ◌≡◌ {A = Reply ElementAnswer × Memory} (Err n, memory_of cs' ps' hs' es') (written desk (memory_of cs ps hs es) (cut_finite desk (params_of t.dimension p) root t))
         go t F (held.went b u m w' H) = let e : ◌≡◌ {A = ℕ} 0 1 = cc in absurd (omega arith)
         go t F (held.stopped j u m w' z H) =
             let e : n ≡ j = cc in
             let s = slices F.holds in
             let back : ◌≡◌ {A = Memory} (memory_of cs' ps' hs' es') (memory_of cs ps hs es) =
             holds_memory desk readable_desk (R.of t u z H s.element_count s.point_count s.plane_count) ∙ sym (holds_memory desk readable_desk F.holds) in
-            (λ l. (public.Refused (e l), back l)) ∙ sym (ap (written desk (memory_of cs ps hs es)) m)
+            (λ l. (Err (e l), back l)) ∙ sym (ap (written desk (memory_of cs ps hs es)) m)

@@ -1,10 +1,8 @@
 -- What a cut remembers: the words of the answers given so far, and when they are true of a table. Definitions only.
-use Rattle.std.specs.Prelude.{ℕ, zero, suc, ◌+◌, ◌*◌, ◌/◌, ◌%◌, ◌<◌, ◌≡◌, Bool, true, ◌||◌, List, ltb, length, get_or, set}
+use Rattle.std.specs.Prelude.{ℕ, zero, suc, ◌+◌, ◌*◌, ◌/◌, ◌%◌, ◌<◌, ◌≡◌, Bool, true, ◌||◌, List, ltb, length, get_or, set, Option, Some, None}
 use Rattle.rules.specs.Limits.{desk}
 use Rattle.rules.specs.Table.{Table, rank, element_count}
 use Rattle.rules.specs.Cut.{done, given, cut_element}
-use Rattle.rules.specs.declared.ElementOrNone.{ElementOrNone}
-use Rattle.rules.specs.declared.ElementOrNone.TheVariants.{None, Some}
 use Rattle.rules.specs.declared.ElementCutOutput.{ElementCutOutput}
 use Rattle.rules.specs.declared.ElementCutOutput.TheVariants.{Flush, NonFlush}
 use Rattle.gathered.specs.declared.answer.ElementReply.{ElementReply}
@@ -12,6 +10,7 @@ use Rattle.gathered.specs.declared.answer.ElementReply.TheVariants as reply
 use Rattle.gathered.specs.Sets.{OutputInRoom}
 use Rattle.gathered.specs.Cutting.{cut_of}
 use Rattle.rules.specs.declared.Cutter.{Cutter}
+use Rattle.rules.specs.declared.ElementId.{ElementId}
 
 -- ---- one word of three fields an element
 
@@ -20,12 +19,12 @@ abbrev pub field_size : ℕ
 field_size = 1024
 
 -- none is 1, and an element is two above its number
-abbrev pub field_of : ElementOrNone → ℕ
+abbrev pub field_of : Option ElementId → ℕ
 field_of None = 1
 field_of (Some e) = suc (suc e.0)
 
 -- the element of a field, or none
-abbrev pub some_of : ℕ → ElementOrNone
+abbrev pub some_of : ℕ → Option ElementId
 some_of zero = None
 some_of (suc zero) = None
 some_of (suc (suc e)) = given e

@@ -10,10 +10,11 @@ use lib.ListN.{length, get_or, set, drop, length-set, length-append}
 use lib.Seq.{sets, sets-eq, length-sets}
 use Rattle.rules.specs.Questions.{answer}
 use Rattle.rules.specs.Replies.{listed}
-use Rattle.rules.specs.declared.ListReply.TheVariants.{Refused, Listed}
 use Rattle.rules.proofs.Laws.{if_true, if_false, test_le, test_above}
 use Rattle.elements.specs.Marks.{bits_from, words_from, marked_numbers, CountOf, WordListed}
 use Rattle.elements.proofs.WordLoops.{Leaving, numbers_left, leaving_start, all_left, none_left, next_left, leaving_next, next_word, no_words}
+use Rattle.rules.specs.declared.Refusal.TheVariants.{RoomShort}
+use Rattle.std.specs.Prelude.{Ok, Err}
 
 -- ---- one word
 
@@ -131,10 +132,10 @@ counting_end ws n w e k =
 
 -- ---- the reply
 
-pub no_room : (xs l : List ℕ) (n : ℕ) → n ≡ length xs → length l < n → (Refused 12, l) ≡ listed (answer xs) l
-no_room xs l n e h = sym (if_false (leb (length xs) (length l)) (Listed (length xs), xs ++ drop (length xs) l) (Refused 12, l) (test_above (length xs) (length l) (omega (arith, e, h))))
+pub no_room : (xs l : List ℕ) (n : ℕ) → n ≡ length xs → length l < n → (Err RoomShort, l) ≡ listed (answer xs) l
+no_room xs l n e h = sym (if_false (leb (length xs) (length l)) (Ok (length xs), xs ++ drop (length xs) l) (Err RoomShort, l) (test_above (length xs) (length l) (omega (arith, e, h))))
 
-pub in_front : (xs l l' : List ℕ) (n : ℕ) → n ≡ length xs → n ≤ length l → l' ≡ sets l 0 xs → (Listed n, l') ≡ listed (answer xs) l
+pub in_front : (xs l l' : List ℕ) (n : ℕ) → n ≡ length xs → n ≤ length l → l' ≡ sets l 0 xs → (Ok n, l') ≡ listed (answer xs) l
 in_front xs l l' n e h q =
-    ap₂ (λ (k : ℕ) (m : List ℕ). (Listed k, m)) e (q ∙ sets-eq xs l 0 (omega (arith, e, h)) ∙ ap (λ (k : ℕ). xs ++ drop k l) (let z : 0 + length xs ≡ length xs = omega arith in z))
-    ∙ sym (if_true (leb (length xs) (length l)) (Listed (length xs), xs ++ drop (length xs) l) (Refused 12, l) (test_le (length xs) (length l) (omega (arith, e, h))))
+    ap₂ (λ (k : ℕ) (m : List ℕ). (Ok k, m)) e (q ∙ sets-eq xs l 0 (omega (arith, e, h)) ∙ ap (λ (k : ℕ). xs ++ drop k l) (let z : 0 + length xs ≡ length xs = omega arith in z))
+    ∙ sym (if_true (leb (length xs) (length l)) (Ok (length xs), xs ++ drop (length xs) l) (Err RoomShort, l) (test_le (length xs) (length l) (omega (arith, e, h))))

@@ -12,8 +12,6 @@ use Rattle.rules.specs.Replies.{divider_of}
 use Rattle.rules.specs.Touch.{corner_sides, touched, touch_at_distance, touch, touch_reply}
 use Rattle.rules.specs.declared.Hyperplane.{Hyperplane}
 use Rattle.rules.specs.declared.Touch.TheVariants.{InsideOrOn, OutsideOrOn}
-use Rattle.rules.specs.declared.TouchReply.{TouchReply}
-use Rattle.rules.specs.declared.TouchReply.TheVariants.{Refused, Touched}
 use Rattle.space.proofs.Lent.{memory_sound_table}
 use Rattle.space.proofs.RowAdds.{readable_desk}
 use Rattle.soundness.specs.Asked.{at_distance, asked}
@@ -21,6 +19,10 @@ use Rattle.soundness.specs.declared.asked.Asking.{Asking}
 use Rattle.soundness.specs.declared.asked.Asking.TheVariants as asking
 use Rattle.soundness.proofs.AskedOnce.{held, answered, replied, asked_law, TestsPassed, asked_passed}
 use Rattle.elements.specs.Touches.{TouchReady, FiniteTouched}
+use Rattle.rules.specs.Refusals.{Reply}
+use Rattle.rules.specs.declared.Touched.{Touched}
+use Rattle.std.specs.Prelude.{Err}
+use Rattle.rules.specs.Touch.{touch_with}
 
 module _ (h : Hyperplane) (root : ℕ) (cs : List ℕ) (ps hs : List Float) (es : List ℕ) where
   abbrev m : Memory
@@ -32,14 +34,14 @@ module _ (h : Hyperplane) (root : ℕ) (cs : List ℕ) (ps hs : List Float) (es 
   abbrev plane : Plane
   plane = divider_of t.dimension h
 
-  abbrev finite : TouchReply
+  abbrev finite : Reply Touched
   finite = touched (corner_sides plane t root)
 
   -- what is made of an answer
-  abbrev made : Asking → TouchReply
-  made a = answered Refused (Touched InsideOrOn 0) (Touched OutsideOrOn 0) finite a
+  abbrev made : Asking → Reply Touched
+  made a = answered Err (Ok (touch_with InsideOrOn 0)) (Ok (touch_with OutsideOrOn 0)) finite a
 
-  by_distance : (x : Float) → at_distance (Touched InsideOrOn 0) (Touched OutsideOrOn 0) finite x ≡ touch_at_distance plane x root t
+  by_distance : (x : Float) → at_distance (Ok (touch_with InsideOrOn 0)) (Ok (touch_with OutsideOrOn 0)) finite x ≡ touch_at_distance plane x root t
   by_distance nan = refl
   by_distance (inf false) = refl
   by_distance (inf true) = refl
@@ -48,17 +50,17 @@ module _ (h : Hyperplane) (root : ℕ) (cs : List ℕ) (ps hs : List Float) (es 
   made_is : {a : Asking} → a ≡ asked m h root → made a ≡ touch_reply desk h root m
   unfolding touch_reply touch
   made_is q =
-      ap made q ∙ asked_law Refused (Touched InsideOrOn 0) (Touched OutsideOrOn 0) finite m h root
-      ∙ ap (λ (x : TouchReply). replied Refused x m h root) (by_distance h.distance)
+      ap made q ∙ asked_law Err (Ok (touch_with InsideOrOn 0)) (Ok (touch_with OutsideOrOn 0)) finite m h root
+      ∙ ap (λ (x : Reply Touched). replied Err x m h root) (by_distance h.distance)
 
-  pub refused : (n : ℕ) → asking.Refused n ≡ asked m h root → Refused n ≡ touch_reply desk h root m
+  pub refused : (n : ℕ) → asking.Refused n ≡ asked m h root → Err n ≡ touch_reply desk h root m
   refused n q = made_is q
 
   -- rule 1
-  pub all_inside : {r : TouchReply} → asking.AllInside ≡ asked m h root → r ≡ Touched InsideOrOn 0 → r ≡ touch_reply desk h root m
+  pub all_inside : {r : Reply Touched} → asking.AllInside ≡ asked m h root → r ≡ Ok (touch_with InsideOrOn 0) → r ≡ touch_reply desk h root m
   all_inside q e = e ∙ made_is q
 
-  pub all_outside : {r : TouchReply} → asking.AllOutside ≡ asked m h root → r ≡ Touched OutsideOrOn 0 → r ≡ touch_reply desk h root m
+  pub all_outside : {r : Reply Touched} → asking.AllOutside ≡ asked m h root → r ≡ Ok (touch_with OutsideOrOn 0) → r ≡ touch_reply desk h root m
   all_outside q e = e ∙ made_is q
 
   -- the corners
@@ -75,6 +77,6 @@ module _ (h : Hyperplane) (root : ℕ) (cs : List ℕ) (ps hs : List Float) (es 
       used = passed.used;
     }
 
-    pub corners_replied : {r : TouchReply} → FiniteTouched cs ps es h root r → r ≡ touch_reply desk h root m
+    pub corners_replied : {r : Reply Touched} → FiniteTouched cs ps es h root r → r ≡ touch_reply desk h root m
     corners_replied F =
         F.of hs t (held cs ps hs es passed.sound) (memory_sound_table desk readable_desk m passed.sound) passed.used ∙ made_is q

@@ -15,8 +15,6 @@ use Rattle.rules.specs.Table.{Element, Table, rank_of, rank, boundary, element, 
 use Rattle.rules.specs.Held.{Extends, Holds, Came, went, stopped, Sets, Ranked}
 use Rattle.rules.specs.Cut.{Outcome, done, next, give, Cutting, Gathered, corner_answer, nothing_yet, gathering, add_vertex, cross_edge, cut_ends, cut_edge, cut_element, rule6}
 use Rattle.rules.specs.declared.EdgeTest.{EdgeTest}
-use Rattle.rules.specs.declared.Crossing.{Crossing}
-use Rattle.rules.specs.declared.Crossing.TheVariants.{None as NoCrossing, At}
 use Rattle.rules.specs.declared.ElementId.{ElementId}
 use Rattle.rules.specs.declared.ElementAnswer.{ElementAnswer}
 use Rattle.gathered.specs.declared.answer.ElementReply.{ElementReply}
@@ -46,6 +44,7 @@ use Rattle.ends.specs.declared.EdgeEnds.{EdgeEnds}
 use Rattle.ends.specs.Elements.{Ready, LowAsked, LowLeft}
 use Rattle.ends.proofs.EndsGathered.{sized_more, Crossed}
 use Rattle.ends.proofs.Vertices as vertex
+use Rattle.std.specs.Prelude.{Option, Some, None}
 
 -- ---- the crossing is matched or appended
 
@@ -82,13 +81,13 @@ module _ {cs : List ℕ} {ps : List Float} {es : List ℕ} {e : ℕ} {k : Cutter
     added : Came placed_at placed.Refused (Holds desk cs' ps' hs es') t (add_vertex desk (crossing_point f p q) t) w
     added = N.of hs t (crossing_point f p q) X.fit.holds X.fit.sound X.point (crossing_sound f t.dimension p q X.first X.second)
 
-    crossing_kept : Stays desk (Sets 0) t (cross_edge desk p q (At f) g t)
-    crossing_kept = cross_stays desk (cut_of t.dimension k) p q (At f) g t (sound_good desk t X.fit.sound) X.first X.second X.sets
+    crossing_kept : Stays desk (Sets 0) t (cross_edge desk p q (Some f) g t)
+    crossing_kept = cross_stays desk (cut_of t.dimension k) p q (Some f) g t (sound_good desk t X.fit.sound) X.first X.second X.sets
 
     -- the edge, once its crossing is vertex element i
     record Left (i : ℕ) : Type 0 where
       pub table : Table
-      pub ended : cross_edge desk p q (At f) g t ≡ done (crossed_of i g) table
+      pub ended : cross_edge desk p q (Some f) g t ≡ done (crossed_of i g) table
       pub kept : Kept desk (Sets 0) t (crossed_of i g) table
       pub holds : Holds desk cs' ps' hs es' table
 
@@ -99,11 +98,11 @@ module _ {cs : List ℕ} {ps : List Float} {es : List ℕ} {e : ℕ} {k : Cutter
         go (stopped j u o l n H) = let r : ◌≡◌ {A = ℕ} 0 1 = cc in absurd (omega arith)
         go (went j u o l H) =
             let r : j ≡ i = sym (ap number_of l) ∙ ap number_of h in
-            let z : cross_edge desk p q (At f) g t ≡ done (crossed_of i g) u = ap (λ (y : Outcome ℕ). next y (λ v. give (crossed_of v g))) (o ∙ ap (λ (n : ℕ). done n u) r) in
+            let z : cross_edge desk p q (Some f) g t ≡ done (crossed_of i g) u = ap (λ (y : Outcome ℕ). next y (λ v. give (crossed_of v g))) (o ∙ ap (λ (n : ℕ). done n u) r) in
             record { table = u; ended = z; kept = subst (Stays desk (Sets 0) t) z crossing_kept; holds = H }
 
     abbrev whole : Outcome ElementAnswer
-    whole = after_ends (cut_of t.dimension k) (element t e) (cross_edge desk p q (At f) g t)
+    whole = after_ends (cut_of t.dimension k) (element t e) (cross_edge desk p q (Some f) g t)
 
     module _ (i : ℕ) (Q : Left i) where
       -- it is in use, so its number is within the room
@@ -222,12 +221,12 @@ abbrev pub tested : ℕ → Cutter → EdgeEnds → EdgeTest
 tested d k r = edge_test (distance_to d k.params.divider r.p) (distance_to d k.params.divider r.q)
 
 -- an edge's answer has the warning of what its ends answered
-crossed_warning : (c : Cutting) (y : Element) (p q : List Float) (z : Crossing) (g : Gathered) (t : Table) {u : Table} {a : ElementAnswer} → after_ends c y (cross_edge desk p q z g t) ≡ done a u
+crossed_warning : (c : Cutting) (y : Element) (p q : List Float) (z : Option Float) (g : Gathered) (t : Table) {u : Table} {a : ElementAnswer} → after_ends c y (cross_edge desk p q z g t) ≡ done a u
     → a.warning ≡ g.warning
 crossed_warning c y p q z g t o = subst (Done (Warns g.warning)) o (after_gathered desk c g.warning y (cross_edge desk p q z g t) (crossed_warns desk c p q z g t))
 
 -- the crossing, by what the test is
-crossing_is : {z w : EdgeTest} {x : Crossing} → z ≡ w → z.crossing ≡ x → x ≡ w.crossing
+crossing_is : {z w : EdgeTest} {x : Option Float} → z ≡ w → z.crossing ≡ x → x ≡ w.crossing
 crossing_is says m = sym m ∙ ap (λ (y : EdgeTest). y.crossing) says
 
 -- and that is whether one of them was a close call
@@ -259,17 +258,17 @@ module _ (k : Cutter) (d : ℕ) (r : EdgeEnds) (sa sb : Float) where
       fb = end_fit F 1 b (lit≤ tt) E.second
 
       -- the rule, on the ends as they were read
-      opened : (z : Crossing) → z ≡ (tested d k r).crossing → cut_element desk c 1 e t ≡ after_ends c (element t e) (cross_edge desk (point_at t a) (point_at t b) z answered t)
+      opened : (z : Option Float) → z ≡ (tested d k r).crossing → cut_element desk c 1 e t ≡ after_ends c (element t e) (cross_edge desk (point_at t a) (point_at t b) z answered t)
       unfolding cut_element cut_edge cut_ends
       opened z h =
           ap₂ (λ (x y : ℕ). after_ends c (element t e) (cut_ends desk c x y (point_at t x) (point_at t y) t))
           (sym (end_is F 0 a (lit≤ tt) E.first)) (sym (end_is F 1 b (lit≤ tt) E.second))
           ∙ ap₂ (λ (x y : Float). after_ends c (element t e) (cross_edge desk (point_at t a) (point_at t b) (crossing_of x y) (ends_of a b x y) t))
           (sym (ha ∙ vertex.distance_is fa d r.p hd E.first_point)) (sym (hb ∙ vertex.distance_is fb d r.q hd E.second_point))
-          ∙ ap (λ (x : Crossing). after_ends c (element t e) (cross_edge desk (point_at t a) (point_at t b) x answered t)) (sym (h ∙ ap₂ crossing_of (sym ha) (sym hb)))
+          ∙ ap (λ (x : Option Float). after_ends c (element t e) (cross_edge desk (point_at t a) (point_at t b) x answered t)) (sym (h ∙ ap₂ crossing_of (sym ha) (sym hb)))
 
       -- the answer's warning is that of the edge test
-      warned : (z : Crossing) → z ≡ (tested d k r).crossing → {u : Table} {y : ElementAnswer} → cut_element desk c 1 e t ≡ done y u → y.warning ≡ (tested d k r).warning
+      warned : (z : Option Float) → z ≡ (tested d k r).crossing → {u : Table} {y : ElementAnswer} → cut_element desk c 1 e t ≡ done y u → y.warning ≡ (tested d k r).warning
       warned z h o =
           crossed_warning c (element t e) (point_at t a) (point_at t b) z answered t (sym (opened z h) ∙ o) ∙ ends_warning a b sa sb ∙ (λ i. close_call (ha i) || close_call (hb i))
 
@@ -283,7 +282,7 @@ module _ (k : Cutter) (d : ℕ) (r : EdgeEnds) (sa sb : Float) where
     -- the room as it came, with the test's warning, and with what the ends answered; z and x are what the test says
     module _ {s s₁ s₂ : List (List ℕ)} {z : EdgeTest} (says : z ≡ tested d k r) (N : Noted s z.warning s₁) (G : EndsGathered a b sa sb s₁ s₂) where
       -- the cut's warning after it all
-      noted_by : {x : Crossing} (s₃ : List (List ℕ)) → z.crossing ≡ x → warning_in s₃ ≡ warning_in s₂ → {hs : List Float} {t : Table} → Fit cs ps hs es 1 e k t → (y : ElementAnswer) (u : Table)
+      noted_by : {x : Option Float} (s₃ : List (List ℕ)) → z.crossing ≡ x → warning_in s₃ ≡ warning_in s₂ → {hs : List Float} {t : Table} → Fit cs ps hs es 1 e k t → (y : ElementAnswer) (u : Table)
           → cut_element desk (cut_of t.dimension k) 1 e t ≡ done y u → warning_in s₃ ≡ (warning_in s || y.warning)
       noted_by {x} s₃ m l F y u o =
           l ∙ G.warning ∙ N.warning ∙ ap (λ (w : Bool). warning_in s || w) (ap (λ (q : EdgeTest). q.warning) says ∙ sym (warned F x (crossing_is says m) o))
@@ -302,13 +301,13 @@ module _ (k : Cutter) (d : ℕ) (r : EdgeEnds) (sa sb : Float) where
         indexed = A.indexed;
       }
 
-      pub missed_cut : {y : ElementReply} {cs' es' ix' : List ℕ} {s₃ : List (List ℕ)} → z.crossing ≡ NoCrossing → Rule6Done cs es 1 e k s₂ y cs' es' ix' s₃
+      pub missed_cut : {y : ElementReply} {cs' es' ix' : List ℕ} {s₃ : List (List ℕ)} → z.crossing ≡ None → Rule6Done cs es 1 e k s₂ y cs' es' ix' s₃
           → LowLeft cs ps es 1 e k s y cs' ps es' ix' s₃
       missed_cut {y} {cs'} {es'} {s₃ = s₃} m D = record {
         cut = record {
           of = λ hs t F.
               told_by (noted_by s₃ m D.used.warning F)
-              (subst (λ (o : Outcome ElementAnswer). Came answered_by reply.Refused (Holds desk cs' ps hs es') t o y) (sym (opened F NoCrossing (crossing_is says m)))
+              (subst (λ (o : Outcome ElementAnswer). Came answered_by reply.Refused (Holds desk cs' ps hs es') t o y) (sym (opened F None (crossing_is says m)))
               (D.of ps hs t answered (missed_fit F)));
         };
         indexed = D.indexed;
@@ -340,13 +339,13 @@ module _ (k : Cutter) (d : ℕ) (r : EdgeEnds) (sa sb : Float) where
           fit = crossing_fit R.fit;
         }
 
-        pub crossing_cut : {y : ElementReply} {cs' : List ℕ} {ps' : List Float} {es' ix' : List ℕ} {s₃ : List (List ℕ)} → z.crossing ≡ At f → CrossedLeft cs ps es e k s₂ x y cs' ps' es' ix' s₃
+        pub crossing_cut : {y : ElementReply} {cs' : List ℕ} {ps' : List Float} {es' ix' : List ℕ} {s₃ : List (List ℕ)} → z.crossing ≡ Some f → CrossedLeft cs ps es e k s₂ x y cs' ps' es' ix' s₃
             → LowLeft cs ps es 1 e k s y cs' ps' es' ix' s₃
         crossing_cut {y} {cs'} {ps'} {es'} {s₃ = s₃} m D = record {
           cut = record {
             of = λ hs t F.
                 told_by (noted_by s₃ m D.used.warning F)
-                (subst (λ (o : Outcome ElementAnswer). Came answered_by reply.Refused (Holds desk cs' ps' hs es') t o y) (sym (opened F (At f) (crossing_is says m)))
+                (subst (λ (o : Outcome ElementAnswer). Came answered_by reply.Refused (Holds desk cs' ps' hs es') t o y) (sym (opened F (Some f) (crossing_is says m)))
                 (D.cut.of hs t (point_at t a) (point_at t b) f answered (crossing_fit F)));
           };
           indexed = D.indexed;

@@ -1,5 +1,5 @@
 -- What rules 3 and 4 do: the cut of a vertex, and of an edge by its two ends. Definitions only.
-use Rattle.std.specs.Prelude.{ℕ, ◌+◌, ◌*◌, ◌<◌, ◌≡◌, true, ◌||◌, List, [], ◌∷◌, length, get_or, Float}
+use Rattle.std.specs.Prelude.{ℕ, ◌+◌, ◌*◌, ◌<◌, ◌≡◌, true, ◌||◌, List, [], ◌∷◌, length, get_or, Float, Some}
 use Rattle.rules.specs.Limits.{desk}
 use Rattle.rules.specs.Lists.{pad}
 use Rattle.rules.specs.Floats.{plus_zero, side_test, crossing_point}
@@ -7,7 +7,6 @@ use Rattle.rules.specs.Table.{Table, Element, element, point_at}
 use Rattle.rules.specs.Sound.{sound_point}
 use Rattle.rules.specs.Held.{Holds, Came, Sets}
 use Rattle.rules.specs.Cut.{Outcome, next, Cutting, Gathered, corner_answer, distance_of, gathering, nothing_yet, cross_edge, rule6}
-use Rattle.rules.specs.declared.Crossing.TheVariants.{At}
 use Rattle.rules.specs.declared.ElementCutOutput.{ElementCutOutput}
 use Rattle.rules.specs.declared.ElementAnswer.{ElementAnswer}
 use Rattle.gathered.specs.declared.answer.ElementReply.{ElementReply}
@@ -112,7 +111,7 @@ pub record CrossedReady (cs : List ℕ) (ps : List Float) (es : List ℕ) (e : �
 pub record CrossedCut (cs : List ℕ) (ps : List Float) (es : List ℕ) (e : ℕ) (k : Cutter) (s : List (List ℕ)) (x : List Float) (y : ElementReply)
     (cs' : List ℕ) (ps' : List Float) (es' : List ℕ) : Type 0 where
   pub of : (hs : List Float) (t : Table) (p q : List Float) (f : Float) (g : Gathered) → CrossedFit cs ps hs es e k s x t p q f g
-      → Came answered_by reply.Refused (Holds desk cs' ps' hs es') t (after_ends (cut_of t.dimension k) (element t e) (cross_edge desk p q (At f) g t)) y
+      → Came answered_by reply.Refused (Holds desk cs' ps' hs es') t (after_ends (cut_of t.dimension k) (element t e) (cross_edge desk p q (Some f) g t)) y
 
 -- such a memory, with its rows indexed
 pub record CrossedAsked (cs : List ℕ) (ps : List Float) (es ix : List ℕ) (e : ℕ) (k : Cutter) (s : List (List ℕ)) (x : List Float) : Type 0 where

@@ -12,6 +12,7 @@ use Rattle.rules.specs.Files.{judged, table_in, opened, open_reply}
 use Rattle.files.specs.Judged.{Says, Judged}
 use Rattle.files.specs.Laid.{LayoutTold, breaks, stands}
 use Rattle.files.specs.declared.layout.Laid.{Laid}
+use Rattle.rules.specs.declared.Refusal.TheVariants.{NotSound}
 
 -- where the layout stands, the bytes are that of a table
 pub told_says : {bs : List ℕ} {l : Laid} → LayoutTold bs l → l.whole ≡ true → Says bs l
@@ -25,7 +26,7 @@ module _ (bs : List ℕ) (m : Memory) where
   open_broken (stands t w y) f = absurd (false≢true (sym f ∙ y))
 
   module _ {l : Laid} (S : Says bs l) where
-    said : table_in desk bs ≡ (if sound desk S.table then answer S.table else no_answer 3)
+    said : table_in desk bs ≡ (if sound desk S.table then answer S.table else no_answer NotSound)
     unfolding table_in
     said = ap (judged desk) S.whole.says
 
@@ -33,7 +34,7 @@ module _ (bs : List ℕ) (m : Memory) where
     unfolding open_reply
     open_not_sound J f =
         let no = sym (J.told S.table S.whole) ∙ f in
-        sym (ap (opened desk m) (said ∙ ap (λ (b : Bool). if b then answer S.table else no_answer 3) no))
+        sym (ap (opened desk m) (said ∙ ap (λ (b : Bool). if b then answer S.table else no_answer NotSound) no))
 
     pub open_other_size : right_size desk m ≡ false → (3, m) ≡ open_reply desk bs m
     unfolding open_reply
@@ -41,11 +42,11 @@ module _ (bs : List ℕ) (m : Memory) where
       where
         go : (b : Bool) → sound desk S.table ≡ b → (3, m) ≡ opened desk m (table_in desk bs)
         go true q =
-            sym (ap (opened desk m) (said ∙ ap (λ (b : Bool). if b then answer S.table else no_answer 3) q) ∙ ap (λ (b : Bool). if b then (0, encode desk S.table) else (3, m)) f)
-        go false q = sym (ap (opened desk m) (said ∙ ap (λ (b : Bool). if b then answer S.table else no_answer 3) q))
+            sym (ap (opened desk m) (said ∙ ap (λ (b : Bool). if b then answer S.table else no_answer NotSound) q) ∙ ap (λ (b : Bool). if b then (0, encode desk S.table) else (3, m)) f)
+        go false q = sym (ap (opened desk m) (said ∙ ap (λ (b : Bool). if b then answer S.table else no_answer NotSound) q))
 
     pub open_taken : {n : Memory} → sound desk S.table ≡ true → right_size desk m ≡ true → n ≡ encode desk S.table → (0, n) ≡ open_reply desk bs m
     unfolding open_reply
     open_taken {n} q s e =
-        ap (λ (k : Memory). (0, k)) e ∙ sym (ap (opened desk m) (said ∙ ap (λ (b : Bool). if b then answer S.table else no_answer 3) q)
+        ap (λ (k : Memory). (0, k)) e ∙ sym (ap (opened desk m) (said ∙ ap (λ (b : Bool). if b then answer S.table else no_answer NotSound) q)
         ∙ ap (λ (b : Bool). if b then (0, encode desk S.table) else (3, m)) s)

@@ -6,6 +6,7 @@ use Rattle.rules.specs.Questions.{no_answer}
 use Rattle.rules.specs.Files.{got, layout, table_in, point_in, plane_in, element_in}
 use Rattle.files.specs.Runs.{Run}
 use Rattle.files.specs.declared.layout.Laid.{Laid}
+use Rattle.rules.specs.declared.Refusal.TheVariants.{Layout}
 
 -- how many bytes a header has
 abbrev pub header_size : ℕ
@@ -24,5 +25,5 @@ pub record Whole (bs : List ℕ) (l : Laid) (t : Table) : Type 0 where
 
 -- what the test of the layout answers
 pub data LayoutTold (bs : List ℕ) (l : Laid) : Type 0 where
-  breaks : ((L : Limits) → table_in L bs ≡ no_answer 13) → l.whole ≡ false → LayoutTold bs l
+  breaks : ((L : Limits) → table_in L bs ≡ no_answer Layout) → l.whole ≡ false → LayoutTold bs l
   stands : (t : Table) → Whole bs l t → l.whole ≡ true → LayoutTold bs l

@@ -12,7 +12,6 @@ use Rattle.rules.specs.Table.{Element, Table, rank_of, element}
 use Rattle.rules.specs.Held.{Extends, Holds, Came, went, Ranked, AllOf, SetOf, SomeOf}
 use Rattle.rules.specs.Replies.{is_kept}
 use Rattle.rules.specs.Cut.{Outcome, done, next, give, Gathered, Cutting, given, new_intersection, side_of_cut, rule7, rule6}
-use Rattle.rules.specs.declared.ElementOrNone.{ElementOrNone}
 use Rattle.rules.specs.declared.ElementAnswer.{ElementAnswer}
 use Rattle.rules.specs.declared.ElementCutOutput.TheVariants.{Flush, NonFlush}
 use Rattle.rules.proofs.Extends.{extends_refl, begins_length, count_more, element_same}
@@ -31,6 +30,8 @@ use Rattle.rules.specs.declared.Cutter.{Cutter}
 use Rattle.gathered.proofs.Fitting.{rank_before, owner_of, rank_low}
 use Rattle.gathered.proofs.Gathering.{by_four, outside_other, inside_sized, outside_sized, intersections_sized}
 use Rattle.gathered.proofs.Steps.{made_is, came_refused, came_answered, came_next}
+use Rattle.rules.specs.declared.ElementId.{ElementId}
+use Rattle.std.specs.Prelude.{Option}
 
 -- ---- in a later table
 
@@ -61,7 +62,7 @@ module _ {cs es : List ℕ} {r e : ℕ} {k : Cutter} {ps hs : List Float} {t : T
     }
 
     -- a side of the element may be added
-    module _ (x : ElementOrNone) (h : SomeOf r x t) {set xs : List ℕ} (S : SideSet r t set xs) where
+    module _ (x : Option ElementId) (h : SomeOf r x t) {set xs : List ℕ} (S : SideSet r t set xs) where
       set_now : SetOf u r (numbers_in set)
       set_now = subst (λ (l : List ℕ). SetOf u r l) (sym S.held) (set_later xs U.extends S.sets)
 
@@ -83,7 +84,7 @@ module _ {cs es : List ℕ} {r e : ℕ} {k : Cutter} {ps hs : List Float} {t : T
       side_came : {cs₂ es₂ ix₂ set₂ : List ℕ} {keep : Bool} {y : Added} → SideMade cs₁ es₁ r e keep set x y cs₂ es₂ ix₂ set₂
           → Came added.Made added.Refused (Holds desk cs₂ ps hs es₂) u (side_of_cut desk keep (element t e) x xs u) y
       side_came {cs₂} {es₂} {keep = keep} {y} M =
-          subst (λ (o : Outcome ElementOrNone). Came added.Made added.Refused (Holds desk cs₂ ps hs es₂) u o y) (same_step keep) (M.of ps hs u side_fit)
+          subst (λ (o : Outcome (Option ElementId)). Came added.Made added.Refused (Holds desk cs₂ ps hs es₂) u o y) (same_step keep) (M.of ps hs u side_fit)
 
       side_keeps : (keep : Bool) → Stays desk (SomeOf (suc (suc (r - 1)))) u (side_of_cut desk keep (element t e) x xs u)
       side_keeps keep =
@@ -94,7 +95,7 @@ module _ {cs es : List ℕ} {r e : ℕ} {k : Cutter} {ps hs : List Float} {t : T
           (subst (λ (q : ℕ). SomeOf q x u) n (some_later r x U.extends h)) (subst (λ (q : ℕ). SetOf u q (numbers_in set)) n set_now))
 
       -- the table after a side that was not refused
-      side_after : {cs₂ es₂ ix₂ set₂ : List ℕ} {keep : Bool} {y : Added} → SideMade cs₁ es₁ r e keep set x y cs₂ es₂ ix₂ set₂ → (i : ElementOrNone) → y ≡ added.Made i
+      side_after : {cs₂ es₂ ix₂ set₂ : List ℕ} {keep : Bool} {y : Added} → SideMade cs₁ es₁ r e keep set x y cs₂ es₂ ix₂ set₂ → (i : Option ElementId) → y ≡ added.Made i
           → (v : Table) × (side_of_cut desk keep (element t e) x xs u ≡ done i v) × Later cs₂ ps hs es₂ u v
       side_after {keep = keep} M i q =
           let m = made_is i q (side_came M) in
@@ -118,10 +119,10 @@ module _ (s : List (List ℕ)) (i : List ℕ) where
       go f ri ro rx T = record { shaped = record { four = refl; tally = T.tally; inside = l; outside = m; intersections = T.intersections }; warning = refl }
 
 -- the three places and the warning
-abbrev sides : ElementOrNone → ElementOrNone → ElementOrNone → Bool → ElementAnswer
+abbrev sides : Option ElementId → Option ElementId → Option ElementId → Bool → ElementAnswer
 sides i o x w = record { output = NonFlush i o x; warning = w }
 
-module _ {cs es : List ℕ} {r e : ℕ} {k : Cutter} {s : List (List ℕ)} {x : ElementOrNone} where
+module _ {cs es : List ℕ} {r e : ℕ} {k : Cutter} {s : List (List ℕ)} {x : Option ElementId} where
   pub inside_ready : {ix : List ℕ} → Rule7Ready cs es ix r e k s x → SideReady cs es ix r e (inside_in s) x
   inside_ready R =
       let F = R.fit in
@@ -142,7 +143,7 @@ module _ {cs es : List ℕ} {r e : ℕ} {k : Cutter} {s : List (List ℕ)} {x : 
       used = one_used s i S M.long;
     }
 
-    module _ (a : ElementOrNone) (q : y ≡ added.Made a) where
+    module _ (a : Option ElementId) (q : y ≡ added.Made a) where
       inner : {ps hs : List Float} {t : Table} {g : Gathered} → Rule7Fit cs ps hs es r e k s x t g
           → (v : Table) × (side_of_cut desk (is_kept k.params.inside) (element t e) x g.inside t ≡ done a v) × Later cs₁ ps hs es₁ t v
       inner F = side_after F.fit F.some (here F.fit F.some) x F.intersection F.inside M a q
@@ -175,7 +176,7 @@ module _ {cs es : List ℕ} {r e : ℕ} {k : Cutter} {s : List (List ℕ)} {x : 
           used = both_used s i o S M.long N.long;
         }
 
-        pub rule7_answered : Shaped s → (b : ElementOrNone) → z ≡ added.Made b → Rule7Done cs es r e k s x (reply.Answered (NonFlush a b x)) cs₂ es₂ ix₂ (set (set s 1 i) 2 o)
+        pub rule7_answered : Shaped s → (b : Option ElementId) → z ≡ added.Made b → Rule7Done cs es r e k s x (reply.Answered (NonFlush a b x)) cs₂ es₂ ix₂ (set (set s 1 i) 2 o)
         unfolding rule7
         rule7_answered S b w = record {
           of = λ ps hs t g F. came_next a _ (inner F).1 (inner F).2.extends (came_answered b (λ d. sides a d x g.warning) w (outer F));
@@ -202,7 +203,7 @@ no_flush (a ∷ []) h n = absurd (n refl)
 no_flush (a ∷ b ∷ fs) h n = absurd (let z : ⊥ = omega (arith, h) in z)
 
 -- the intersection's step, as rule 6 asks for it
-abbrev intersected : Cutter → ℕ → Table → Gathered → Outcome ElementOrNone
+abbrev intersected : Cutter → ℕ → Table → Gathered → Outcome (Option ElementId)
 intersected k e t g = new_intersection desk (cut_of t.dimension k) (rank_of (element t e)) g.intersections t
 
 -- from what rule 6 has: its sets for rule 7, and its intersection
@@ -210,7 +211,7 @@ module _ {cs es : List ℕ} {r e : ℕ} {k : Cutter} {s : List (List ℕ)} {ps h
   side_set : {set xs : List ℕ} → numbers_in set ≡ xs → SizedSet set 32 → SetOf t (suc (r - 1)) xs → SideSet r t set xs
   side_set {xs = xs} h z q = record { held = h; sized = z; sets = subst (λ (n : ℕ). SetOf t n xs) (sym (rank_before r F.some)) q }
 
-  rule7_fit : {cs₁ es₁ : List ℕ} {u : Table} (U : Later cs₁ ps hs es₁ t u) (x : ElementOrNone) → SomeOf r x u → Rule7Fit cs₁ ps hs es₁ r e k s x u g
+  rule7_fit : {cs₁ es₁ : List ℕ} {u : Table} (U : Later cs₁ ps hs es₁ t u) (x : Option ElementId) → SomeOf r x u → Rule7Fit cs₁ ps hs es₁ r e k s x u g
   rule7_fit U x h = record {
     fit = fit_later F.fit F.some U;
     some = F.some;
@@ -292,7 +293,7 @@ module _ {cs es : List ℕ} {r e : ℕ} {k : Cutter} {s : List (List ℕ)} where
 
     middle : {ps hs : List Float} {t : Table} {g : Gathered} → Rule6Fit cs ps hs es r e k s t g → Came added.Made added.Refused (Holds desk cs₁ ps hs es₁) t (intersected k e t g) y
     middle {ps} {hs} {t} F =
-        subst (λ (o : Outcome ElementOrNone). Came added.Made added.Refused (Holds desk cs₁ ps hs es₁) t o y) (same_intersection F) (M.of ps hs t (intersection_fit F))
+        subst (λ (o : Outcome (Option ElementId)). Came added.Made added.Refused (Holds desk cs₁ ps hs es₁) t o y) (same_intersection F) (M.of ps hs t (intersection_fit F))
 
     module _ {ps hs : List Float} {t : Table} {g : Gathered} (F : Rule6Fit cs ps hs es r e k s t g) where
       -- rule 6 without a flush answer
@@ -306,7 +307,7 @@ module _ {cs es : List ℕ} {r e : ℕ} {k : Cutter} {s : List (List ℕ)} where
     pub intersection_refused : {ix : List ℕ} → Rule6Ready cs es ix r e k s → (j : ℕ) → y ≡ added.Refused j → Rule6Done cs es r e k s (reply.Refused j) cs₁ es₁ ix₁ s
     intersection_refused R j q = record { of = λ ps hs t g F. by_none F (came_refused j _ q (middle F)); indexed = M.indexed; used = untouched R.fit.sized.shaped }
 
-    module _ (x : ElementOrNone) (q : y ≡ added.Made x) where
+    module _ (x : Option ElementId) (q : y ≡ added.Made x) where
       -- the table after the intersection
       crossed : {ps hs : List Float} {t : Table} {g : Gathered} → Rule6Fit cs ps hs es r e k s t g
           → (u : Table) × (intersected k e t g ≡ done x u) × Later cs₁ ps hs es₁ t u × Rule7Fit cs₁ ps hs es₁ r e k s x u g

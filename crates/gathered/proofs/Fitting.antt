@@ -13,8 +13,6 @@ use Rattle.rules.specs.Lists.{rises, member}
 use Rattle.rules.specs.Table.{Element, corner, polytope, Table, rank_of, boundary, boundary_of, element_count, rank, element}
 use Rattle.rules.specs.Sound.{closed, sound_element}
 use Rattle.rules.specs.Held.{Fits, elements_of, Ranked, AllOf, SomeOf}
-use Rattle.rules.specs.declared.ElementOrNone.{ElementOrNone}
-use Rattle.rules.specs.declared.ElementOrNone.TheVariants.{None, Some}
 use Rattle.rules.proofs.Apart.{distinct_apart, plain, plain_once}
 use Rattle.rules.proofs.Borders.{rise_at}
 use Rattle.rules.proofs.Extends.{Below, below_more, below_get}
@@ -25,9 +23,11 @@ use Rattle.rules.proofs.StaysCut.{Owner, facts}
 use Rattle.space.specs.Closed.{Low, LowEnds, EndsLow, EachEdge, Edges, Untwinned}
 use Rattle.space.proofs.Room.{list_of, list_word_lem}
 use Rattle.gathered.specs.Sets.{size_in, numbers_in, InRoom}
+use Rattle.rules.specs.declared.ElementId.{ElementId}
+use Rattle.std.specs.Prelude.{Option, Some, None}
 
 -- what is in use is within the room
-pub some_fits : (t : Table) → element_count t ≤ 512 → (q : ℕ) (x : ElementOrNone) → SomeOf q x t → InRoom x
+pub some_fits : (t : Table) → element_count t ≤ 512 → (q : ℕ) (x : Option ElementId) → SomeOf q x t → InRoom x
 some_fits t c q None h = tt
 some_fits t c q (Some e) h = le_trans h.0 c
 

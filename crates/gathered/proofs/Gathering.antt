@@ -11,12 +11,11 @@ use lib.ListN.{length, get_or, take, set, length-set}
 use lib.Seq.{get_or-set_same, get_or-set_other}
 use Rattle.rules.specs.Cut.{including}
 use Rattle.rules.specs.declared.ElementId.{ElementId}
-use Rattle.rules.specs.declared.ElementOrNone.{ElementOrNone}
-use Rattle.rules.specs.declared.ElementOrNone.TheVariants.{Some}
 use Rattle.rules.specs.declared.ElementCutOutput.{ElementCutOutput}
 use Rattle.rules.specs.declared.ElementCutOutput.TheVariants.{Flush, NonFlush}
 use Rattle.gathered.specs.Sets.{size_in, numbers_in, tally_in, inside_in, outside_in, intersections_in, warning_in, SizedSet, Shaped, Sized, Cleared, Noted}
 use Rattle.gathered.specs.Sets.{InRoom, IncludeReady, Included, SidesInRoom, OutputInRoom, OutputGathered}
+use Rattle.std.specs.Prelude.{Option, Some}
 
 pub at_most : {s : List ℕ} (i m : ℕ) → i ≤ m → SizedSet s i → SizedSet s m
 at_most i m h z = record { most = le_trans z.most h; long = z.long }
@@ -166,7 +165,7 @@ module _ (b : ℕ) (a : ElementCutOutput) where
           one_more_lem : {n m : ℕ} → n ≤ m → n ≤ m + 1
           one_more_lem h = omega (arith, h)
 
-  pub gather_sides : (s : List (List ℕ)) (i o x : ElementOrNone) (si so sx : List ℕ) → Shaped s → a ≡ NonFlush i o x → Included (inside_in s) i si → Included (outside_in (set s 1 si)) o so
+  pub gather_sides : (s : List (List ℕ)) (i o x : Option ElementId) (si so sx : List ℕ) → Shaped s → a ≡ NonFlush i o x → Included (inside_in s) i si → Included (outside_in (set s 1 si)) o so
       → Included (intersections_in (set (set s 1 si) 2 so)) x sx → OutputGathered s b a (set (set (set s 1 si) 2 so) 3 sx)
   gather_sides s i o x si so sx S e I O X =
       subst (λ (y : ElementCutOutput). OutputGathered s b y (set (set (set s 1 si) 2 so) 3 sx)) (sym e)
@@ -201,15 +200,15 @@ module _ (b : ℕ) (a : ElementCutOutput) where
 
 -- ---- elements within the room
 
-pub some_room : {p : ElementOrNone} (e : ElementId) → p ≡ Some e → InRoom p → e.0 < 512
+pub some_room : {p : Option ElementId} (e : ElementId) → p ≡ Some e → InRoom p → e.0 < 512
 some_room e q h = subst InRoom q h
 
-pub sides_room : {a : ElementCutOutput} (i o x : ElementOrNone) → a ≡ NonFlush i o x → OutputInRoom a → SidesInRoom i o x
+pub sides_room : {a : ElementCutOutput} (i o x : Option ElementId) → a ≡ NonFlush i o x → OutputInRoom a → SidesInRoom i o x
 sides_room i o x q h = subst OutputInRoom q h
 
-pub include_ready : {s : List ℕ} {p : ElementOrNone} → SizedSet s 31 → InRoom p → IncludeReady s p
+pub include_ready : {s : List ℕ} {p : Option ElementId} → SizedSet s 31 → InRoom p → IncludeReady s p
 include_ready z h = record { sized = at_most 31 32 (lit≤ tt) z; room = h }
 
 -- of a set that is read where another was changed
-pub include_ready_as : {s s' : List ℕ} {p : ElementOrNone} → s' ≡ s → SizedSet s 31 → InRoom p → IncludeReady s' p
+pub include_ready_as : {s s' : List ℕ} {p : Option ElementId} → s' ≡ s → SizedSet s 31 → InRoom p → IncludeReady s' p
 include_ready_as {p = p} q z h = subst (λ (l : List ℕ). IncludeReady l p) (sym q) (include_ready z h)

@@ -1,5 +1,5 @@
 -- A number put into a set that lent words hold. A search passes the numbers below x; at its place x stands already, or the rest moves up by one.
-use Rattle.std.specs.Prelude.{if◌then◌else◌}
+use Rattle.std.specs.Prelude.{if◌then◌else◌, Option, Some, None}
 use Prim.Native.Nat.{ℕ, suc, ◌+◌, ◌-◌, ◌≤◌, ◌<◌}
 use mathlib.Core.Path.{◌≡◌, refl, sym, ap, ap₂, ◌∙◌, subst}
 use mathlib.Core.Bool.{Bool}
@@ -14,10 +14,9 @@ use lib.ListN.{length, get_or, take, drop, set, length-append, length-drop, leng
 use lib.Seq.{sets, sets-eq, length-sets, drop-cons, take-suc, take_at, get_or-take, get_or-drop, length-take-le, take-take, take_all, append_snoc}
 use lib.Seq.{get_or-set_same, get_or-set_other, set-set, set-get_or, take-set-le}
 use Rattle.rules.specs.Lists.{with_member}
-use Rattle.rules.specs.declared.ElementOrNone.{ElementOrNone}
-use Rattle.rules.specs.declared.ElementOrNone.TheVariants.{None, Some}
 use Rattle.space.proofs.RowWords.{sets_more}
 use Rattle.gathered.specs.Sets.{size_in, numbers_in, SizedSet, Included, Passed, Place, shifted, put_at}
+use Rattle.rules.specs.declared.ElementId.{ElementId}
 
 -- ---- in a list
 
@@ -219,8 +218,8 @@ include_none s = record {
   sized = λ m z. record { most = (let q = z.most in omega (arith, q)); long = z.long };
 }
 
-pub included_as : {s : List ℕ} {p : ElementOrNone} {r q : List ℕ} → r ≡ q → Included s p q → Included s p r
+pub included_as : {s : List ℕ} {p : Option ElementId} {r q : List ℕ} → r ≡ q → Included s p q → Included s p r
 included_as {s} {p} e I = subst (Included s p) (sym e) I
 
-pub included_is : {s : List ℕ} {p : ElementOrNone} {r : List ℕ} (q : ElementOrNone) → p ≡ q → Included s q r → Included s p r
-included_is {s} {r = r} q e I = subst (λ (x : ElementOrNone). Included s x r) (sym e) I
+pub included_is : {s : List ℕ} {p : Option ElementId} {r : List ℕ} (q : Option ElementId) → p ≡ q → Included s q r → Included s p r
+included_is {s} {r = r} q e I = subst (λ (x : Option ElementId). Included s x r) (sym e) I

@@ -1,9 +1,8 @@
 -- The gathered intersections, added as an element of the rank below: the call of rule 8 is the step of the rules.
-use Rattle.std.specs.Prelude.{if◌then◌else◌}
+use Rattle.std.specs.Prelude.{if◌then◌else◌, Option, Some, None}
 use Prim.Native.Nat.{ℕ, ◌-◌, ◌≤◌, ◌<◌}
 use mathlib.Core.Path.{◌≡◌, refl, sym, ap, ◌∙◌, subst}
 use mathlib.Core.Bool.{Bool, true, false}
-use mathlib.Core.Option.{Option, none, some}
 use mathlib.Core.List.{List}
 use native.Mathlib.Nat.{le_trans}
 use native.Mathlib.Omega.{arith}
@@ -33,8 +32,8 @@ use Rattle.rules.specs.declared.Cutter.{Cutter}
 use Rattle.gathered.proofs.Fitting.{low_of, edges_of, ends_low}
 
 -- FFFF is no number in use
-named : (n : ℕ) → n < 65535 → (b : Bool) → plane_named (if b then n else no_plane) ≡ (if b then some n else none)
-named n l true = ap (λ (c : Bool). if c then none else some n) (ne_eqb n 65535 (λ e. (let z : ⊥ = omega (arith, e, l) in z)))
+named : (n : ℕ) → n < 65535 → (b : Bool) → plane_named (if b then n else no_plane) ≡ (if b then Some n else None)
+named n l true = ap (λ (c : Bool). if c then None else Some n) (ne_eqb n 65535 (λ e. (let z : ⊥ = omega (arith, e, l) in z)))
 named n l false = refl
 
 module _ {cs es : List ℕ} {r : ℕ} {k : Cutter} {set : List ℕ} where

@@ -17,8 +17,6 @@ use Rattle.rules.specs.Sound.{names_none}
 use Rattle.rules.specs.Memory.{plane_number, plane_named}
 use Rattle.rules.specs.Held.{Holds, Came, went, SetOf, Ranked, AllOf, fitting}
 use Rattle.rules.specs.Cut.{Outcome, done, given, add_polytope, including, side_of_cut}
-use Rattle.rules.specs.declared.ElementOrNone.{ElementOrNone}
-use Rattle.rules.specs.declared.ElementOrNone.TheVariants.{None}
 use Rattle.rules.proofs.Good.{sound_good}
 use Rattle.rules.proofs.Growing.{all_get}
 use Rattle.rules.proofs.Laws.{le_test, and_left, and_right, mark_back}
@@ -37,6 +35,8 @@ use Rattle.space.proofs.Slices.{slices}
 use Rattle.gathered.specs.Sets.{size_in, numbers_in, IncludeReady, Included}
 use Rattle.gathered.specs.Cutting.{RowReadable, OwnBoundary, SideFit, SideReady, SideMade}
 use Rattle.gathered.proofs.Fitting.{some_fits, low_of, edges_of, ends_low, rank_low}
+use Rattle.rules.specs.declared.ElementId.{ElementId}
+use Rattle.std.specs.Prelude.{Option, None}
 
 -- a row that fits names its hyperplane, or none
 plane_named_lem : (z : Element) → fitting desk z ≡ true → plane_named (plane_number (plane_of z)) ≡ plane_of z
@@ -52,7 +52,7 @@ list_size_lem : (z : Element) → length (list_of z) ≡ size_of z
 list_size_lem (corner v) = refl
 list_size_lem (polytope a b h c) = refl
 
-module _ {cs es : List ℕ} {r e : ℕ} {set : List ℕ} {x : ElementOrNone} where
+module _ {cs es : List ℕ} {r e : ℕ} {set : List ℕ} {x : Option ElementId} where
   -- what the calls ask for
   pub reads_ask : {ix : List ℕ} → SideReady cs es ix r e set x → ElementReady es e
   reads_ask R = record { elements = (slices R.fit.holds).elements; room = le_trans R.fit.used R.fit.holds.fits.element_room }
@@ -168,7 +168,7 @@ module _ {cs es : List ℕ} {r e : ℕ} {set : List ℕ} {x : ElementOrNone} whe
       → PolytopeAdded cs es r (take n all) plane mark y cs' es' → Indexed es' (get_or cs' 1 0) ix' → SideMade cs es r e keep set x y cs' es' ix' all
   side_kept {ix} {keep} {y} {cs'} {es'} R plane mark all n size q p m I A indexed = record {
     of = λ ps hs t F.
-        subst (λ (o : Outcome ElementOrNone). Came added.Made added.Refused (Holds desk cs' ps hs es') t o y)
+        subst (λ (o : Outcome (Option ElementId)). Came added.Made added.Refused (Holds desk cs' ps hs es') t o y)
         ((λ i. add_polytope desk (sym F.ranked i) (I.of i) (own_plane F plane p i) (own_mark F mark m i) t) ∙ sym (ap (λ (b : Bool). side_of_cut desk b (element t e) x (numbers_in set) t) q))
         ((subst (λ (j : ℕ). PolytopeAdded cs es r (take j all) plane mark y cs' es') size A).of ps hs t F.holds (λ l. F.some) (side_edges F (numbers_in all) I.of));
     indexed = indexed;

@@ -6,7 +6,6 @@ use native.Mathlib.Omega.{arith}
 use Rattle.rules.specs.Table.{Table}
 use Rattle.rules.specs.Cut.{Outcome, done, next, give, Step}
 use Rattle.rules.specs.Held.{Extends, Came, went, stopped}
-use Rattle.rules.specs.declared.ElementOrNone.{ElementOrNone}
 use Rattle.rules.specs.declared.ElementAnswer.{ElementAnswer}
 use Rattle.gathered.specs.declared.answer.ElementReply.{ElementReply}
 use Rattle.gathered.specs.declared.answer.ElementReply.TheVariants as reply
@@ -15,29 +14,31 @@ use Rattle.gathered.specs.Cutting as told
 use Rattle.rules.proofs.Extends.{extends_trans}
 use Rattle.space.specs.declared.memo.Added.{Added}
 use Rattle.space.specs.declared.memo.Added.TheVariants as added
+use Rattle.rules.specs.declared.ElementId.{ElementId}
+use Rattle.std.specs.Prelude.{Option}
 
 -- a step that was not refused
-pub record Made (H : Table → Type 0) (o : Outcome ElementOrNone) (p : ElementOrNone) : Type 0 where
+pub record Made (H : Table → Type 0) (o : Outcome (Option ElementId)) (p : Option ElementId) : Type 0 where
   pub table : Table
   pub made : o ≡ done p table
   pub holds : H table
 
-module _ {H : Table → Type 0} {t : Table} {o : Outcome ElementOrNone} {y : Added} where
-  pub made_is : (p : ElementOrNone) → y ≡ added.Made p → Came added.Made added.Refused H t o y → Made H o p
+module _ {H : Table → Type 0} {t : Table} {o : Outcome (Option ElementId)} {y : Added} where
+  pub made_is : (p : Option ElementId) → y ≡ added.Made p → Came added.Made added.Refused H t o y → Made H o p
   made_is p q (stopped j u e w x h) = let z : ◌≡◌ {A = ℕ} 0 1 = cc in absurd (omega arith)
-  made_is p q (went a u e w h) = let z : a ≡ p = cc in record { table = u; made = e ∙ ap (λ (v : ElementOrNone). done v u) z; holds = h }
+  made_is p q (went a u e w h) = let z : a ≡ p = cc in record { table = u; made = e ∙ ap (λ (v : Option ElementId). done v u) z; holds = h }
 
-  pub came_refused : (n : ℕ) (f : ElementOrNone → Step ElementAnswer) → y ≡ added.Refused n → Came added.Made added.Refused H t o y
+  pub came_refused : (n : ℕ) (f : Option ElementId → Step ElementAnswer) → y ≡ added.Refused n → Came added.Made added.Refused H t o y
       → Came answered_by reply.Refused H t (next o f) (reply.Refused n)
   came_refused n f q (went a u e w h) = let z : ◌≡◌ {A = ℕ} 0 1 = cc in absurd (omega arith)
   came_refused n f q (stopped j u e w x h) =
-      let z : n ≡ j = cc in stopped j u (ap (λ (v : Outcome ElementOrNone). next v f) e) (ap reply.Refused z) x h
+      let z : n ≡ j = cc in stopped j u (ap (λ (v : Outcome (Option ElementId)). next v f) e) (ap reply.Refused z) x h
 
-  pub came_answered : (p : ElementOrNone) (f : ElementOrNone → ElementAnswer) → y ≡ added.Made p → Came added.Made added.Refused H t o y
+  pub came_answered : (p : Option ElementId) (f : Option ElementId → ElementAnswer) → y ≡ added.Made p → Came added.Made added.Refused H t o y
       → Came answered_by reply.Refused H t (next o (λ x. give (f x))) (answered_by (f p))
   came_answered p f q c =
       let m = made_is p q c in
-      went (f p) m.table (ap (λ (v : Outcome ElementOrNone). next v (λ x. give (f x))) m.made) refl m.holds
+      went (f p) m.table (ap (λ (v : Outcome (Option ElementId)). next v (λ x. give (f x))) m.made) refl m.holds
 
 -- a later step, seen from an earlier table
 came_later : {H : Table → Type 0} {t u : Table} {o : Outcome ElementAnswer} {y : ElementReply} → Extends t u → Came answered_by reply.Refused H u o y
@@ -45,10 +46,10 @@ came_later : {H : Table → Type 0} {t u : Table} {o : Outcome ElementAnswer} {y
 came_later x (went a v e w h) = went a v e w h
 came_later x (stopped j v e w z h) = stopped j v e w (extends_trans x z) h
 
-pub came_next : {H : Table → Type 0} {t u : Table} {o : Outcome ElementOrNone} {y : ElementReply} (p : ElementOrNone) (f : ElementOrNone → Step ElementAnswer) → o ≡ done p u → Extends t u
+pub came_next : {H : Table → Type 0} {t u : Table} {o : Outcome (Option ElementId)} {y : ElementReply} (p : Option ElementId) (f : Option ElementId → Step ElementAnswer) → o ≡ done p u → Extends t u
     → Came answered_by reply.Refused H u (f p u) y → Came answered_by reply.Refused H t (next o f) y
 came_next {H} {t} {u} {o} {y} p f e x c =
-    subst (λ (v : Outcome ElementOrNone). Came answered_by reply.Refused H t (next v f) y) (sym e) (came_later x c)
+    subst (λ (v : Outcome (Option ElementId)). Came answered_by reply.Refused H t (next v f) y) (sym e) (came_later x c)
 
 -- ---- the reply with its warning
 

@@ -1,5 +1,5 @@
 -- When an element whose boundary has answered may go on, and what rules 6 to 8 then give: the steps of the rules. Definitions only.
-use Rattle.std.specs.Prelude.{ℕ, ◌+◌, ◌-◌, ◌*◌, ◌≤◌, ◌<◌, ◌≡◌, Bool, true, ◌||◌, List, length, get_or, Float}
+use Rattle.std.specs.Prelude.{ℕ, ◌+◌, ◌-◌, ◌*◌, ◌≤◌, ◌<◌, ◌≡◌, Bool, true, ◌||◌, List, length, get_or, Float, Option}
 use Rattle.rules.specs.Limits.{desk}
 use Rattle.rules.specs.Table.{Table, element_count, rank, element}
 use Rattle.rules.specs.Sound.{sound}
@@ -7,7 +7,6 @@ use Rattle.rules.specs.Cut.{Outcome, refused, done, Cutting, Gathered, new_inter
 use Rattle.rules.specs.Replies.{params_of}
 use Rattle.rules.specs.Held.{Extends, Holds, Came, Sets, SetOf, SomeOf}
 use Rattle.rules.specs.declared.ElementAnswer.{ElementAnswer}
-use Rattle.rules.specs.declared.ElementOrNone.{ElementOrNone}
 use Rattle.space.specs.Chains.{Indexed}
 use Rattle.space.specs.declared.memo.Added.{Added}
 use Rattle.space.specs.declared.memo.Added.TheVariants as added
@@ -15,6 +14,7 @@ use Rattle.gathered.specs.declared.answer.ElementReply.{ElementReply}
 use Rattle.gathered.specs.declared.answer.ElementReply.TheVariants as reply
 use Rattle.gathered.specs.Sets.{inside_in, outside_in, numbers_in, SizedSet, Shaped, Sized, Gathers, Used}
 use Rattle.rules.specs.declared.Cutter.{Cutter}
+use Rattle.rules.specs.declared.ElementId.{ElementId}
 
 -- ---- the cut of one element
 
@@ -64,7 +64,7 @@ pub record IntersectionMade (cs es : List ℕ) (r : ℕ) (k : Cutter) (set : Lis
 -- ---- a side
 
 -- in a sound table that the memory holds, element e is in use and of rank r, and the set and the intersection are in use and of the rank below
-pub record SideFit (cs : List ℕ) (ps hs : List Float) (es : List ℕ) (r e : ℕ) (set : List ℕ) (x : ElementOrNone) (t : Table) : Type 0 where
+pub record SideFit (cs : List ℕ) (ps hs : List Float) (es : List ℕ) (r e : ℕ) (set : List ℕ) (x : Option ElementId) (t : Table) : Type 0 where
   pub holds : Holds desk cs ps hs es t
   pub sound : sound desk t ≡ true
   pub used : e < element_count t
@@ -75,7 +75,7 @@ pub record SideFit (cs : List ℕ) (ps hs : List Float) (es : List ℕ) (r e : �
   pub intersection : SomeOf r x t
 
 -- there is such a table, and the index leads to its rows
-pub record SideReady (cs es ix : List ℕ) (r e : ℕ) (set : List ℕ) (x : ElementOrNone) : Type 0 where
+pub record SideReady (cs es ix : List ℕ) (r e : ℕ) (set : List ℕ) (x : Option ElementId) : Type 0 where
   pub points : List Float
   pub planes : List Float
   pub table : Table
@@ -99,7 +99,7 @@ pub record OwnTold (es : List ℕ) (e : ℕ) (list : List ℕ) (n : ℕ) (r : Bo
   pub wherever : OwnBoundary es e list n → r ≡ true
 
 -- whatever such table the memory holds: the side's step; the index leads to the rows of after, and the set has its words
-pub record SideMade (cs es : List ℕ) (r e : ℕ) (keep : Bool) (set : List ℕ) (x : ElementOrNone) (y : Added) (cs' es' ix' set' : List ℕ) : Type 0 where
+pub record SideMade (cs es : List ℕ) (r e : ℕ) (keep : Bool) (set : List ℕ) (x : Option ElementId) (y : Added) (cs' es' ix' set' : List ℕ) : Type 0 where
   pub of : (ps hs : List Float) (t : Table) → SideFit cs ps hs es r e set x t
       → Came added.Made added.Refused (Holds desk cs' ps hs es') t (side_of_cut desk keep (element t e) x (numbers_in set) t) y
   pub indexed : Indexed es' (get_or cs' 1 0) ix'
@@ -151,7 +151,7 @@ pub record SideSet (r : ℕ) (t : Table) (set xs : List ℕ) : Type 0 where
   pub sets : SetOf t r xs
 
 -- the boundary of element e has answered, the room holds the sides' sets, and the intersection is in use and of the rank below
-pub record Rule7Fit (cs : List ℕ) (ps hs : List Float) (es : List ℕ) (r e : ℕ) (k : Cutter) (s : List (List ℕ)) (x : ElementOrNone) (t : Table) (g : Gathered) : Type 0 where
+pub record Rule7Fit (cs : List ℕ) (ps hs : List Float) (es : List ℕ) (r e : ℕ) (k : Cutter) (s : List (List ℕ)) (x : Option ElementId) (t : Table) (g : Gathered) : Type 0 where
   pub fit : Fit cs ps hs es r e k t
   pub some : 1 ≤ r
   pub shaped : Shaped s
@@ -160,7 +160,7 @@ pub record Rule7Fit (cs : List ℕ) (ps hs : List Float) (es : List ℕ) (r e : 
   pub intersection : SomeOf r x t
 
 -- there is such a table, and the index leads to its rows
-pub record Rule7Ready (cs es ix : List ℕ) (r e : ℕ) (k : Cutter) (s : List (List ℕ)) (x : ElementOrNone) : Type 0 where
+pub record Rule7Ready (cs es ix : List ℕ) (r e : ℕ) (k : Cutter) (s : List (List ℕ)) (x : Option ElementId) : Type 0 where
   pub points : List Float
   pub planes : List Float
   pub table : Table
@@ -169,7 +169,7 @@ pub record Rule7Ready (cs es ix : List ℕ) (r e : ℕ) (k : Cutter) (s : List (
   pub indexed : Indexed es (get_or cs 1 0) ix
 
 -- whatever such table the memory holds, and whatever is gathered: rule 7; the index leads to the rows of after, and the room is as it was but for its sets
-pub record Rule7Done (cs es : List ℕ) (r e : ℕ) (k : Cutter) (s : List (List ℕ)) (x : ElementOrNone) (y : ElementReply) (cs' es' ix' : List ℕ) (s' : List (List ℕ)) : Type 0 where
+pub record Rule7Done (cs es : List ℕ) (r e : ℕ) (k : Cutter) (s : List (List ℕ)) (x : Option ElementId) (y : ElementReply) (cs' es' ix' : List ℕ) (s' : List (List ℕ)) : Type 0 where
   pub of : (ps hs : List Float) (t : Table) (g : Gathered) → Rule7Fit cs ps hs es r e k s x t g
       → Came answered_by reply.Refused (Holds desk cs' ps hs es') t (rule7 desk (cut_of t.dimension k) (element t e) g x t) y
   pub indexed : Indexed es' (get_or cs' 1 0) ix'

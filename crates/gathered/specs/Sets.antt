@@ -1,13 +1,12 @@
 -- What code holds of a set, and of what rules 4 and 5 gather: one lent room, which all elements of a cut use in turn. Definitions only.
-use Rattle.std.specs.Prelude.{ℕ, ◌+◌, ◌-◌, ◌≤◌, ◌<◌, Bool, ◌||◌, ◌≡◌, ltb, List, [], ◌++◌, length, get_or, take, drop, set}
+use Rattle.std.specs.Prelude.{ℕ, ◌+◌, ◌-◌, ◌≤◌, ◌<◌, Bool, ◌||◌, ◌≡◌, ltb, List, [], ◌++◌, length, get_or, take, drop, set, Option, Some, None}
 use Rattle.std.proofs.lemmas.List.Edits.{sets}
 use Rattle.rules.specs.Limits.{desk}
 use Rattle.rules.specs.Lists.{with_member}
 use Rattle.rules.specs.Cut.{Gathered, nothing_yet, including, gathering_output}
-use Rattle.rules.specs.declared.ElementOrNone.{ElementOrNone}
-use Rattle.rules.specs.declared.ElementOrNone.TheVariants.{None, Some}
 use Rattle.rules.specs.declared.ElementCutOutput.{ElementCutOutput}
 use Rattle.rules.specs.declared.ElementCutOutput.TheVariants.{Flush, NonFlush}
+use Rattle.rules.specs.declared.ElementId.{ElementId}
 
 -- ---- what is held
 
@@ -113,24 +112,24 @@ abbrev pub put_at : List ℕ → ℕ → ℕ → List ℕ
 put_at s x at = set (shifted s x at (size_in s - at)) 33 (size_in s + 1)
 
 -- an element's number is within the room
-abbrev pub InRoom : ElementOrNone → Type 0
+abbrev pub InRoom : Option ElementId → Type 0
 InRoom None = Unit {0}
 InRoom (Some e) = e.0 < 512
 
 -- a set with room for one more, and the element that goes to it
-pub record IncludeReady (s : List ℕ) (p : ElementOrNone) : Type 0 where
+pub record IncludeReady (s : List ℕ) (p : Option ElementId) : Type 0 where
   pub sized : SizedSet s 32
   pub room : InRoom p
 
 -- the set with the element in it, if there is one
-pub record Included (s : List ℕ) (p : ElementOrNone) (r : List ℕ) : Type 0 where
+pub record Included (s : List ℕ) (p : Option ElementId) (r : List ℕ) : Type 0 where
   pub of : numbers_in r ≡ including p (numbers_in s)
   pub sized : (m : ℕ) → SizedSet s m → SizedSet r (m + 1)
 
 -- ---- an answer gathered
 
 -- the three of an answer that is not flush
-pub record SidesInRoom (i o x : ElementOrNone) : Type 0 where
+pub record SidesInRoom (i o x : Option ElementId) : Type 0 where
   pub inside : InRoom i
   pub outside : InRoom o
   pub intersection : InRoom x

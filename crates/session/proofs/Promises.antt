@@ -1,8 +1,7 @@
 -- The promises of a record's turn, by cases on its tests: too little room, a cube, a cut, a bad record.
-use Rattle.std.specs.Prelude.{if◌then◌else◌}
+use Rattle.std.specs.Prelude.{if◌then◌else◌, Option, Some, None}
 use Prim.Native.Nat.{ℕ, zero, suc, ◌+◌, ◌≤◌, ◌<◌}
 use mathlib.Core.Bool.{Bool, true, false, ◌&&◌, false≢true}
-use mathlib.Core.Option.{Option, none, some}
 use mathlib.Core.List.{List, [], ◌∷◌}
 use mathlib.Core.Path.{◌≡◌, refl, sym, ap, subst, ◌∙◌}
 use native.Mathlib.Nat.{suc-ne-zero, le_trans, le_of_suc-le-suc}
@@ -23,7 +22,7 @@ use Rattle.session.specs.Promises.{TurnNumbered, TurnTaken, Promises}
 use Rattle.session.proofs.Lines.{cube_short, cube_refused_short, cut_short}
 use Rattle.session.proofs.Turns.{cube_long, cut_long}
 
-not_twelve : ◌≡◌ {A = Option ℕ} (some 0) (some 12) → ⊥
+not_twelve : ◌≡◌ {A = Option ℕ} (Some 0) (Some 12) → ⊥
 not_twelve e = let z : ◌≡◌ {A = ℕ} 0 12 = cc in suc-ne-zero 11 (sym z)
 
 -- what stands behind a line stays
@@ -34,11 +33,11 @@ drop_sets (a ∷ vs) l i n h = drop_sets vs (set l i a) (suc i) n (omega (arith,
 module _ (stands : Bool) (m : Memory) (bs room : List ℕ) where
   -- all that is promised of one reply, in a room for which there is a line or not
   record Kept (short : Bool) (x : TurnReply × Memory × List ℕ) : Type 0 where
-    numbered : (short ≡ true → turn_number x.0 ≡ some 12) × (turn_number x.0 ≡ some 12 → (short ≡ true) × (turn_values x.0 ≡ none))
-    taken_has : turn_number x.0 ≡ some 0 → (v : ℕ × ℕ × Bool) × (turn_values x.0 ≡ some v)
-    bad_has : turn_number x.0 ≡ none → turn_values x.0 ≡ none
-    untaken : turn_values x.0 ≡ none → (x.1 ≡ m) × (x.2 ≡ room)
-    goes_on : (k n : ℕ) (later : Bool) → turn_values x.0 ≡ some (k, n, later) → TurnTaken stands bs room x.2 k n later
+    numbered : (short ≡ true → turn_number x.0 ≡ Some 12) × (turn_number x.0 ≡ Some 12 → (short ≡ true) × (turn_values x.0 ≡ None))
+    taken_has : turn_number x.0 ≡ Some 0 → (v : ℕ × ℕ × Bool) × (turn_values x.0 ≡ Some v)
+    bad_has : turn_number x.0 ≡ None → turn_values x.0 ≡ None
+    untaken : turn_values x.0 ≡ None → (x.1 ≡ m) × (x.2 ≡ room)
+    goes_on : (k n : ℕ) (later : Bool) → turn_values x.0 ≡ Some (k, n, later) → TurnTaken stands bs room x.2 k n later
 
   -- a turn that is taken, in a room for a line
   of_taken : line_room ≤ length room → (k : ℕ) (line : Line) (later : Bool) (after : Memory) → 0 < k → k ≤ length bs → length (text line) ≤ line_room → (stands ≡ true → later ≡ true)
@@ -59,8 +58,8 @@ module _ (stands : Bool) (m : Memory) (bs room : List ℕ) where
   }
     where
       value_or : ℕ × ℕ × Bool → Option (ℕ × ℕ × Bool) → ℕ × ℕ × Bool
-      value_or v none = v
-      value_or v (some w) = w
+      value_or v None = v
+      value_or v (Some w) = w
 
   module _ (wide : line_room ≤ length room) where
     of_cube : is_cube bs ≡ true → Kept false (reply_of m room (cube_turn stands (cube_asked desk m bs)))

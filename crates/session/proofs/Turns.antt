@@ -1,5 +1,5 @@
 -- A record's reply, case by case: a cube made or refused, a cut, a bad record. No cut looks at the divider of a table of more than four dimensions, for none is sound.
-use Rattle.std.specs.Prelude.{if◌then◌else◌}
+use Rattle.std.specs.Prelude.{if◌then◌else◌, Err}
 use Prim.Native.Nat.{ℕ, zero, suc, ◌+◌, ◌*◌, ◌/◌, ◌%◌, ◌≤◌, ◌<◌}
 use mathlib.Core.Bool.{Bool, true, false, not, ◌&&◌}
 use mathlib.Core.List.{List}
@@ -18,8 +18,6 @@ use Rattle.rules.specs.Session.{text, cube_line, refused_line, bad_line, cut_tex
 use Rattle.rules.specs.declared.Hyperplane.{Hyperplane}
 use Rattle.rules.specs.declared.PolytopeFate.{PolytopeFate}
 use Rattle.rules.specs.declared.CutParams.{CutParams}
-use Rattle.rules.specs.declared.CutReply.{CutReply}
-use Rattle.rules.specs.declared.CutReply.TheVariants.{Refused, Answered}
 use Rattle.rules.proofs.Laws.{and_left, and_right, le_test, test_le, not_le, test_above, if_true, if_false, refute}
 use Rattle.rules.proofs.Good.{sound_good}
 use Rattle.rules.proofs.OneCall.{sound_table}
@@ -28,6 +26,9 @@ use Rattle.session.proofs.Records.{Marked}
 use Rattle.lent_bytes.specs.Lent.{Put}
 use Rattle.session.specs.Written.{line_room, LineFits, reply_of, turn_reply, bad_reply}
 use Rattle.session.specs.declared.TurnReply.TheVariants.{NoRoom, Bad, Taken}
+use Rattle.rules.specs.Refusals.{Reply}
+use Rattle.rules.specs.declared.ElementAnswer.{ElementAnswer}
+use Rattle.rules.specs.declared.Refusal.TheVariants.{NotSound}
 
 -- a line begins at the front of the room
 line_length : {room after xs : List ℕ} {end : ℕ} → Put room 0 xs end after → end ≡ length xs
@@ -72,16 +73,16 @@ module _ (bs room room' : List ℕ) (stands : Bool) (m m' : Memory) (d n : ℕ) 
 pub cut_long : (bs : List ℕ) (d : ℕ) → is_cut d bs ≡ true → cut_length d ≤ length bs
 cut_long bs d h = le_test (cut_length d) (length bs) (and_right (Marked bs 0x54) (leb (cut_length d) (length bs)) (and_left (Marked bs 0x54 && leb (cut_length d) (length bs)) (leb (number_at 1 2 bs) 3) h))
 
-pub line_fits : (p : CutParams) (root : ℕ) (m m' : Memory) (r : CutReply) → (r, m') ≡ cut_reply desk p root m → LineFits r m'.counts
-line_fits p root m m' (Refused n) e = tt
-line_fits p root m m' (Answered a w) e = record { names = names_low p root m m' e a w refl; counts = four_counts p root m m' e a w refl }
+pub line_fits : (p : CutParams) (root : ℕ) (m m' : Memory) (r : Reply ElementAnswer) → (r, m') ≡ cut_reply desk p root m → LineFits r m'.counts
+line_fits p root m m' (Err n) e = tt
+line_fits p root m m' (Ok a) e = record { names = names_low p root m m' e a.output a.warning refl; counts = four_counts p root m m' e a.output a.warning refl }
 
 -- more than four dimensions are refused, whatever the divider
 unsound : (m : Memory) → 4 < get_or m.counts 0 0 → sound_memory desk m ≡ false
 unfolding decode
 unsound m h = refute (sound_memory desk m) (λ s. let z = le_test (get_or m.counts 0 0) 4 (sound_good desk (decode desk m) (sound_table desk m s)).high in omega (arith, z, h))
 
-too_many : (p : CutParams) (root : ℕ) (m : Memory) → 4 < get_or m.counts 0 0 → cut_reply desk p root m ≡ (Refused 3, m)
+too_many : (p : CutParams) (root : ℕ) (m : Memory) → 4 < get_or m.counts 0 0 → cut_reply desk p root m ≡ (Err NotSound, m)
 unfolding cut_reply
 too_many p root m l = if_true _ _ _ (ap not (unsound m l))
 
@@ -90,13 +91,13 @@ same_divider : (h g : Hyperplane) (i o : PolytopeFate) (root : ℕ) (m : Memory)
 same_divider h g i o root m true t f = ap (λ (x : Hyperplane). cut_reply desk (cut_by x i o) root m) (f (le_test (get_or m.counts 0 0) 4 t))
 same_divider h g i o root m false t f = let l = not_le (get_or m.counts 0 0) 4 t in too_many (cut_by h i o) root m l ∙ sym (too_many (cut_by g i o) root m l)
 
-module _ (bs room room' : List ℕ) (m m' : Memory) (r : CutReply) (h : Hyperplane) (i o : PolytopeFate) (d root kept line : ℕ) where
+module _ (bs room room' : List ℕ) (m m' : Memory) (r : Reply ElementAnswer) (h : Hyperplane) (i o : PolytopeFate) (d root kept line : ℕ) where
   pub cut_taken : (r, m') ≡ cut_reply desk (cut_by h i o) root m → d ≡ get_or m.counts 0 0 → (d ≤ 4 → h ≡ divider_at desk d bs) → kept ≡ number_at 1 2 bs → i ≡ fate_of (eqb (kept % 2) 1)
       → o ≡ fate_of (eqb (kept / 2) 1) → root ≡ number_at 2 3 bs → Put room 0 (text (cut_text r (drop 1 m'.counts))) line room'
       → (Taken (13 + 8 * d) line true, m', room') ≡ reply_of m room (cut_turn (get_or m.counts 0 0) (cut_asked desk m bs))
   cut_taken e ed eh ek ei eo er p =
       (λ j. (Taken (long j) (line_length p j) true, m', p.room j))
-      ∙ ap (λ (x : CutReply × Memory). reply_of m room (cut_turn (get_or m.counts 0 0) x)) (e ∙ same_divider h (divider_at desk (get_or m.counts 0 0) bs) i o root m (leb (get_or m.counts 0 0) 4) refl divider ∙ sides)
+      ∙ ap (λ (x : Reply ElementAnswer × Memory). reply_of m room (cut_turn (get_or m.counts 0 0) x)) (e ∙ same_divider h (divider_at desk (get_or m.counts 0 0) bs) i o root m (leb (get_or m.counts 0 0) 4) refl divider ∙ sides)
     where
       long : 13 + 8 * d ≡ cut_length (get_or m.counts 0 0)
       long = let q : 13 + 8 * d ≡ cut_length d = omega arith in q ∙ ap cut_length ed

@@ -28,6 +28,7 @@ use Rattle.space.proofs.Slices.{slices}
 use Rattle.soundness.specs.Asked.{at_distance, asked_of, asked, refusal}
 use Rattle.soundness.specs.declared.asked.Asking.{Asking}
 use Rattle.soundness.specs.declared.asked.Asking.TheVariants as asking
+use Rattle.rules.specs.declared.Refusal.TheVariants.{NotInUse, NotSound}
 
 -- ---- what a sound memory tells of its table
 
@@ -238,8 +239,8 @@ module _ (cs : List ℕ) (ps hs : List Float) (es roots : List ℕ) where
   -- r is what the code found; q is what is asked where nothing is refused
   module _ (r : ℕ) (e : r ≡ refusal m roots) where
     question_by : {A : Type 0} (q : Asked A) (a b : Bool) → sound_memory desk m ≡ a → in_use cs ps hs es roots ≡ b
-        → (if not a then no_answer 3 else if not b then no_answer 4 else q) ≡ replies.asked desk m roots q
-    question_by q a b p u i = if not (sym p i) then no_answer 3 else if not (sym u i) then no_answer 4 else q
+        → (if not a then no_answer NotSound else if not b then no_answer NotInUse else q) ≡ replies.asked desk m roots q
+    question_by q a b p u i = if not (sym p i) then no_answer NotSound else if not (sym u i) then no_answer NotInUse else q
 
     pub refused : {A : Type 0} (q : Asked A) → (r ≡ 0 → ⊥) → no_answer r ≡ replies.asked desk m roots q
     refused {A} q z = go (sound_memory desk m) (in_use cs ps hs es roots) refl refl

@@ -11,6 +11,7 @@ use Rattle.rules.specs.declared.Hyperplane.{Hyperplane}
 use Rattle.space.specs.Chains.{Indexed}
 use Rattle.soundness.specs.declared.asked.Asking.{Asking}
 use Rattle.soundness.specs.declared.asked.Asking.TheVariants.{Refused, AllInside, AllOutside, Finite}
+use Rattle.rules.specs.declared.Refusal.TheVariants.{Divider, NotInUse, NotSound}
 
 -- ---- a root and a divider
 
@@ -24,13 +25,13 @@ at_distance inside outside finite (fin s m e) = finite
 -- of a table of d dimensions and n elements: 4, 5, or what the distance is
 unfoldable pub asked_of : ℕ → ℕ → Hyperplane → ℕ → Asking
 asked_of d n h root =
-    if not (ltb root n) then Refused 4
-    else if not (divider_fits desk d h) then Refused 5
+    if not (ltb root n) then Refused NotInUse
+    else if not (divider_fits desk d h) then Refused Divider
     else at_distance AllInside AllOutside Finite h.distance
 
 -- of a memory: 3 first
 unfoldable pub asked : Memory → Hyperplane → ℕ → Asking
-asked m h root = let t = decode desk m in if not (sound_memory desk m) then Refused 3 else asked_of t.dimension (element_count t) h root
+asked m h root = let t = decode desk m in if not (sound_memory desk m) then Refused NotSound else asked_of t.dimension (element_count t) h root
 
 -- the answer, and the index of a sound memory
 pub record DividerAsked (cs : List ℕ) (ps hs : List Float) (es : List ℕ) (h : Hyperplane) (root : ℕ) (reply : Asking) (index' : List ℕ) : Type 0 where

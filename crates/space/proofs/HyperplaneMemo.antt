@@ -1,9 +1,8 @@
 -- Sharing a hyperplane is the step of the rules; and its search, over the hyperplanes that are read back, is theirs.
-use Rattle.std.specs.Prelude.{if◌then◌else◌}
+use Rattle.std.specs.Prelude.{if◌then◌else◌, Option, Some, None}
 use Prim.Native.Nat.{ℕ, ◌<◌, zero, suc, ◌≤◌, ◌*◌, ◌+◌}
 use mathlib.Core.Bool.{Bool, true, false}
 use mathlib.Core.List.{List, ◌∷◌, []}
-use mathlib.Core.Option.{Option}
 use mathlib.Core.Path.{◌≡◌, refl, ◌∙◌, ap, subst, sym, ap₂}
 use native.Mathlib.Nat.{le_trans, le_of_eq}
 use native.Mathlib.Omega.{arith}
@@ -22,8 +21,6 @@ use Rattle.rules.specs.Sound.{sound_plane}
 use Rattle.rules.specs.Table.{primordials, Table, Plane}
 use Rattle.rules.specs.declared.Hyperplane.{Hyperplane}
 use Rattle.rules.specs.declared.HyperplaneId.{HyperplaneId}
-use Rattle.hypermath.specs.declared.FoundHyperplane.{FoundHyperplane}
-use Rattle.hypermath.specs.declared.FoundHyperplane.TheVariants.{None as NoHyperplane, At as AtHyperplane}
 use Rattle.hypermath.specs.Answers.{hyperplane_number, hyperplane_of, planes_in}
 use Rattle.rules.proofs.Extends.{extends_refl}
 use Rattle.rules.proofs.Good.{Good, sound_good}
@@ -38,6 +35,7 @@ use Rattle.space.proofs.Slices.{slices}
 use Rattle.space.proofs.VertexMemo.{four_is, dimension_is}
 use borrow.Author.Tests.{le-ltb, lt-ltb}
 use Rattle.space.specs.declared.memo.PlacedHyperplane.TheVariants as hyperplane
+use Rattle.rules.specs.declared.Refusal.TheVariants.{HyperplanesFull}
 
 pub primordials_none : (d : ℕ) → d < 2 → 0 ≡ primordials d
 primordials_none zero h = refl
@@ -70,26 +68,26 @@ number : {cs : List ℕ} {ps hs : List Float} {es : List ℕ} {t : Table} (n : �
 number n k H = k ∙ (slices H).plane_count
 
 -- the outcome where none was found, by the test for room
-by_room : (cs : List ℕ) (hs row : List Float) (m : FoundHyperplane) → m ≡ NoHyperplane → (b : Bool) → ltb (get_or cs 3 0) 64 ≡ b → plane_outcome cs hs row (hyperplane_number m) ≡ hyperplane_by cs hs row b
+by_room : (cs : List ℕ) (hs row : List Float) (m : Option HyperplaneId) → m ≡ None → (b : Bool) → ltb (get_or cs 3 0) 64 ≡ b → plane_outcome cs hs row (hyperplane_number m) ≡ hyperplane_by cs hs row b
 unfolding plane_outcome
-by_room cs hs row m e b t = ap (λ (x : FoundHyperplane). plane_outcome cs hs row (hyperplane_number x)) e ∙ ap (hyperplane_by cs hs row) t
+by_room cs hs row m e b t = ap (λ (x : Option HyperplaneId). plane_outcome cs hs row (hyperplane_number x)) e ∙ ap (hyperplane_by cs hs row) t
 
-module _ {cs : List ℕ} {hs : List Float} {row : List Float} {m : FoundHyperplane} where
-  pub shared_old : (k : HyperplaneId) → m ≡ AtHyperplane k → HyperplaneShared cs hs row m (hyperplane.At k) cs hs
+module _ {cs : List ℕ} {hs : List Float} {row : List Float} {m : Option HyperplaneId} where
+  pub shared_old : (k : HyperplaneId) → m ≡ Some k → HyperplaneShared cs hs row m (hyperplane.At k) cs hs
   unfolding plane_outcome
   shared_old k e = record {
-    words = sym (ap (λ (x : FoundHyperplane). plane_outcome cs hs row (hyperplane_number x)) e);
-    of = λ ps es t g H w l. went k.0 t (ap (λ (x : FoundHyperplane). share_plane desk g (hyperplane_number x) t) e) refl H;
+    words = sym (ap (λ (x : Option HyperplaneId). plane_outcome cs hs row (hyperplane_number x)) e);
+    of = λ ps es t g H w l. went k.0 t (ap (λ (x : Option HyperplaneId). share_plane desk g (hyperplane_number x) t) e) refl H;
   }
 
-  module _ (n : ℕ) (k : n ≡ get_or cs 3 0) (e : m ≡ NoHyperplane) where
+  module _ (n : ℕ) (k : n ≡ get_or cs 3 0) (e : m ≡ None) where
     pub shared_full : 64 ≤ n → HyperplaneShared cs hs row m (hyperplane.Refused 10) cs hs
     shared_full h = record {
       words = sym (by_room cs hs row m e false (le-ltb (get_or cs 3 0) 64 (subst (λ (i : ℕ). 64 ≤ i) k h)));
       of = λ ps es t g H w l.
           stopped 10 t
-          (ap (λ (x : FoundHyperplane). share_plane desk g (hyperplane_number x) t) e
-          ∙ ap (λ (b : Bool). if b then done (length t.planes) (with_plane g t) else refused 10) (le-ltb (length t.planes) 64 (subst (λ (i : ℕ). 64 ≤ i) (number n k H) h)))
+          (ap (λ (x : Option HyperplaneId). share_plane desk g (hyperplane_number x) t) e
+          ∙ ap (λ (b : Bool). if b then done (length t.planes) (with_plane g t) else refused HyperplanesFull) (le-ltb (length t.planes) 64 (subst (λ (i : ℕ). 64 ≤ i) (number n k H) h)))
           refl (extends_refl t) H;
     }
 
@@ -109,8 +107,8 @@ module _ {cs : List ℕ} {hs : List Float} {row : List Float} {m : FoundHyperpla
             fits = fitted t H.fits g u z;
           } in
           went n (with_plane g t)
-          (ap (λ (x : FoundHyperplane). share_plane desk g (hyperplane_number x) t) e
-          ∙ ap (λ (b : Bool). if b then done (length t.planes) (with_plane g t) else refused 10) (lt-ltb (length t.planes) 64 u)
+          (ap (λ (x : Option HyperplaneId). share_plane desk g (hyperplane_number x) t) e
+          ∙ ap (λ (b : Bool). if b then done (length t.planes) (with_plane g t) else refused HyperplanesFull) (lt-ltb (length t.planes) 64 u)
           ∙ ap (λ (j : ℕ). done j (with_plane g t)) (sym i)) refl H');
     }
       where
@@ -146,7 +144,7 @@ plane_is d l h k g w s =
     (λ i. divider_of d (record { normal = sym (four_is h.normal k) i; distance = h.distance }))
     ∙ ap (λ (row : List Float). divider_of d (hyperplane_of row)) w ∙ row_back d l g s
 
-pub hyperplane_added : {cs : List ℕ} {hs : List Float} {h : Hyperplane} {row : List Float} {m : FoundHyperplane} {r : PlacedHyperplane} {cs' : List ℕ} {hs' : List Float} (d k n : ℕ)
+pub hyperplane_added : {cs : List ℕ} {hs : List Float} {h : Hyperplane} {row : List Float} {m : Option HyperplaneId} {r : PlacedHyperplane} {cs' : List ℕ} {hs' : List Float} (d k n : ℕ)
     → d ≡ get_or cs 0 0 → k ≡ primordials d → n ≡ get_or cs 3 0 → length h.normal ≡ 4 → row ≡ row_of h
     → hyperplane_number m ≡ find_from k (λ g. plane_matches g (divider_of d h)) (drop k (planes_in d n hs)) → HyperplaneShared cs hs row m r cs' hs' → HyperplaneAdded cs hs h r cs' hs'
 unfolding add_plane hyperplane_outcome

@@ -1,9 +1,8 @@
 -- Rule 8: each way the code goes is an outcome of the step, since its tests are the step's tests.
-use Rattle.std.specs.Prelude.{if◌then◌else◌}
+use Rattle.std.specs.Prelude.{if◌then◌else◌, Option, Some, None}
 use Prim.Native.Nat.{ℕ, ◌≤◌, ◌<◌}
 use mathlib.Core.Path.{◌≡◌, refl, sym, ap, ◌∙◌, subst}
 use mathlib.Core.Bool.{Bool, true, false, not, ◌&&◌}
-use mathlib.Core.Option.{Option, none, some}
 use mathlib.Core.List.{List}
 use native.Mathlib.Nat.{le_trans, le_of_eq}
 use native.Mathlib.Omega.{arith}
@@ -18,8 +17,6 @@ use Rattle.rules.specs.Memory.{plane_number, plane_named}
 use Rattle.rules.specs.Cut.{Outcome, refused, done, next, give, given, add_element, add_polytope}
 use Rattle.rules.specs.Held.{Holds, element_words, fitting, Came, went, stopped}
 use Rattle.rules.specs.declared.ElementId.{ElementId}
-use Rattle.rules.specs.declared.ElementOrNone.{ElementOrNone}
-use Rattle.rules.specs.declared.ElementOrNone.TheVariants.{None, Some}
 use Rattle.rules.proofs.Laws.{and_true}
 use Rattle.rules.proofs.Extends.{extends_refl}
 use Rattle.space.specs.Closed.{closed_raw, Edges}
@@ -30,13 +27,14 @@ use Rattle.space.specs.declared.rows.Placed.TheVariants as placed
 use Rattle.space.specs.declared.memo.Added.TheVariants as added
 use Rattle.space.proofs.Slices.{slices}
 use Rattle.space.proofs.TwiceMet.{closed_is}
+use Rattle.rules.specs.declared.Refusal.TheVariants.{BoundaryFull, NotClosed}
 
 -- ---- the outcome, from the tests
 
 module _ (L : Limits) (r : ℕ) (b : List ℕ) (h : Option ℕ) (m : Bool) (t : Table) where
-  abbrev by : Bool → Bool → Bool → Outcome ElementOrNone
+  abbrev by : Bool → Bool → Bool → Outcome (Option ElementId)
   by few many good =
-      if few then done None t else if many then refused 11 else if not good then refused 7 else next (add_element L (polytope r b h m) t) (λ i. give (given i))
+      if few then done None t else if many then refused BoundaryFull else if not good then refused NotClosed else next (add_element L (polytope r b h m) t) (λ i. give (given i))
 
   tested : (few many good : Bool) → leb (length b) r ≡ few → ltb L.boundary (length b) ≡ many → closed t r b ≡ good → add_polytope L r b h m t ≡ by few many good
   unfolding add_polytope
@@ -47,7 +45,7 @@ module _ (L : Limits) (r : ℕ) (b : List ℕ) (h : Option ℕ) (m : Bool) (t : 
       and_true (leb 1 r && leb (length b) L.boundary) (not (eqb (plane_number h) no_plane && not (names_none h))) (and_true (leb 1 r) (leb (length b) L.boundary) (le-leb 1 r low) (le-leb (length b) L.boundary short))
       (ap (λ (x : Option ℕ). not (eqb (plane_number x) no_plane && not (names_none x))) e ∙ go (eqb n no_plane) refl)
     where
-      go : (c : Bool) → eqb n no_plane ≡ c → not (eqb (plane_number (if c then none else some n)) no_plane && not (names_none (if c then none else some n))) ≡ true
+      go : (c : Bool) → eqb n no_plane ≡ c → not (eqb (plane_number (if c then None else Some n)) no_plane && not (names_none (if c then None else Some n))) ≡ true
       go true q = refl
       go false q = ap (λ (c : Bool). not (c && true)) q
 

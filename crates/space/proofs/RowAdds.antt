@@ -1,9 +1,8 @@
 -- Appending a row is the step that adds its element.
-use Rattle.std.specs.Prelude.{if◌then◌else◌}
+use Rattle.std.specs.Prelude.{if◌then◌else◌, Option, Some, None}
 use Prim.Native.Nat.{ℕ, ◌+◌, ◌*◌, ◌≤◌, ◌<◌}
 use mathlib.Core.Path.{◌≡◌, refl, sym, ap, ap₂, ◌∙◌, subst}
 use mathlib.Core.Bool.{Bool, true, false}
-use mathlib.Core.Option.{Option, none, some}
 use mathlib.Core.List.{List}
 use native.Mathlib.Nat.{le_of_eq}
 use native.Mathlib.Omega.{arith}
@@ -26,6 +25,7 @@ use Rattle.space.specs.declared.chains.FoundElement.{FoundElement}
 use Rattle.space.specs.declared.chains.FoundElement.TheVariants.{None as NoElement, At as AtElement}
 use Rattle.space.specs.declared.rows.Placed.TheVariants as placed
 use Rattle.space.proofs.Slices.{slices}
+use Rattle.rules.specs.declared.Refusal.TheVariants.{ElementsFull}
 
 pub readable_desk : Readable desk
 readable_desk = record { planes = lit≤ tt; boundary = lit≤ tt }
@@ -55,7 +55,7 @@ module _ (cs es row : List ℕ) (n : ℕ) (found : FoundElement) (k : n ≡ get_
   row_found i g = record {
     words = sym (searched (ap element_number g) _ refl);
     of = λ ps hs t e H q p.
-        (let s : find (same_element e) t.elements ≡ some i.0 = sym (search_is ps hs t e H q p) ∙ sym f ∙ ap element_number g in
+        (let s : find (same_element e) t.elements ≡ Some i.0 = sym (search_is ps hs t e H q p) ∙ sym f ∙ ap element_number g in
         went i.0 t (ap (λ (o : Option ℕ). share_element desk e o t) s) refl H);
   }
 
@@ -64,10 +64,10 @@ module _ (cs es row : List ℕ) (n : ℕ) (found : FoundElement) (k : n ≡ get_
   row_full g l = record {
     words = sym (searched (ap element_number g) false (le-ltb (get_or cs 1 0) 512 (subst (λ (m : ℕ). 512 ≤ m) k l)));
     of = λ ps hs t e H q p.
-        (let s : find (same_element e) t.elements ≡ none = sym (search_is ps hs t e H q p) ∙ sym f ∙ ap element_number g in
+        (let s : find (same_element e) t.elements ≡ None = sym (search_is ps hs t e H q p) ∙ sym f ∙ ap element_number g in
         let m = number ps hs t e H q p in
         let l' : 512 ≤ element_count t = omega (arith, m, l) in
-        stopped 9 t (ap (λ (o : Option ℕ). share_element desk e o t) s ∙ ap (λ (b : Bool). if b then done (element_count t) (with_element e t) else refused 9) (le-ltb (element_count t) 512 l')) refl (extends_refl t) H);
+        stopped 9 t (ap (λ (o : Option ℕ). share_element desk e o t) s ∙ ap (λ (b : Bool). if b then done (element_count t) (with_element e t) else refused ElementsFull) (le-ltb (element_count t) 512 l')) refl (extends_refl t) H);
   }
 
   pub row_new_lem : (cs' es' : List ℕ) → found ≡ NoElement → n < 512 → cs' ≡ set cs 1 (n + 1) → es' ≡ sets es (n * 36) row → RowAdded cs es row (placed_at n) cs' es'
@@ -76,11 +76,11 @@ module _ (cs es row : List ℕ) (n : ℕ) (found : FoundElement) (k : n ≡ get_
     words = (λ i. record { reply = placed_at (k i); counts = (v ∙ ap (λ (m : ℕ). set cs 1 (m + 1)) k) i; elements = (w ∙ ap (λ (m : ℕ). sets es (m * 36) row) k) i })
         ∙ sym (searched (ap element_number g) true (lt-ltb (get_or cs 1 0) 512 (subst (λ (m : ℕ). m < 512) k l)));
     of = λ ps hs t e H q p.
-        (let s : find (same_element e) t.elements ≡ none = sym (search_is ps hs t e H q p) ∙ sym f ∙ ap element_number g in
+        (let s : find (same_element e) t.elements ≡ None = sym (search_is ps hs t e H q p) ∙ sym f ∙ ap element_number g in
         let m = number ps hs t e H q p in
         let l' : element_count t < 512 = omega (arith, m, l) in
         went (element_count t) (with_element e t)
-        (ap (λ (o : Option ℕ). share_element desk e o t) s ∙ ap (λ (b : Bool). if b then done (element_count t) (with_element e t) else refused 9) (lt-ltb (element_count t) 512 l'))
+        (ap (λ (o : Option ℕ). share_element desk e o t) s ∙ ap (λ (b : Bool). if b then done (element_count t) (with_element e t) else refused ElementsFull) (lt-ltb (element_count t) 512 l'))
         (ap placed_at m)
         record {
           counts = v ∙ ap₂ (λ (c : List ℕ) (i : ℕ). set c 1 (i + 1)) H.counts m ∙ sym (element_counted_lem desk t H.fits e);

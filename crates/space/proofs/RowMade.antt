@@ -1,9 +1,8 @@
 -- The row that the code writes of a polytope is the one that the rules write of it.
-use Rattle.std.specs.Prelude.{if◌then◌else◌}
+use Rattle.std.specs.Prelude.{if◌then◌else◌, Some, None}
 use Prim.Native.Nat.{ℕ, suc, ◌+◌, ◌-◌, ◌≤◌}
 use mathlib.Core.Path.{◌≡◌, refl, sym, ap, ◌∙◌}
 use mathlib.Core.Bool.{Bool, true, false, cond}
-use mathlib.Core.Option.{none, some}
 use mathlib.Core.List.{List, ◌∷◌, ◌++◌}
 use native.Mathlib.Nat.{zero-add}
 use native.Mathlib.Omega.{arith}
@@ -39,6 +38,6 @@ module _ (list : List ℕ) (n : ℕ) (long : length list ≡ 34) (fit : n ≤ 33
       plane_back : plane ≡ plane_number (plane_named plane)
       plane_back = go (eqb plane no_plane) refl
         where
-          go : (b : Bool) → eqb plane no_plane ≡ b → plane ≡ plane_number (if b then none else some plane)
+          go : (b : Bool) → eqb plane no_plane ≡ b → plane ≡ plane_number (if b then None else Some plane)
           go true q = eqb-true plane no_plane q
           go false q = refl

@@ -2,7 +2,6 @@
 use Prim.Native.Nat.{ℕ, ◌+◌, ◌≤◌, ◌<◌}
 use mathlib.Core.Bool.{Bool, true, false, ◌&&◌}
 use mathlib.Core.List.{List, ◌++◌, map, [], ◌∷◌}
-use mathlib.Core.Option.{Option}
 use mathlib.Core.Path.{◌≡◌, ◌∙◌, ap, ap₂, sym, refl}
 use native.Mathlib.Nat.{le_of_lt, le_of_eq, le_trans}
 use native.Mathlib.Numerals.{add-one}
@@ -16,6 +15,7 @@ use Rattle.rules.proofs.Indexed.{alike_go, alike_no, alike_end, sought_from, sou
 use Rattle.rules.proofs.Laws.{refute, unlike_eq}
 use Rattle.rules.proofs.Selves.{alike_eq}
 use Rattle.space.proofs.NoBits.{no_bits, no_difference}
+use Rattle.std.specs.Prelude.{Option}
 
 module _ {A : Type 0} where
   -- a run of stores is a copy

@@ -1,7 +1,6 @@
 -- Test 7 as the code makes it, and that it is the model's test over a table that the memory holds.
 use Prim.Native.Nat.{ℕ, suc, zero, ◌<◌, ◌≤◌}
 use mathlib.Core.Bool.{cond, Bool, true, false, false≢true}
-use mathlib.Core.Option.{none}
 use mathlib.Core.List.{List, ◌∷◌, [], ◌++◌}
 use mathlib.Core.Path.{◌≡◌, sym, ap, ap₂, ◌∙◌, refl, subst}
 use native.Mathlib.Nat.{zero-add, le_trans}
@@ -23,6 +22,7 @@ use Rattle.rules.proofs.RingWalked.{rule_ring, ring_rule, ring_along}
 use Rattle.space.specs.Closed.{Low, LowEnds, EndsLow, EdgeReady, FaceReady, first_end, second_end, raw_ends, as_edges, EachEdge, Edges, Untwinned, few, met_twice, ring_raw, closed_raw}
 use Rattle.space.proofs.FewEdges.{few_ring}
 use Rattle.space.proofs.Room.{list_of, list_word_lem}
+use Rattle.std.specs.Prelude.{None}
 
 -- ---- the edges of a boundary
 
@@ -81,8 +81,8 @@ module _ {es list : List ℕ} {n k x : ℕ} (T : TakenUp es list n k x) where
 pub boundary_as : (es : List ℕ) (x : ℕ) → x < 512 → boundary (as_edges es) x ≡ first_end es x ∷ second_end es x ∷ []
 unfolding as_edges
 boundary_as es x l =
-    ap boundary_of (getD_up (λ y. polytope 1 (first_end es y ∷ second_end es y ∷ []) none false) (corner 0) 0 512 x l
-    ∙ ap (λ (y : ℕ). polytope 1 (first_end es y ∷ second_end es y ∷ []) none false) (zero-add x))
+    ap boundary_of (getD_up (λ y. polytope 1 (first_end es y ∷ second_end es y ∷ []) None false) (corner 0) 0 512 x l
+    ∙ ap (λ (y : ℕ). polytope 1 (first_end es y ∷ second_end es y ∷ []) None false) (zero-add x))
 
 -- ---- the model's test
 

@@ -1,9 +1,8 @@
 -- Sharing a vertex is the step of the rules; and its search, over the points that are read back, is theirs.
-use Rattle.std.specs.Prelude.{if◌then◌else◌}
+use Rattle.std.specs.Prelude.{if◌then◌else◌, Option, Some, None}
 use Prim.Native.Nat.{ℕ, ◌+◌, suc, ◌≤◌, ◌<◌, ◌*◌, zero}
 use mathlib.Core.Bool.{Bool, true, false}
 use mathlib.Core.List.{List, [], ◌∷◌}
-use mathlib.Core.Option.{Option}
 use mathlib.Core.Path.{◌≡◌, refl, ◌∙◌, ap, subst, sym, ap₂}
 use native.Mathlib.Nat.{le_trans, le_of_eq}
 use native.Mathlib.Omega.{arith}
@@ -20,8 +19,6 @@ use Rattle.rules.specs.Memory.{element_row}
 use Rattle.rules.specs.Sound.{sound_point}
 use Rattle.rules.specs.Table.{Table, corner}
 use Rattle.rules.specs.declared.VertexId.{VertexId}
-use Rattle.hypermath.specs.declared.FoundVertex.{FoundVertex}
-use Rattle.hypermath.specs.declared.FoundVertex.TheVariants.{None as NoVertex, At as AtVertex}
 use Rattle.hypermath.specs.Answers.{vertex_number, points_in}
 use Rattle.rules.proofs.Extends.{extends_refl, extends_trans, grown_point}
 use Rattle.rules.proofs.Good.{Good, sound_good}
@@ -39,6 +36,7 @@ use Rattle.space.proofs.RowAdds.{readable_desk}
 use borrow.Author.Tests.{le-ltb, lt-ltb}
 use Rattle.space.specs.declared.rows.Placed.TheVariants as placed
 use Rattle.space.proofs.Slices.{slices}
+use Rattle.rules.specs.declared.Refusal.TheVariants.{VerticesFull}
 
 number : {cs : List ℕ} {ps hs : List Float} {es : List ℕ} {t : Table} (n : ℕ) → n ≡ get_or cs 2 0 → Holds desk cs ps hs es t → n ≡ length t.points
 number n k H = k ∙ (slices H).point_count
@@ -66,26 +64,26 @@ unfolding element_row
 corner_is v = refl
 
 -- the outcome where none was found, by the test for room
-by_room : (cs : List ℕ) (ps : List Float) (es : List ℕ) (p : List Float) (m : FoundVertex) → m ≡ NoVertex → (b : Bool) → ltb (get_or cs 2 0) 256 ≡ b → share_outcome cs ps es p (vertex_number m) ≡ vertex_by cs ps es p b
+by_room : (cs : List ℕ) (ps : List Float) (es : List ℕ) (p : List Float) (m : Option VertexId) → m ≡ None → (b : Bool) → ltb (get_or cs 2 0) 256 ≡ b → share_outcome cs ps es p (vertex_number m) ≡ vertex_by cs ps es p b
 unfolding share_outcome
-by_room cs ps es p m e b t = ap (λ (x : FoundVertex). share_outcome cs ps es p (vertex_number x)) e ∙ ap (vertex_by cs ps es p) t
+by_room cs ps es p m e b t = ap (λ (x : Option VertexId). share_outcome cs ps es p (vertex_number x)) e ∙ ap (vertex_by cs ps es p) t
 
-module _ {cs : List ℕ} {ps : List Float} {es : List ℕ} {p : List Float} {m : FoundVertex} where
-  pub shared_old : {row : List ℕ} {r : Placed} {cs' es' : List ℕ} (v : VertexId) → m ≡ AtVertex v → row ≡ element_words desk (corner v.0) → RowAdded cs es row r cs' es' → VertexShared cs ps es p m r cs' ps es'
+module _ {cs : List ℕ} {ps : List Float} {es : List ℕ} {p : List Float} {m : Option VertexId} where
+  pub shared_old : {row : List ℕ} {r : Placed} {cs' es' : List ℕ} (v : VertexId) → m ≡ Some v → row ≡ element_words desk (corner v.0) → RowAdded cs es row r cs' es' → VertexShared cs ps es p m r cs' ps es'
   unfolding share_outcome
   shared_old {r = r} {cs' = cs'} {es' = es'} v e w A = record {
-    words = ap (with_points ps) (A.words ∙ ap (row_outcome cs es) w) ∙ sym (ap (λ (x : FoundVertex). share_outcome cs ps es p (vertex_number x)) e);
-    of = λ hs t q H f l. subst (λ (x : FoundVertex). Came placed_at placed.Refused (Holds desk cs' ps hs es') t (share_vertex desk q (vertex_number x) t) r) (sym e) (A.of ps hs t (corner v.0) H w refl);
+    words = ap (with_points ps) (A.words ∙ ap (row_outcome cs es) w) ∙ sym (ap (λ (x : Option VertexId). share_outcome cs ps es p (vertex_number x)) e);
+    of = λ hs t q H f l. subst (λ (x : Option VertexId). Came placed_at placed.Refused (Holds desk cs' ps hs es') t (share_vertex desk q (vertex_number x) t) r) (sym e) (A.of ps hs t (corner v.0) H w refl);
   }
 
-  module _ (n : ℕ) (k : n ≡ get_or cs 2 0) (e : m ≡ NoVertex) where
+  module _ (n : ℕ) (k : n ≡ get_or cs 2 0) (e : m ≡ None) where
     pub shared_full : 256 ≤ n → VertexShared cs ps es p m (placed.Refused 8) cs ps es
     shared_full h = record {
       words = sym (by_room cs ps es p m e false (le-ltb (get_or cs 2 0) 256 (subst (λ (i : ℕ). 256 ≤ i) k h)));
       of = λ hs t q H f l.
           stopped 8 t
-          (ap (λ (x : FoundVertex). share_vertex desk q (vertex_number x) t) e
-          ∙ ap (λ (b : Bool). if b then add_element desk (corner (length t.points)) (with_point q t) else refused 8) (le-ltb (length t.points) 256 (subst (λ (i : ℕ). 256 ≤ i) (number n k H) h)))
+          (ap (λ (x : Option VertexId). share_vertex desk q (vertex_number x) t) e
+          ∙ ap (λ (b : Bool). if b then add_element desk (corner (length t.points)) (with_point q t) else refused VerticesFull) (le-ltb (length t.points) 256 (subst (λ (i : ℕ). 256 ≤ i) (number n k H) h)))
           refl (extends_refl t) H;
     }
 
@@ -104,8 +102,8 @@ module _ {cs : List ℕ} {ps : List Float} {es : List ℕ} {p : List Float} {m :
             elements = H.elements;
             fits = point_fitted desk t H.fits q u l;
           } in
-          go hs t q (ap (λ (x : FoundVertex). share_vertex desk q (vertex_number x) t) e
-          ∙ ap (λ (b : Bool). if b then add_element desk (corner (length t.points)) (with_point q t) else refused 8) (lt-ltb (length t.points) 256 u)
+          go hs t q (ap (λ (x : Option VertexId). share_vertex desk q (vertex_number x) t) e
+          ∙ ap (λ (b : Bool). if b then add_element desk (corner (length t.points)) (with_point q t) else refused VerticesFull) (lt-ltb (length t.points) 256 u)
           ∙ ap (λ (j : ℕ). add_element desk (corner j) (with_point q t)) (sym i))
           (A.of ps' hs (with_point q t) (corner n) H' w refl));
     }
@@ -128,14 +126,14 @@ length_rows zero w l = refl
 length_rows (suc n) w l = ap suc (length_rows n w (drop w l))
 
 -- what is found among n vertices is numbered below n
-pub found_in_room : (m : FoundVertex) (d n : ℕ) (p ps : List Float) → vertex_number m ≡ find (λ q. point_matches q (take d p)) (points_in d n ps) → n ≤ 256 → VertexInRoom m
-found_in_room NoVertex d n p ps e h = tt
-found_in_room (AtVertex v) d n p ps e h =
+pub found_in_room : (m : Option VertexId) (d n : ℕ) (p ps : List Float) → vertex_number m ≡ find (λ q. point_matches q (take d p)) (points_in d n ps) → n ≤ 256 → VertexInRoom m
+found_in_room None d n p ps e h = tt
+found_in_room (Some v) d n p ps e h =
     let b = find_bound (λ q. point_matches q (take d p)) 0 v.0 (points_in d n ps) (sym e) in
     let k = length-map (rows n 4 ps) (take d) ∙ length_rows n 4 ps in
     let q : v.0 < 256 = omega (arith, b, k, h) in q
 
-pub in_room_lem : (m : FoundVertex) (v : VertexId) → m ≡ AtVertex v → VertexInRoom m → v.0 < 256
+pub in_room_lem : (m : Option VertexId) (v : VertexId) → m ≡ Some v → VertexInRoom m → v.0 < 256
 in_room_lem m v e h = subst VertexInRoom e h
 
 points_back : (t : Table) → Good desk t → points_in t.dimension (length t.points) (points_of desk t) ≡ t.points
@@ -150,7 +148,7 @@ point_short t g q s =
     let d = t.dimension in
     le_trans (le_of_eq (eq_test (length q) d (and_left (eqb (length q) d) (all (within farthest) q) s))) (le_test d 4 g.high)
 
-pub vertex_added : {cs : List ℕ} {ps : List Float} {es : List ℕ} {p : List Float} {m : FoundVertex} {r : Placed} {cs' : List ℕ} {ps' : List Float} {es' : List ℕ} (d n : ℕ) → d ≡ get_or cs 0 0 → n ≡ get_or cs 2 0
+pub vertex_added : {cs : List ℕ} {ps : List Float} {es : List ℕ} {p : List Float} {m : Option VertexId} {r : Placed} {cs' : List ℕ} {ps' : List Float} {es' : List ℕ} (d n : ℕ) → d ≡ get_or cs 0 0 → n ≡ get_or cs 2 0
     → vertex_number m ≡ find (λ q. point_matches q (take d p)) (points_in d n ps) → VertexShared cs ps es p m r cs' ps' es' → VertexAdded cs ps es p r cs' ps' es'
 unfolding add_vertex vertex_outcome
 vertex_added {cs} {ps} {es} {p} {m} {r} {cs'} {ps'} {es'} d n hd hn f S = record {

@@ -1,6 +1,5 @@
 -- Test 7 over the words of the lent memory. Definitions only.
-use Rattle.std.specs.Prelude.{ℕ, zero, suc, ◌+◌, ◌*◌, ◌-◌, ◌<◌, ◌≤◌, ◌≡◌, Bool, true, false, cond, List, [], ◌∷◌, map, eqb, ltb, leb, length, get_or, set, take}
-use Rattle.std.proofs.Math.Option.{none}
+use Rattle.std.specs.Prelude.{ℕ, zero, suc, ◌+◌, ◌*◌, ◌-◌, ◌<◌, ◌≤◌, ◌≡◌, Bool, true, false, cond, List, [], ◌∷◌, map, eqb, ltb, leb, length, get_or, set, take, None}
 use Rattle.rules.specs.Lists.{all, up_to, rises, member, occurrences}
 use Rattle.rules.specs.Table.{Table, polytope, element_count, boundary}
 use Rattle.rules.specs.Limits.{desk}
@@ -35,7 +34,7 @@ raw_ends es (x ∷ xs) = first_end es x ∷ second_end es x ∷ raw_ends es xs
 
 -- every row of the memory read as an edge: all that test 7 of a face looks at
 unfoldable pub as_edges : List ℕ → Table
-as_edges es = record { dimension = 0; points = []; elements = map (λ x. polytope 1 (first_end es x ∷ second_end es x ∷ []) none false) (up_to desk.elements); planes = [] }
+as_edges es = record { dimension = 0; points = []; elements = map (λ x. polytope 1 (first_end es x ∷ second_end es x ∷ []) None false) (up_to desk.elements); planes = [] }
 
 -- no two of the edges share both ends
 abbrev pub Untwinned : Table → List ℕ → Type 0

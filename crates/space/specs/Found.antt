@@ -1,6 +1,5 @@
 -- What a search over rows answers, and what appending a row does. Definitions only.
-use Rattle.std.specs.Prelude.{ℕ, ◌+◌, ◌*◌, ◌≡◌, Bool, true, false, List, eqb, ltb, get_or, set, Float}
-use Rattle.std.proofs.Math.Option.{Option, none, some}
+use Rattle.std.specs.Prelude.{ℕ, ◌+◌, ◌*◌, ◌≡◌, Bool, true, false, List, eqb, ltb, get_or, set, Float, Option, Some, None}
 use Rattle.std.proofs.lemmas.List.Edits.{sets}
 use Rattle.rules.specs.Limits.{desk}
 use Rattle.rules.specs.Lists.{alike, find, rows}
@@ -16,8 +15,8 @@ use Rattle.space.specs.declared.rows.Placed.TheVariants as placed
 
 -- the number that a search for a row gives
 abbrev pub element_number : FoundElement → Option ElementNumber
-element_number NoElement = none
-element_number (AtElement e) = some e.0
+element_number NoElement = None
+element_number (AtElement e) = Some e.0
 
 abbrev pub placed_at : ℕ → Placed
 placed_at i = placed.At (record { 0 = i })
@@ -30,9 +29,9 @@ pub record RowOutcome : Type 0 where
 
 -- by the search for an equal row and the test for room: that row, the row behind the last, or 9
 abbrev pub row_by : List ℕ → List ℕ → List ℕ → Option ℕ → Bool → RowOutcome
-row_by cs es row (some i) room = record { reply = placed_at i; counts = cs; elements = es }
-row_by cs es row none true = record { reply = placed_at (get_or cs 1 0); counts = set cs 1 (get_or cs 1 0 + 1); elements = sets es (get_or cs 1 0 * row_width) row }
-row_by cs es row none false = record { reply = placed.Refused 9; counts = cs; elements = es }
+row_by cs es row (Some i) room = record { reply = placed_at i; counts = cs; elements = es }
+row_by cs es row None true = record { reply = placed_at (get_or cs 1 0); counts = set cs 1 (get_or cs 1 0 + 1); elements = sets es (get_or cs 1 0 * row_width) row }
+row_by cs es row None false = record { reply = placed.Refused 9; counts = cs; elements = es }
 
 unfoldable pub row_outcome : List ℕ → List ℕ → List ℕ → RowOutcome
 row_outcome cs es row = row_by cs es row (find (alike eqb row) (rows (get_or cs 1 0) row_width es)) (ltb (get_or cs 1 0) desk.elements)

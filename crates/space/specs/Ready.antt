@@ -1,12 +1,12 @@
 -- What a function asks of its caller: one record for each that asks more than one thing. Definitions only.
 -- A slice's field is its length; `room` says that no more entries are in use than there is room for.
-use Rattle.std.specs.Prelude.{ℕ, ◌+◌, ◌≤◌, ◌<◌, ◌≡◌, List, length, get_or, Float}
+use Rattle.std.specs.Prelude.{ℕ, ◌+◌, ◌≤◌, ◌<◌, ◌≡◌, List, length, get_or, Float, Option}
 use Rattle.rules.specs.Limits.{desk}
-use Rattle.hypermath.specs.declared.FoundVertex.{FoundVertex}
 use Rattle.space.specs.Numbers.{row_width, point_slice, plane_slice, element_slice}
 use Rattle.space.specs.Chains.{keys, Indexed}
 use Rattle.space.specs.Closed.{Low, LowEnds}
 use Rattle.space.specs.Shared.{VertexInRoom}
+use Rattle.rules.specs.declared.VertexId.{VertexId}
 
 -- ---- rows
 
@@ -74,7 +74,7 @@ pub record PointReady (ps : List Float) (v : ℕ) : Type 0 where
   pub room : v < desk.vertices
 
 -- a vertex shared, once it is searched for
-pub record ShareReady (cs : List ℕ) (ps : List Float) (es ix : List ℕ) (m : FoundVertex) : Type 0 where
+pub record ShareReady (cs : List ℕ) (ps : List Float) (es ix : List ℕ) (m : Option VertexId) : Type 0 where
   pub counts : length cs ≡ 4
   pub points : length ps ≡ point_slice
   pub elements : length es ≡ element_slice

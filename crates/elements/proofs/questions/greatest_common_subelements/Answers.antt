@@ -10,12 +10,13 @@ use Rattle.elements.proofs.BelowLoops.{lent_long}
 use Rattle.elements.proofs.CommonLoops.{roots_used_at, used_in_room, no_roots, unlike_roots, greatest_answered}
 use Rattle.elements.proofs.QuestionReplies.{roots_used, roots_refused, roots_answered}
 use Rattle.elements.proofs.questions.greatest_common_subelements.Goals as goal
+use Rattle.rules.specs.declared.Refusal.TheVariants.{Rank}
 
 pub returns-then-no-ne0 : goal.returns-then-no-ne0
 returns-then-no-ne0 c = roots_refused _ _ _ _ _ _ c.roots_refusal-no.ensures _ c.if-no-ne0.true
 
 pub returns-then-roots-eq0 : goal.returns-then-roots-eq0
-returns-then-roots-eq0 c = roots_answered _ _ _ _ _ _ c.roots_refusal-no.ensures c.args.list.now c.if-no-ne0.false (no_answer 6) _ refl (λ t l u. no_roots t _ c.if-roots-eq0.true)
+returns-then-roots-eq0 c = roots_answered _ _ _ _ _ _ c.roots_refusal-no.ensures c.args.list.now c.if-no-ne0.false (no_answer Rank) _ refl (λ t l u. no_roots t _ c.if-roots-eq0.true)
 
 pub rank_of-rank-requires : goal.rank_of-rank-requires
 rank_of-rank-requires c =
@@ -36,7 +37,7 @@ all_of_rank-requires c =
 pub returns-then-not-all_of_rank : goal.returns-then-not-all_of_rank
 returns-then-not-all_of_rank c = let rank = c.rank_of-rank.ensures ∙ ap (λ (x : ℕ). get_or c.args.elements.now (x * 36) 0) c.wide.ensures.value in
     let same = sym c.all_of_rank.ensures ∙ c.if-not-all_of_rank.true in
-    roots_answered _ _ _ _ c.args.roots.now _ c.roots_refusal-no.ensures c.args.list.now c.if-no-ne0.false (no_answer 6) _ refl
+    roots_answered _ _ _ _ c.args.roots.now _ c.roots_refusal-no.ensures c.args.list.now c.if-no-ne0.false (no_answer Rank) _ refl
     (λ t l u. unlike_roots _ t l _ c.args.roots.now u rank same)
 
 pub common-s-requires : goal.common-s-requires

@@ -1,5 +1,5 @@
 -- A touch is read from the corners, and its count is as order 6 says; the reply's numbers. The sides are a list, so both go by induction over it.
-use Rattle.std.specs.Prelude.{if◌then◌else◌}
+use Rattle.std.specs.Prelude.{if◌then◌else◌, Err, Ok}
 use Prim.Native.Nat.{ℕ, zero, suc, ◌<◌, ◌≤◌, suc-le-suc, zero-le}
 use mathlib.Core.Bool.{Bool, true, false, not, ◌&&◌, ◌||◌, false≢true, true≢false}
 use mathlib.Core.List.{List, [], ◌∷◌, map}
@@ -16,41 +16,43 @@ use Rattle.rules.specs.Sound.{sound_plane}
 use Rattle.rules.specs.Memory.{Memory, decode, sound_memory}
 use Rattle.rules.specs.Questions.{is_below, sub_elements, with_rank, vertex_set}
 use Rattle.rules.specs.Replies.{divider_fits, divider_of}
-use Rattle.rules.specs.Touch.{vertex_side, corner_sides, is_inside, is_outside, touch_by, touch_of, tested_from, touched, touch_at_distance, touch, touch_reply, touch_number}
+use Rattle.rules.specs.Touch.{vertex_side, corner_sides, is_inside, is_outside, touch_by, touch_of, tested_from, touched, touch_at_distance, touch, touch_reply}
 use Rattle.rules.specs.Touch.{TouchNumbered, TouchNumbers, TouchInfinite, says_inside, says_outside, ReadFromCorners, Counted, Touches, TouchIsRead, TouchIsCounted}
 use Rattle.rules.specs.declared.Hyperplane.{Hyperplane}
 use Rattle.rules.specs.declared.Side.{Side}
 use Rattle.rules.specs.declared.Side.TheVariants.{Inside, On, Outside}
 use Rattle.rules.specs.declared.Touch.{Touch}
 use Rattle.rules.specs.declared.Touch.TheVariants.{InsideOrOn, OutsideOrOn, Both}
-use Rattle.rules.specs.declared.TouchReply.{TouchReply}
-use Rattle.rules.specs.declared.TouchReply.TheVariants.{Refused, Touched}
 use Rattle.rules.proofs.Common.{member_kept, kept_member, member_up, sub_elements_are_least}
 use Rattle.rules.proofs.Good.{Good, sound_good, above_zero}
 use Rattle.rules.proofs.Laws.{and_left, and_right, eq_test, or_none, or_shift, test_eq, unlike_eq}
 use Rattle.rules.proofs.Reach.{some_of_lem, any_at}
 use Rattle.rules.proofs.Repeat.{NotInfinite}
+use Rattle.rules.specs.Refusals.{Reply, reply_number}
+use Rattle.rules.specs.declared.Refusal.TheVariants.{Divider, NotInUse, NotSound}
+use Rattle.rules.specs.declared.Touched.{Touched}
+use Rattle.rules.specs.Touch.{touch_with}
 
 -- ---- the reply
 
 module _ (L : Limits) (h : Hyperplane) (root : ℕ) (m : Memory) where
-  abbrev made : TouchReply
+  abbrev made : Reply Touched
   made = touch (divider_of (decode L m).dimension h) root (decode L m)
 
   -- with its tests as arguments
-  abbrev pub touch_tested : Bool → Bool → Bool → TouchReply → TouchReply
-  touch_tested s u f r = if not s then Refused 3 else if not u then Refused 4 else if not f then Refused 5 else r
+  abbrev pub touch_tested : Bool → Bool → Bool → Reply Touched → Reply Touched
+  touch_tested s u f r = if not s then Err NotSound else if not u then Err NotInUse else if not f then Err Divider else r
 
   pub touch_tested_lem : touch_reply L h root m ≡ touch_tested (sound_memory L m) (ltb root (element_count (decode L m))) (divider_fits L (decode L m).dimension h) made
   unfolding touch_reply
   touch_tested_lem = refl
 
 -- a touch itself is not refused
-answers : (h : Plane) (root : ℕ) (t : Table) → (a : Touch) × (k : ℕ) × (touch h root t ≡ Touched a k)
+answers : (h : Plane) (root : ℕ) (t : Table) → (a : Touch) × (k : ℕ) × (touch h root t ≡ Ok (touch_with a k))
 unfolding touch
 answers h root t = go h.distance
   where
-    go : (d : Float) → (a : Touch) × (k : ℕ) × (touch_at_distance h d root t ≡ Touched a k)
+    go : (d : Float) → (a : Touch) × (k : ℕ) × (touch_at_distance h d root t ≡ Ok (touch_with a k))
     go (inf false) = (InsideOrOn, 0, refl)
     go (inf true) = (OutsideOrOn, 0, refl)
     go nan = (touch_of (corner_sides h t root), tested_from false false (corner_sides h t root), refl)
@@ -62,7 +64,7 @@ touch_numbers L h root m =
     (go (sound_memory L m) (ltb root (element_count (decode L m))) (divider_fits L (decode L m).dimension h)
     (answers (divider_of (decode L m).dimension h) root (decode L m)))
   where
-    go : (s u f : Bool) → ((a : Touch) × (k : ℕ) × (made L h root m ≡ Touched a k)) → TouchNumbered (touch_tested L h root m s u f (made L h root m))
+    go : (s u f : Bool) → ((a : Touch) × (k : ℕ) × (made L h root m ≡ Ok (touch_with a k))) → TouchNumbered (touch_tested L h root m s u f (made L h root m))
     go false u f x = record { number = refl; answered = λ z. absurd (suc-ne-zero 2 z); refused = λ l. refl }
     go true false f x = record { number = refl; answered = λ z. absurd (suc-ne-zero 3 z); refused = λ l. refl }
     go true true false x = record { number = refl; answered = λ z. absurd (suc-ne-zero 4 z); refused = λ l. refl }
@@ -73,13 +75,13 @@ pub touch_infinite : (L : Limits) → TouchInfinite L
 unfolding touch
 touch_infinite L h root m z =
     go (sound_memory L m) (ltb root (element_count (decode L m))) (divider_fits L (decode L m).dimension h) (touch_tested_lem L h root m)
-    (ap touch_number (sym (touch_tested_lem L h root m)) ∙ z)
+    (ap reply_number (sym (touch_tested_lem L h root m)) ∙ z)
   where
     at : (d : Float) → h.distance ≡ d → touch (divider_of (decode L m).dimension h) root (decode L m) ≡ touch_at_distance (divider_of (decode L m).dimension h) d root (decode L m)
     at d e = ap (λ (x : Float). touch_at_distance (divider_of (decode L m).dimension h) x root (decode L m)) e
 
-    go : (s u f : Bool) → touch_reply L h root m ≡ touch_tested L h root m s u f (made L h root m) → touch_number (touch_tested L h root m s u f (made L h root m)) ≡ 0
-        → (h.distance ≡ inf false → touch_reply L h root m ≡ Touched InsideOrOn 0) × (h.distance ≡ inf true → touch_reply L h root m ≡ Touched OutsideOrOn 0)
+    go : (s u f : Bool) → touch_reply L h root m ≡ touch_tested L h root m s u f (made L h root m) → reply_number (touch_tested L h root m s u f (made L h root m)) ≡ 0
+        → (h.distance ≡ inf false → touch_reply L h root m ≡ Ok (touch_with InsideOrOn 0)) × (h.distance ≡ inf true → touch_reply L h root m ≡ Ok (touch_with OutsideOrOn 0))
     go false u f q n = absurd (suc-ne-zero 2 n)
     go true false f q n = absurd (suc-ne-zero 3 n)
     go true true false q n = absurd (suc-ne-zero 4 n)
@@ -198,13 +200,13 @@ touch_sides h root t = go h.distance
     go (fin s m e) z = refl
 
 -- what a reply says, with some where it is refused
-answer_or : Touch → TouchReply → Touch
-answer_or b (Refused n) = b
-answer_or b (Touched a k) = a
+answer_or : Touch → Reply Touched → Touch
+answer_or b (Err n) = b
+answer_or b (Ok t) = t.answer
 
-tested_or : ℕ → TouchReply → ℕ
-tested_or b (Refused n) = b
-tested_or b (Touched a k) = k
+tested_or : ℕ → Reply Touched → ℕ
+tested_or b (Err n) = b
+tested_or b (Ok t) = t.tested
 
 -- ---- what an answer says
 
@@ -230,11 +232,11 @@ outside_side Inside q = absurd (false≢true q)
 outside_side On q = absurd (false≢true q)
 outside_side Outside q = refl
 
-module _ (L : Limits) (h : Plane) (root : ℕ) (t : Table) (a : Touch) (k : ℕ) (c : Touches L h root t) (e : touch h root t ≡ Touched a k) where
+module _ (L : Limits) (h : Plane) (root : ℕ) (t : Table) (a : Touch) (k : ℕ) (c : Touches L h root t) (e : touch h root t ≡ Ok (touch_with a k)) where
   abbrev sides : List Side
   sides = corner_sides h t root
 
-  both : Touched a k ≡ touched sides
+  both : Ok (touch_with a k) ≡ touched sides
   both = sym e ∙ touch_sides h root t (near_finite t.dimension h c.fits)
 
   answer_is : a ≡ touch_of sides
