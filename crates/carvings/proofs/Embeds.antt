@@ -28,6 +28,7 @@ use Rattle.rules.proofs.Laws.{if_true, if_false, eqb_self, not_eq}
 use Rattle.rules.proofs.Selves.{element_self, same_element_lem}
 use Rattle.rules.proofs.Stays.{found_element}
 use Rattle.rules.specs.declared.Refusal.TheVariants.{ElementsFull}
+use Rattle.rules.specs.declared.Refusal.{Refusal}
 
 -- ---- what adding an element did
 
@@ -47,7 +48,7 @@ module _ {A : Type 0} where
   pub done_table : {a b : A} {t u : Table} → done a t ≡ done b u → t ≡ u
   done_table e = cc
 
-  pub not_done : {C : Type 0} {n : ℕ} {b : A} {u : Table} → ◌≡◌ {A = Outcome A} (refused n) (done b u) → C
+  pub not_done : {C : Type 0} {n : Refusal} {b : A} {u : Table} → ◌≡◌ {A = Outcome A} (refused n) (done b u) → C
   not_done e = absurd (let z : ◌≡◌ {A = ℕ} 0 1 = cc in let w : ⊥ = omega arith in w)
 
 -- what a search does not find is not there

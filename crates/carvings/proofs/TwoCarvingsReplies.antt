@@ -32,7 +32,7 @@ use Rattle.rules.proofs.Refusals.{cut_numbers}
 use Rattle.carvings.proofs.TwoCarvings.{slice_is_two_carvings, slice_taken_as_carvings}
 use Rattle.rules.specs.Refusals.{Reply, reply_number}
 use Rattle.rules.specs.declared.ElementId.{ElementId}
-use Rattle.std.specs.Prelude.{Option, Some, None}
+use Rattle.std.specs.Prelude.{Option, Some, None, Ok}
 
 module _ (L : Limits) (t u : Table) where
   same_counts : u.dimension ≡ t.dimension → element_count u ≡ element_count t → u.points ≡ t.points → u.planes ≡ t.planes → (encode L u).counts ≡ (encode L t).counts

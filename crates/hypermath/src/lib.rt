@@ -15,7 +15,7 @@ ghost use Rattle.hypermath.specs.Axes.{axes, AxesOf};
 ghost use Rattle.hypermath.specs.Answers.{distance_to, unit_normal, distance_kind, vertex_number, hyperplane_number, points_in, planes_in, row_hyperplane, SidesOf, Clamped};
 
 use between::{above_both, below_both, greater, lesser};
-use rules::{Crossing, EdgeTest, Hyperplane, HyperplaneId, Side, SideTest, VertexId};
+use rules::{EdgeTest, Hyperplane, HyperplaneId, Side, SideTest, VertexId};
 use sides::{either, opposed};
 
 // How many floats a point has.
@@ -42,20 +42,6 @@ pub enum DistanceKind {
     Finite,
     PlusInfinity,
     MinusInfinity,
-}
-
-// The lowest vertex that matches, or none.
-#[derive(Clone, Copy)]
-pub enum FoundVertex {
-    None,
-    At(VertexId),
-}
-
-// The lowest hyperplane that matches, or none.
-#[derive(Clone, Copy)]
-pub enum FoundHyperplane {
-    None,
-    At(HyperplaneId),
 }
 
 // How many axes a dimension uses, of those that there are.
@@ -179,14 +165,14 @@ pub fn distance_kind(x: f64) -> DistanceKind
 }
 
 // No crossing, or a crossing with its t, by the two ends' sides.
-fn crossing_of(sa: f64, a: Side, sb: f64, b: Side) -> Crossing
+fn crossing_of(sa: f64, a: Side, sb: f64, b: Side) -> Option<f64>
     requires { SidesOf sa a sb b }
     ensures { result ≡ floats.crossing_of sa sb }
 {
     if opposed(a, b) {
-        return Crossing::At(sa / (sa - sb));
+        return Some(sa / (sa - sb));
     }
-    Crossing::None
+    None
 }
 
 // The crossing of an edge, its lower-numbered end first, and whether an end was a close call.
@@ -322,7 +308,7 @@ pub fn hyperplane_at(planes: &[f64], k: HyperplaneId) -> Hyperplane
 }
 
 // The lowest of n vertices that matches a point; a vertex is left at its first unlike axis.
-fn search_vertices(d: usize, points: &[f64], n: usize, p: [f64; 4]) -> FoundVertex
+fn search_vertices(d: usize, points: &[f64], n: usize, p: [f64; 4]) -> Option<VertexId>
     requires { n * axes ≤ length points.now }
     ensures { vertex_number result ≡ find (λ q. floats.point_matches q (take d p)) (points_in d n points.now) }
 {
@@ -330,7 +316,7 @@ fn search_vertices(d: usize, points: &[f64], n: usize, p: [f64; 4]) -> FoundVert
     let mut v = 0;
     let found = 'vertices: loop {
         if v == n {
-            break FoundVertex::None;
+            break None;
         }
         for axis in 0..used {
             if !coordinates_match(points[v * AXES + axis], p[axis]) {
@@ -338,13 +324,13 @@ fn search_vertices(d: usize, points: &[f64], n: usize, p: [f64; 4]) -> FoundVert
                 continue 'vertices;
             }
         }
-        break FoundVertex::At(VertexId(v));
+        break Some(VertexId(v));
     };
     found
 }
 
 // The same; with the dimension as a number a vertex's axes are compared with no loop.
-pub fn find_vertex(d: usize, points: &[f64], n: usize, p: [f64; 4]) -> FoundVertex
+pub fn find_vertex(d: usize, points: &[f64], n: usize, p: [f64; 4]) -> Option<VertexId>
     requires { n * axes ≤ length points.now }
     ensures { vertex_number result ≡ find (λ q. floats.point_matches q (take d p)) (points_in d n points.now) }
 {
@@ -364,7 +350,7 @@ pub fn find_hyperplane(
     first: HyperplaneId,
     n: usize,
     h: Hyperplane,
-) -> FoundHyperplane
+) -> Option<HyperplaneId>
     requires { n * (1 + axes) ≤ length planes.now }
     ensures { hyperplane_number result ≡ find_from first.0 (λ g. plane_matches g (divider_of d h)) (drop first.0 (planes_in d n planes.now)) }
 {
@@ -372,9 +358,9 @@ pub fn find_hyperplane(
     while k < n {
         let g = hyperplane_at(planes, HyperplaneId(k));
         if hyperplanes_match(d, g, h) {
-            return FoundHyperplane::At(HyperplaneId(k));
+            return Some(HyperplaneId(k));
         }
         k += 1;
     }
-    FoundHyperplane::None
+    None
 }
