@@ -30,8 +30,6 @@ use Rattle.rules.proofs.StaysCut.{boundary_stays}
 use Rattle.rules.proofs.Warned.{Done, Warns, gathering_warns, rule6_warns}
 use Rattle.space.specs.Ready.{ElementReady}
 use Rattle.space.proofs.Slices.{slices}
-use Rattle.gathered.specs.declared.answer.ElementReply.{ElementReply}
-use Rattle.gathered.specs.declared.answer.ElementReply.TheVariants as reply
 use Rattle.gathered.specs.Sets.{Gathers, Cleared, OutputInRoom, OutputGathered, warning_in}
 use Rattle.gathered.specs.Cutting.{cut_of, answered_by, Fit, Told, Rule6Fit, Rule6Ready, Rule6Done}
 use Rattle.gathered.proofs.Steps.{told_by}
@@ -40,6 +38,8 @@ use Rattle.cut.specs.Rounds.{AskReady, went, stopped, ElementEnded, ElementAsked
 use Rattle.cut.specs.Higher.{HigherFit, GatherReady, Filled, KnownGathered, HigherReady, HigherAsked}
 use Rattle.cut.proofs.StaysKnown.{asked_room, kept_ended, kept_still, reply_in_room, still_trans, noted_now}
 use Rattle.cut.proofs.Rounds.{boundary_not_0, ask, ask_stays, ep, owner, size_is, size_most, within, number_of, ranked_of, opened_at, cut_higher_lem}
+use Rattle.rules.specs.Refusals.{Reply}
+use Rattle.std.specs.Prelude.{Err}
 
 -- ---- the boundary is gathered from what is known
 
@@ -164,7 +164,7 @@ module _ {cs es ms : List ℕ} {s s₁ : List (List ℕ)} {r e : ℕ} {k : Cutte
   pub rule6_ready : {ix : List ℕ} → HigherReady cs es ix ms s r e k → Rule6Ready cs es ix r e k s₁
   rule6_ready R = record { points = R.points; planes = R.planes; table = R.table; gathered = (all R.fit).gathered; fit = rule6_fit R.fit; indexed = R.indexed }
 
-  module _ {x : ElementReply} {cs' es' ix' : List ℕ} {s₂ : List (List ℕ)} (D : Rule6Done cs es r e k s₁ x cs' es' ix' s₂) where
+  module _ {x : Reply ElementCutOutput} {cs' es' ix' : List ℕ} {s₂ : List (List ℕ)} (D : Rule6Done cs es r e k s₁ x cs' es' ix' s₂) where
     told : {ps hs : List Float} {t : Table} → HigherFit cs ps hs es ms (warning_in s) r e k t
         → Told (Holds desk cs' ps hs es') t (cut_element desk (cut_of t.dimension k) r e t) x (warning_in s) (warning_in s₂)
     told {ps} {hs} {t} H =
@@ -173,7 +173,7 @@ module _ {cs es ms : List ℕ} {s s₁ : List (List ℕ)} {r e : ℕ} {k : Cutte
         told_by (λ a u o.
         D.used.warning ∙ G.warning ∙ sym F.noted
         ∙ ap (λ (b : Bool). warning_in s || b) (sym (rule6_warning (cut_of t.dimension k) (element t e) F.gathered t (sym whole ∙ o))))
-        (subst (λ (o : Outcome ElementAnswer). Came answered_by reply.Refused (Holds desk cs' ps hs es') t o x) (sym whole) (D.of ps hs t F.gathered (rule6_fit H)))
+        (subst (λ (o : Outcome ElementAnswer). Came answered_by Err (Holds desk cs' ps hs es') t o x) (sym whole) (D.of ps hs t F.gathered (rule6_fit H)))
 
     pub higher_keep : {ix : List ℕ} → HigherReady cs es ix ms s r e k → KeepReady e x
     higher_keep R = record { low = le_trans R.fit.fit.used R.fit.fit.holds.fits.element_room; room = reply_in_room R.fit.fit (told R.fit) }

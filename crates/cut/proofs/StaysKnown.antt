@@ -15,8 +15,6 @@ use Rattle.rules.specs.Cut.{done, cut_element}
 use Rattle.rules.specs.declared.ElementCutOutput.{ElementCutOutput}
 use Rattle.rules.specs.declared.ElementCutOutput.TheVariants.{Flush, NonFlush}
 use Rattle.rules.specs.declared.ElementAnswer.{ElementAnswer}
-use Rattle.gathered.specs.declared.answer.ElementReply.{ElementReply}
-use Rattle.gathered.specs.declared.answer.ElementReply.TheVariants as reply
 use Rattle.rules.proofs.Corners.{good_fine}
 use Rattle.rules.proofs.Extends.{extends_refl, extends_trans, count_more, rank_same}
 use Rattle.rules.proofs.Fine.{SomeIn, OutputIn, AnswerIn}
@@ -33,7 +31,8 @@ use Rattle.cut.specs.Known.{known_at, output_at, with_answer, with_reply, ReplyI
 use Rattle.cut.specs.Rounds.{AskReady, LowReady, ElementAsked, ElementEnded, went, stopped}
 use Rattle.cut.proofs.Words.{zeros_unknown, kept_long, kept_same, kept_known, kept_other_known, kept_other}
 use Rattle.rules.specs.declared.ElementId.{ElementId}
-use Rattle.std.specs.Prelude.{Option, Some, None}
+use Rattle.std.specs.Prelude.{Option, Some, None, Ok, Err}
+use Rattle.rules.specs.Refusals.{Reply}
 
 -- nothing is known at first
 pub knows_nothing : (k : Cutter) (w : Bool) (t : Table) → Knows k (replicate 512 0) w t
@@ -121,9 +120,9 @@ pub still_trans : {ms ms₁ ms₂ : List ℕ} → KnownStill ms ms₁ → KnownS
 still_trans A B = record { of = λ j h. B.of j (A.of j h) }
 
 -- an answer is kept beside it
-still_kept : (ms : List ℕ) (e : ℕ) (x : ElementReply) → e < length ms → KnownStill ms (with_reply ms e x)
-still_kept ms e (reply.Refused n) l = still_refl ms
-still_kept ms e (reply.Answered a) l = record { of = λ j h. go j h (eqb j e) refl }
+still_kept : (ms : List ℕ) (e : ℕ) (x : Reply ElementCutOutput) → e < length ms → KnownStill ms (with_reply ms e x)
+still_kept ms e (Err n) l = still_refl ms
+still_kept ms e (Ok a) l = record { of = λ j h. go j h (eqb j e) refl }
   where
     go : (j : ℕ) → known_at ms j ≡ true → (c : Bool) → eqb j e ≡ c → known_at (with_answer ms e a) j ≡ true
     go j h true p = ap (known_at (with_answer ms e a)) (eq_test j e p) ∙ kept_known ms e a l
@@ -142,7 +141,7 @@ module _ {cs : List ℕ} {ps hs : List Float} {es : List ℕ} {r e : ℕ} {k : C
   ranked_cut : {u : Table} {a : ElementAnswer} → cut_element desk (cut_of t.dimension k) r e t ≡ done a u → cut_element desk (cut_of t.dimension k) (rank t e) e t ≡ done a u
   ranked_cut o = ap (λ (n : ℕ). cut_element desk (cut_of t.dimension k) n e t) F.ranked ∙ o
 
-  module _ {cs' : List ℕ} {ps' : List Float} {es' : List ℕ} {x : ElementReply} {v w : Bool} (T : Told (Holds desk cs' ps' hs es') t (cut_element desk (cut_of t.dimension k) r e t) x v w) where
+  module _ {cs' : List ℕ} {ps' : List Float} {es' : List ℕ} {x : Reply ElementCutOutput} {v w : Bool} (T : Told (Holds desk cs' ps' hs es') t (cut_element desk (cut_of t.dimension k) r e t) x v w) where
     -- it is within the room
     pub reply_in_room : ReplyInRoom x
     reply_in_room = go T
@@ -170,7 +169,7 @@ module _ {cs : List ℕ} {ps hs : List Float} {es : List ℕ} {r e : ℕ} {k : C
               output = ap (λ (m : List ℕ). output_at m e) words ∙ kept_same ms e a.output (asked_room k e a good F.used (ranked_cut o) H.fits.element_room) fits;
             })
 
-  pub kept_still : {ms ms' : List ℕ} {x : ElementReply} {y : ℕ} {v : Bool} → Knows k ms v t → ReplyKept ms e x y ms' → KnownStill ms ms'
+  pub kept_still : {ms ms' : List ℕ} {x : Reply ElementCutOutput} {y : ℕ} {v : Bool} → Knows k ms v t → ReplyKept ms e x y ms' → KnownStill ms ms'
   kept_still {ms} {x = x} K N =
       let long = K.long in
       subst (KnownStill ms) (sym N.words) (still_kept ms e x (let z : e < length ms = omega (arith, low, long) in z))
@@ -197,7 +196,7 @@ module _ {cs : List ℕ} {ps : List Float} {es ms : List ℕ} {s : List (List �
   }
 
   -- a vertex element or an edge
-  module _ {x : ElementReply} {cs' : List ℕ} {ps' : List Float} {es' ix' : List ℕ} {s' : List (List ℕ)} (C : LowLeft cs ps es r e k s x cs' ps' es' ix' s') where
+  module _ {x : Reply ElementCutOutput} {cs' : List ℕ} {ps' : List Float} {es' ix' : List ℕ} {s' : List (List ℕ)} (C : LowLeft cs ps es r e k s x cs' ps' es' ix' s') where
     pub low_keep : {ix : List ℕ} → AskReady cs ps es ix ms s r e k → KeepReady e x
     low_keep R = record { low = ask_low R; room = reply_in_room R.fit (C.cut.of R.planes R.table R.fit) }
 

@@ -26,8 +26,6 @@ use Rattle.rules.proofs.Stays.{Stays, Kept, plane_stays}
 use Rattle.space.specs.Shared.{HyperplaneAdded, hyperplane_at}
 use Rattle.space.specs.Ready.{ElementReady, HyperplaneReady, RestoreReady}
 use Rattle.space.specs.Restored.{Restored}
-use Rattle.space.specs.declared.memo.PlacedHyperplane.{PlacedHyperplane}
-use Rattle.space.specs.declared.memo.PlacedHyperplane.TheVariants as hyperplane
 use Rattle.space.proofs.Indexing.{index_count}
 use Rattle.space.proofs.Lent.{holds_memory}
 use Rattle.space.proofs.Room.{rank_word}
@@ -43,7 +41,7 @@ use Rattle.cut.proofs.StaysKnown.{knows_nothing}
 use Rattle.cut.proofs.Rounds.{element_not_0}
 use Rattle.rules.specs.Refusals.{Reply}
 use Rattle.rules.specs.declared.ElementAnswer.{ElementAnswer}
-use Rattle.std.specs.Prelude.{Err}
+use Rattle.std.specs.Prelude.{Err, Ok}
 use Rattle.rules.specs.Replies.{answer_with}
 
 -- ---- the hyperplane, then the root
@@ -61,8 +59,8 @@ record Named (ps : List Float) (es : List ℕ) (h : Hyperplane) (cs₁ : List �
   pub numbered : v < length table.planes
   pub holds : Holds desk cs₁ ps hs₁ es table
 
-abbrev Added : List Float → List ℕ → Hyperplane → PlacedHyperplane → List ℕ → List Float → Table → Type 0
-Added ps es h x cs₁ hs₁ t = Came hyperplane_at hyperplane.Refused (Holds desk cs₁ ps hs₁ es) t (add_plane desk (divider_of t.dimension h) t) x
+abbrev Added : List Float → List ℕ → Hyperplane → Reply HyperplaneId → List ℕ → List Float → Table → Type 0
+Added ps es h x cs₁ hs₁ t = Came hyperplane_at Err (Holds desk cs₁ ps hs₁ es) t (add_plane desk (divider_of t.dimension h) t) x
 
 abbrev cutter : CutParams → HyperplaneId → Cutter
 cutter p v = record { params = p; number = v }
@@ -91,12 +89,12 @@ blank_shaped : Shaped blank_room
 blank_shaped = record { four = refl; tally = refl; inside = refl; outside = refl; intersections = refl }
 
 module _ (p : CutParams) {cs : List ℕ} {ps hs : List Float} {es : List ℕ} {root : ℕ} where
-  module _ {x : PlacedHyperplane} {cs₁ : List ℕ} {hs₁ : List Float} (P : HyperplaneAdded cs hs p.divider x cs₁ hs₁) where
+  module _ {x : Reply HyperplaneId} {cs₁ : List ℕ} {hs₁ : List Float} (P : HyperplaneAdded cs hs p.divider x cs₁ hs₁) where
     added : {t : Table} → CutFit cs ps hs es p.divider root t → Added ps es p.divider x cs₁ hs₁ t
     added {t} F = P.of ps es t (divider_of t.dimension p.divider) F.holds F.sound F.row F.plane
 
     -- no room for the hyperplane
-    pub plane_refused : {ix : List ℕ} (n : ℕ) → x ≡ hyperplane.Refused n → CutTried cs ps hs es p root (Err n) cs₁ ps hs₁ es ix
+    pub plane_refused : {ix : List ℕ} (n : ℕ) → x ≡ Err n → CutTried cs ps hs es p root (Err n) cs₁ ps hs₁ es ix
     plane_refused n q = record { of = λ t F. go t (added F); indexed = λ a w. let z : ◌≡◌ {A = ℕ} 0 1 = cc in absurd (omega arith) }
       where
         go : (t : Table) → Added ps es p.divider x cs₁ hs₁ t → Came Ok Err (Holds desk cs₁ ps hs₁ es) t (cut_finite desk (params_of t.dimension p) root t) (Err n)
@@ -108,7 +106,7 @@ module _ (p : CutParams) {cs : List ℕ} {ps hs : List Float} {es : List ℕ} {r
             (ap Err z) y H
 
     -- the hyperplane's number is known
-    module _ (v : HyperplaneId) (q : x ≡ hyperplane.At v) where
+    module _ (v : HyperplaneId) (q : x ≡ Ok v) where
       named : {t : Table} → CutFit cs ps hs es p.divider root t → Named ps es p.divider cs₁ hs₁ v.0 t
       named {t} F = go (added F)
         where
@@ -182,7 +180,7 @@ module _ (p : CutParams) {cs : List ℕ} {ps hs : List Float} {es : List ℕ} {r
 
 -- ---- the counts, lent in an array of their own
 
-pub counts_lent : {cs cs₁ us : List ℕ} {hs hs₁ : List Float} {h : Hyperplane} {x : PlacedHyperplane} → us ≡ cs₁ → HyperplaneAdded cs hs h x cs₁ hs₁ → HyperplaneAdded cs hs h x us hs₁
+pub counts_lent : {cs cs₁ us : List ℕ} {hs hs₁ : List Float} {h : Hyperplane} {x : Reply HyperplaneId} → us ≡ cs₁ → HyperplaneAdded cs hs h x cs₁ hs₁ → HyperplaneAdded cs hs h x us hs₁
 counts_lent {cs} {hs = hs} {hs₁} {h} {x} e = subst (λ (l : List ℕ). HyperplaneAdded cs hs h x l hs₁) (sym e)
 
 pub counts_back : {cs cs' us : List ℕ} {ps hs ps' hs' : List Float} {es es' ix' : List ℕ} {p : CutParams} {root : ℕ} {r : Reply ElementAnswer}

@@ -12,13 +12,12 @@ use lib.Seq.{get_or-set_same, get_or-set_other}
 use Rattle.rules.specs.declared.ElementCutOutput.{ElementCutOutput}
 use Rattle.rules.specs.declared.ElementCutOutput.TheVariants.{Flush, NonFlush}
 use Rattle.rules.specs.declared.ElementId.{ElementId}
-use Rattle.gathered.specs.declared.answer.ElementReply.{ElementReply}
-use Rattle.gathered.specs.declared.answer.ElementReply.TheVariants as reply
 use Rattle.gathered.specs.Sets.{InRoom, SidesInRoom, OutputInRoom}
 use Rattle.gathered.proofs.Gathering.{some_room}
 use Rattle.space.specs.Numbers.{NumberBelow}
 use Rattle.cut.specs.Known.{field_size, field_of, some_of, output_of, packed, output_in, known_at, output_at, fields_at, with_answer, with_reply, ReplyInRoom, asked_by}
-use Rattle.std.specs.Prelude.{Option, Some, None}
+use Rattle.std.specs.Prelude.{Option, Some, None, Ok, Err}
+use Rattle.rules.specs.Refusals.{Reply}
 
 -- ---- a field and its element
 
@@ -153,10 +152,10 @@ module _ (ms : List ℕ) (e : ℕ) where
   kept_known (NonFlush i o x) h = fields_known ms e (field_of i) (field_of o) (field_of x) (field_above i) h
 
   -- a reply, by what it is
-  pub reply_refused : (x : ElementReply) (n : ℕ) → x ≡ reply.Refused n → ms ≡ with_reply ms e x
+  pub reply_refused : (x : Reply ElementCutOutput) (n : ℕ) → x ≡ Err n → ms ≡ with_reply ms e x
   reply_refused x n q = ap (with_reply ms e) (sym q)
 
-  pub reply_answered : (x : ElementReply) (a : ElementCutOutput) (ms' : List ℕ) → x ≡ reply.Answered a → ms' ≡ with_answer ms e a → ms' ≡ with_reply ms e x
+  pub reply_answered : (x : Reply ElementCutOutput) (a : ElementCutOutput) (ms' : List ℕ) → x ≡ Ok a → ms' ≡ with_answer ms e a → ms' ≡ with_reply ms e x
   reply_answered x a ms' q h = h ∙ ap (with_reply ms e) (sym q)
 
   -- the fields of an answer, by what it is
@@ -168,13 +167,13 @@ module _ (ms : List ℕ) (e : ℕ) where
   answer_sides_kept a i o y u v w ms' p hu hv hw h = h ∙ (λ l. fields_at ms e (hu l) (hv l) (hw l)) ∙ ap (with_answer ms e) (sym p)
 
 -- how asking ended, by what it is
-pub asked_refused : (x : ElementReply) (n : ℕ) → x ≡ reply.Refused n → n ≡ asked_by x
+pub asked_refused : (x : Reply ElementCutOutput) (n : ℕ) → x ≡ Err n → n ≡ asked_by x
 asked_refused x n q = ap asked_by (sym q)
 
-pub asked_done : (x : ElementReply) (a : ElementCutOutput) → x ≡ reply.Answered a → 0 ≡ asked_by x
+pub asked_done : (x : Reply ElementCutOutput) (a : ElementCutOutput) → x ≡ Ok a → 0 ≡ asked_by x
 asked_done x a q = ap asked_by (sym q)
 
-pub reply_room : (x : ElementReply) (a : ElementCutOutput) → x ≡ reply.Answered a → ReplyInRoom x → OutputInRoom a
+pub reply_room : (x : Reply ElementCutOutput) (a : ElementCutOutput) → x ≡ Ok a → ReplyInRoom x → OutputInRoom a
 reply_room x a q h = subst ReplyInRoom q h
 
 pub sides_room : (x : ElementCutOutput) (i o y : Option ElementId) → x ≡ NonFlush i o y → OutputInRoom x → SidesInRoom i o y

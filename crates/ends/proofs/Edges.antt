@@ -17,8 +17,6 @@ use Rattle.rules.specs.Cut.{Outcome, done, next, give, Cutting, Gathered, corner
 use Rattle.rules.specs.declared.EdgeTest.{EdgeTest}
 use Rattle.rules.specs.declared.ElementId.{ElementId}
 use Rattle.rules.specs.declared.ElementAnswer.{ElementAnswer}
-use Rattle.gathered.specs.declared.answer.ElementReply.{ElementReply}
-use Rattle.gathered.specs.declared.answer.ElementReply.TheVariants as reply
 use Rattle.rules.proofs.Extends.{extends_trans, begins_length, count_more, element_same}
 use Rattle.rules.proofs.Good.{Good, sound_good, good_sound}
 use Rattle.rules.proofs.Ranked.{corner_answer_lem, sets_gathering, sets_none}
@@ -30,8 +28,6 @@ use Rattle.space.specs.Found.{placed_at}
 use Rattle.space.specs.Chains.{Indexed}
 use Rattle.space.specs.Ready.{BoundaryAtReady, VertexReady}
 use Rattle.space.specs.Shared.{VertexAdded}
-use Rattle.space.specs.declared.rows.Placed.{Placed}
-use Rattle.space.specs.declared.rows.Placed.TheVariants as placed
 use Rattle.space.proofs.Room.{list_of, list_bound, list_word_lem}
 use Rattle.space.proofs.VertexMemo.{dimension_is}
 use Rattle.space.proofs.Slices.{slices}
@@ -44,7 +40,9 @@ use Rattle.ends.specs.declared.EdgeEnds.{EdgeEnds}
 use Rattle.ends.specs.Elements.{Ready, LowAsked, LowLeft}
 use Rattle.ends.proofs.EndsGathered.{sized_more, Crossed}
 use Rattle.ends.proofs.Vertices as vertex
-use Rattle.std.specs.Prelude.{Option, Some, None}
+use Rattle.std.specs.Prelude.{Option, Some, None, Ok, Err}
+use Rattle.rules.specs.Refusals.{Reply}
+use Rattle.rules.specs.declared.ElementCutOutput.{ElementCutOutput}
 
 -- ---- the crossing is matched or appended
 
@@ -71,14 +69,14 @@ vertex_asked A =
       index = A.indexed;
     }
 
-abbrev number_of : Placed → ℕ
-number_of (placed.Refused n) = 0
-number_of (placed.At i) = i.0
+abbrev number_of : Reply ElementId → ℕ
+number_of (Err n) = 0
+number_of (Ok i) = i.0
 
-module _ {cs : List ℕ} {ps : List Float} {es : List ℕ} {e : ℕ} {k : Cutter} {s : List (List ℕ)} {x : List Float} {w : Placed} {cs' : List ℕ} {ps' : List Float} {es' : List ℕ}
+module _ {cs : List ℕ} {ps : List Float} {es : List ℕ} {e : ℕ} {k : Cutter} {s : List (List ℕ)} {x : List Float} {w : Reply ElementId} {cs' : List ℕ} {ps' : List Float} {es' : List ℕ}
     (N : VertexAdded cs ps es x w cs' ps' es') where
   module _ {hs : List Float} {t : Table} {p q : List Float} {f : Float} {g : Gathered} (X : CrossedFit cs ps hs es e k s x t p q f g) where
-    added : Came placed_at placed.Refused (Holds desk cs' ps' hs es') t (add_vertex desk (crossing_point f p q) t) w
+    added : Came placed_at Err (Holds desk cs' ps' hs es') t (add_vertex desk (crossing_point f p q) t) w
     added = N.of hs t (crossing_point f p q) X.fit.holds X.fit.sound X.point (crossing_sound f t.dimension p q X.first X.second)
 
     crossing_kept : Stays desk (Sets 0) t (cross_edge desk p q (Some f) g t)
@@ -94,7 +92,7 @@ module _ {cs : List ℕ} {ps : List Float} {es : List ℕ} {e : ℕ} {k : Cutter
     left : (i : ℕ) → w ≡ placed_at i → Left i
     left i h = go added
       where
-        go : Came placed_at placed.Refused (Holds desk cs' ps' hs es') t (add_vertex desk (crossing_point f p q) t) w → Left i
+        go : Came placed_at Err (Holds desk cs' ps' hs es') t (add_vertex desk (crossing_point f p q) t) w → Left i
         go (stopped j u o l n H) = let r : ◌≡◌ {A = ℕ} 0 1 = cc in absurd (omega arith)
         go (went j u o l H) =
             let r : j ≡ i = sym (ap number_of l) ∙ ap number_of h in
@@ -128,26 +126,26 @@ module _ {cs : List ℕ} {ps : List Float} {es : List ℕ} {e : ℕ} {k : Cutter
           ∙ ap₂ (λ (n : ℕ) (z : Element). rule6 desk (cut_of n k) z (crossed_of i g) (i ∷ []) Q.table)
           (sym Q.kept.extends.dimension) (sym (element_same t Q.table e Q.kept.extends X.fit.used))
 
-      after_left : {y : ElementReply} {cs'' es'' : List ℕ} → Came answered_by reply.Refused (Holds desk cs'' ps' hs es'') Q.table rest y
-          → Came answered_by reply.Refused (Holds desk cs'' ps' hs es'') t whole y
+      after_left : {y : Reply ElementCutOutput} {cs'' es'' : List ℕ} → Came answered_by Err (Holds desk cs'' ps' hs es'') Q.table rest y
+          → Came answered_by Err (Holds desk cs'' ps' hs es'') t whole y
       after_left (went a u o l H) = went a u (same ∙ o) l H
       after_left (stopped n u o l z H) = stopped n u (same ∙ o) l (extends_trans Q.kept.extends z) H
 
-    not_added : (n : ℕ) → w ≡ placed.Refused n → Came placed_at placed.Refused (Holds desk cs' ps' hs es') t (add_vertex desk (crossing_point f p q) t) w
-        → Came answered_by reply.Refused (Holds desk cs' ps' hs es') t whole (reply.Refused n)
+    not_added : (n : ℕ) → w ≡ Err n → Came placed_at Err (Holds desk cs' ps' hs es') t (add_vertex desk (crossing_point f p q) t) w
+        → Came answered_by Err (Holds desk cs' ps' hs es') t whole (Err n)
     not_added n h (went j u o l H) = let r : ◌≡◌ {A = ℕ} 0 1 = cc in absurd (omega arith)
     not_added n h (stopped j u o l z H) =
         let r : n ≡ j = cc in
-        stopped j u (ap (λ (y : Outcome ℕ). after_ends (cut_of t.dimension k) (element t e) (next y (λ v. give (crossed_of v g)))) o) (ap reply.Refused r) z H
+        stopped j u (ap (λ (y : Outcome ℕ). after_ends (cut_of t.dimension k) (element t e) (next y (λ v. give (crossed_of v g)))) o) (ap Err r) z H
 
-  pub crossed_refused : {ix' : List ℕ} → CrossedReady cs ps es e k s x → Indexed es' (get_or cs' 1 0) ix' → (n : ℕ) → w ≡ placed.Refused n → CrossedLeft cs ps es e k s x (reply.Refused n) cs' ps' es' ix' s
+  pub crossed_refused : {ix' : List ℕ} → CrossedReady cs ps es e k s x → Indexed es' (get_or cs' 1 0) ix' → (n : ℕ) → w ≡ Err n → CrossedLeft cs ps es e k s x (Err n) cs' ps' es' ix' s
   crossed_refused R indexed n h = record {
     cut = record { of = λ hs t p q f g X. not_added X n h (added X) };
     indexed = indexed;
     used = record { shaped = R.fit.sized.shaped; warning = refl };
   }
 
-  module _ (v : ElementId) (h : w ≡ placed.At v) where
+  module _ (v : ElementId) (h : w ≡ Ok v) where
     -- the number fits a word
     pub crossed_low : CrossedReady cs ps es e k s x → v.0 < 512
     crossed_low R = left_low R.fit v.0 (left R.fit v.0 h)
@@ -158,7 +156,7 @@ module _ {cs : List ℕ} {ps : List Float} {es : List ℕ} {e : ℕ} {k : Cutter
           let Q = left R.fit v.0 h in
           record { points = ps'; planes = R.planes; table = Q.table; gathered = crossed_of v.0 R.gathered; fit = left_ready R.fit v.0 Q C; indexed = indexed }
 
-      pub crossed_done : {y : ElementReply} {cs'' es'' ix'' : List ℕ} {s'' : List (List ℕ)} → Rule6Done cs' es' 1 e k s' y cs'' es'' ix'' s'' → CrossedLeft cs ps es e k s x y cs'' ps' es'' ix'' s''
+      pub crossed_done : {y : Reply ElementCutOutput} {cs'' es'' ix'' : List ℕ} {s'' : List (List ℕ)} → Rule6Done cs' es' 1 e k s' y cs'' es'' ix'' s'' → CrossedLeft cs ps es e k s x y cs'' ps' es'' ix'' s''
       crossed_done D = record {
         cut = record {
           of = λ hs t p q f g X. (let Q = left X v.0 h in after_left X v.0 Q (D.of ps' hs Q.table (crossed_of v.0 g) (left_ready X v.0 Q C)));
@@ -301,13 +299,13 @@ module _ (k : Cutter) (d : ℕ) (r : EdgeEnds) (sa sb : Float) where
         indexed = A.indexed;
       }
 
-      pub missed_cut : {y : ElementReply} {cs' es' ix' : List ℕ} {s₃ : List (List ℕ)} → z.crossing ≡ None → Rule6Done cs es 1 e k s₂ y cs' es' ix' s₃
+      pub missed_cut : {y : Reply ElementCutOutput} {cs' es' ix' : List ℕ} {s₃ : List (List ℕ)} → z.crossing ≡ None → Rule6Done cs es 1 e k s₂ y cs' es' ix' s₃
           → LowLeft cs ps es 1 e k s y cs' ps es' ix' s₃
       missed_cut {y} {cs'} {es'} {s₃ = s₃} m D = record {
         cut = record {
           of = λ hs t F.
               told_by (noted_by s₃ m D.used.warning F)
-              (subst (λ (o : Outcome ElementAnswer). Came answered_by reply.Refused (Holds desk cs' ps hs es') t o y) (sym (opened F None (crossing_is says m)))
+              (subst (λ (o : Outcome ElementAnswer). Came answered_by Err (Holds desk cs' ps hs es') t o y) (sym (opened F None (crossing_is says m)))
               (D.of ps hs t answered (missed_fit F)));
         };
         indexed = D.indexed;
@@ -339,13 +337,13 @@ module _ (k : Cutter) (d : ℕ) (r : EdgeEnds) (sa sb : Float) where
           fit = crossing_fit R.fit;
         }
 
-        pub crossing_cut : {y : ElementReply} {cs' : List ℕ} {ps' : List Float} {es' ix' : List ℕ} {s₃ : List (List ℕ)} → z.crossing ≡ Some f → CrossedLeft cs ps es e k s₂ x y cs' ps' es' ix' s₃
+        pub crossing_cut : {y : Reply ElementCutOutput} {cs' : List ℕ} {ps' : List Float} {es' ix' : List ℕ} {s₃ : List (List ℕ)} → z.crossing ≡ Some f → CrossedLeft cs ps es e k s₂ x y cs' ps' es' ix' s₃
             → LowLeft cs ps es 1 e k s y cs' ps' es' ix' s₃
         crossing_cut {y} {cs'} {ps'} {es'} {s₃ = s₃} m D = record {
           cut = record {
             of = λ hs t F.
                 told_by (noted_by s₃ m D.used.warning F)
-                (subst (λ (o : Outcome ElementAnswer). Came answered_by reply.Refused (Holds desk cs' ps' hs es') t o y) (sym (opened F (Some f) (crossing_is says m)))
+                (subst (λ (o : Outcome ElementAnswer). Came answered_by Err (Holds desk cs' ps' hs es') t o y) (sym (opened F (Some f) (crossing_is says m)))
                 (D.cut.of hs t (point_at t a) (point_at t b) f answered (crossing_fit F)));
           };
           indexed = D.indexed;
@@ -354,6 +352,6 @@ module _ (k : Cutter) (d : ℕ) (r : EdgeEnds) (sa sb : Float) where
 
 -- ---- an element of rank 1
 
-pub edge_left : {cs : List ℕ} {ps : List Float} {es : List ℕ} {r e : ℕ} {k : Cutter} {s : List (List ℕ)} {y : ElementReply} {cs' : List ℕ} {ps' : List Float} {es' ix' : List ℕ} {s' : List (List ℕ)} → r ≡ 1
+pub edge_left : {cs : List ℕ} {ps : List Float} {es : List ℕ} {r e : ℕ} {k : Cutter} {s : List (List ℕ)} {y : Reply ElementCutOutput} {cs' : List ℕ} {ps' : List Float} {es' ix' : List ℕ} {s' : List (List ℕ)} → r ≡ 1
     → LowLeft cs ps es 1 e k s y cs' ps' es' ix' s' → LowLeft cs ps es r e k s y cs' ps' es' ix' s'
 edge_left {cs} {ps} {es} {r} {e} {k} {s} {y} {cs'} {ps'} {es'} {ix'} {s'} q C = subst (λ (n : ℕ). LowLeft cs ps es n e k s y cs' ps' es' ix' s') (sym q) C

@@ -16,7 +16,6 @@ use Rattle.rules.specs.Held.{points_of}
 use Rattle.rules.specs.Cut.{corner_output, distance_of, cut_element, cut_corner}
 use Rattle.rules.specs.declared.ElementCutOutput.{ElementCutOutput}
 use Rattle.rules.specs.declared.SideTest.{SideTest}
-use Rattle.gathered.specs.declared.answer.ElementReply.TheVariants as reply
 use Rattle.hypermath.specs.Answers.{distance_to}
 use Rattle.rules.proofs.Corners.{corner_named_lem}
 use Rattle.rules.proofs.Good.{Good, sound_good, above_zero}
@@ -34,6 +33,7 @@ use Rattle.gathered.specs.Cutting.{Fit, cut_of, went}
 use Rattle.rules.specs.declared.Cutter.{Cutter}
 use Rattle.ends.specs.Ends.{PointAsked, CornerReady, corner_at, CornerCut}
 use Rattle.ends.specs.Elements.{LowAsked, LowLeft}
+use Rattle.std.specs.Prelude.{Ok}
 
 module _ {cs : List ℕ} {ps hs : List Float} {es : List ℕ} {e : ℕ} {k : Cutter} {t : Table} (F : Fit cs ps hs es 0 e k t) where
   good : Good desk t
@@ -110,13 +110,13 @@ pub corner_ready : {cs : List ℕ} {ps : List Float} {es ix : List ℕ} {e : ℕ
 corner_ready A = record { ready = A.ready; shaped = A.shaped }
 
 pub corner_left : {cs : List ℕ} {ps : List Float} {es ix : List ℕ} {r e : ℕ} {k : Cutter} {s s' : List (List ℕ)} {y : ElementCutOutput} → r ≡ 0 → CornerCut cs ps es e k s y s'
-    → Indexed es (get_or cs 1 0) ix → LowLeft cs ps es r e k s (reply.Answered y) cs ps es ix s'
+    → Indexed es (get_or cs 1 0) ix → LowLeft cs ps es r e k s (Ok y) cs ps es ix s'
 unfolding cut_element cut_corner
 corner_left {cs} {ps} {es} {ix} {r} {e} {k} q C I = record {
   cut = record {
     of = λ hs t F.
         (let G : Fit cs ps hs es 0 e k t = subst (λ (n : ℕ). Fit cs ps hs es n e k t) q F in
-        went (corner_at k t e) t (ap (λ (n : ℕ). cut_element desk (cut_of t.dimension k) n e t) q) (ap reply.Answered (C.of hs t G)) (C.warning hs t G) F.holds);
+        went (corner_at k t e) t (ap (λ (n : ℕ). cut_element desk (cut_of t.dimension k) n e t) q) (ap Ok (C.of hs t G)) (C.warning hs t G) F.holds);
   };
   indexed = I;
   shaped = C.shaped;

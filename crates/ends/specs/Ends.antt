@@ -1,5 +1,5 @@
 -- What rules 3 and 4 do: the cut of a vertex, and of an edge by its two ends. Definitions only.
-use Rattle.std.specs.Prelude.{ℕ, ◌+◌, ◌*◌, ◌<◌, ◌≡◌, true, ◌||◌, List, [], ◌∷◌, length, get_or, Float, Some}
+use Rattle.std.specs.Prelude.{ℕ, ◌+◌, ◌*◌, ◌<◌, ◌≡◌, true, ◌||◌, List, [], ◌∷◌, length, get_or, Float, Some, Err}
 use Rattle.rules.specs.Limits.{desk}
 use Rattle.rules.specs.Lists.{pad}
 use Rattle.rules.specs.Floats.{plus_zero, side_test, crossing_point}
@@ -9,8 +9,6 @@ use Rattle.rules.specs.Held.{Holds, Came, Sets}
 use Rattle.rules.specs.Cut.{Outcome, next, Cutting, Gathered, corner_answer, distance_of, gathering, nothing_yet, cross_edge, rule6}
 use Rattle.rules.specs.declared.ElementCutOutput.{ElementCutOutput}
 use Rattle.rules.specs.declared.ElementAnswer.{ElementAnswer}
-use Rattle.gathered.specs.declared.answer.ElementReply.{ElementReply}
-use Rattle.gathered.specs.declared.answer.ElementReply.TheVariants as reply
 use Rattle.space.specs.Chains.{Indexed}
 use Rattle.space.specs.Shared.{stored_point}
 use Rattle.gathered.specs.Sets.{Gathers, Shaped, Sized, Used, warning_in}
@@ -18,6 +16,7 @@ use Rattle.gathered.specs.Cutting.{Fit, cut_of, answered_by}
 use Rattle.rules.specs.declared.Cutter.{Cutter}
 use Rattle.ends.specs.declared.EdgeEnds.{EdgeEnds}
 use Rattle.ends.specs.Elements.{Ready}
+use Rattle.rules.specs.Refusals.{Reply}
 
 -- ---- a vertex
 
@@ -108,10 +107,10 @@ pub record CrossedReady (cs : List ℕ) (ps : List Float) (es : List ℕ) (e : �
   pub fit : CrossedFit cs ps planes es e k s x table low high parameter gathered
 
 -- whatever such table the memory holds: the crossing is matched or appended, and then rule 6
-pub record CrossedCut (cs : List ℕ) (ps : List Float) (es : List ℕ) (e : ℕ) (k : Cutter) (s : List (List ℕ)) (x : List Float) (y : ElementReply)
+pub record CrossedCut (cs : List ℕ) (ps : List Float) (es : List ℕ) (e : ℕ) (k : Cutter) (s : List (List ℕ)) (x : List Float) (y : Reply ElementCutOutput)
     (cs' : List ℕ) (ps' : List Float) (es' : List ℕ) : Type 0 where
   pub of : (hs : List Float) (t : Table) (p q : List Float) (f : Float) (g : Gathered) → CrossedFit cs ps hs es e k s x t p q f g
-      → Came answered_by reply.Refused (Holds desk cs' ps' hs es') t (after_ends (cut_of t.dimension k) (element t e) (cross_edge desk p q (Some f) g t)) y
+      → Came answered_by Err (Holds desk cs' ps' hs es') t (after_ends (cut_of t.dimension k) (element t e) (cross_edge desk p q (Some f) g t)) y
 
 -- such a memory, with its rows indexed
 pub record CrossedAsked (cs : List ℕ) (ps : List Float) (es ix : List ℕ) (e : ℕ) (k : Cutter) (s : List (List ℕ)) (x : List Float) : Type 0 where
@@ -119,7 +118,7 @@ pub record CrossedAsked (cs : List ℕ) (ps : List Float) (es ix : List ℕ) (e 
   pub indexed : Indexed es (get_or cs 1 0) ix
 
 -- what stands afterwards, its rows indexed as well, and the room with the cut's warning as it was
-pub record CrossedLeft (cs : List ℕ) (ps : List Float) (es : List ℕ) (e : ℕ) (k : Cutter) (s : List (List ℕ)) (x : List Float) (y : ElementReply)
+pub record CrossedLeft (cs : List ℕ) (ps : List Float) (es : List ℕ) (e : ℕ) (k : Cutter) (s : List (List ℕ)) (x : List Float) (y : Reply ElementCutOutput)
     (cs' : List ℕ) (ps' : List Float) (es' ix' : List ℕ) (s' : List (List ℕ)) : Type 0 where
   pub cut : CrossedCut cs ps es e k s x y cs' ps' es'
   pub indexed : Indexed es' (get_or cs' 1 0) ix'

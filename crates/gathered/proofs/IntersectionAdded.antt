@@ -1,5 +1,5 @@
 -- The gathered intersections, added as an element of the rank below: the call of rule 8 is the step of the rules.
-use Rattle.std.specs.Prelude.{if◌then◌else◌, Option, Some, None}
+use Rattle.std.specs.Prelude.{if◌then◌else◌, Option, Some, None, Ok, Err}
 use Prim.Native.Nat.{ℕ, ◌-◌, ◌≤◌, ◌<◌}
 use mathlib.Core.Path.{◌≡◌, refl, sym, ap, ◌∙◌, subst}
 use mathlib.Core.Bool.{Bool, true, false}
@@ -22,14 +22,14 @@ use Rattle.space.specs.Ready.{PolytopeReady}
 use Rattle.space.specs.Chains.{Indexed}
 use Rattle.space.specs.Closed.{Low, LowEnds}
 use Rattle.space.specs.Shared.{PolytopeAdded}
-use Rattle.space.specs.declared.memo.Added.{Added}
-use Rattle.space.specs.declared.memo.Added.TheVariants as added
 use Rattle.space.proofs.VertexMemo.{dimension_is}
 use Rattle.space.proofs.Slices.{slices}
 use Rattle.gathered.specs.Sets.{size_in, numbers_in}
 use Rattle.gathered.specs.Cutting.{cut_of, PlaneReady, IntersectionFit, IntersectionReady, IntersectionMade}
 use Rattle.rules.specs.declared.Cutter.{Cutter}
 use Rattle.gathered.proofs.Fitting.{low_of, edges_of, ends_low}
+use Rattle.rules.specs.Refusals.{Reply}
+use Rattle.rules.specs.declared.ElementId.{ElementId}
 
 -- FFFF is no number in use
 named : (n : ℕ) → n < 65535 → (b : Bool) → plane_named (if b then n else no_plane) ≡ (if b then Some n else None)
@@ -72,11 +72,11 @@ module _ {cs es : List ℕ} {r : ℕ} {k : Cutter} {set : List ℕ} where
       ap plane_named (p ∙ ap (λ (d : ℕ). if eqb r d then k.number.0 else no_plane) (dimension_is (get_or cs 0 0) refl F.holds))
       ∙ named k.number.0 (let z : k.number.0 < 65535 = omega (arith, few) in z) (eqb r t.dimension)
 
-  pub intersection_made : {y : Added} {cs' es' ix' : List ℕ} (plane n : ℕ) → n ≡ size_in set → plane ≡ (if eqb r (get_or cs 0 0) then k.number.0 else no_plane)
+  pub intersection_made : {y : Reply (Option ElementId)} {cs' es' ix' : List ℕ} (plane n : ℕ) → n ≡ size_in set → plane ≡ (if eqb r (get_or cs 0 0) then k.number.0 else no_plane)
       → PolytopeAdded cs es (r - 1) (take n set) plane false y cs' es' → Indexed es' (get_or cs' 1 0) ix' → IntersectionMade cs es r k set y cs' es' ix'
   intersection_made {y} {cs'} {es'} plane n size p A indexed = record {
     of = λ ps hs t F.
-        subst (λ (h : Option ℕ). Came added.Made added.Refused (Holds desk cs' ps hs es') t (add_polytope desk (r - 1) (numbers_in set) h false t) y) (plane_is plane p F)
+        subst (λ (h : Option ℕ). Came Ok Err (Holds desk cs' ps hs es') t (add_polytope desk (r - 1) (numbers_in set) h false t) y) (plane_is plane p F)
         ((subst (λ (m : ℕ). PolytopeAdded cs es (r - 1) (take m set) plane false y cs' es') size A).of ps hs t F.holds
         (λ l. le_test 1 (r - 1) (rank_above t (r - 1) (numbers_in set) F.sets (lt-leb (length (numbers_in set)) (r - 1) l)))
         (λ two. edges_of t (sound_good desk t F.sound) (numbers_in set) F.sets.rising (subst (λ (n : ℕ). AllOf (Ranked t n) (numbers_in set)) two F.sets.ranked)));

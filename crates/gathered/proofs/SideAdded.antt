@@ -27,8 +27,6 @@ use Rattle.space.specs.Ready.{ElementReady, PolytopeReady}
 use Rattle.space.specs.Chains.{Indexed}
 use Rattle.space.specs.Closed.{Low, LowEnds, Edges}
 use Rattle.space.specs.Shared.{PolytopeAdded}
-use Rattle.space.specs.declared.memo.Added.{Added}
-use Rattle.space.specs.declared.memo.Added.TheVariants as added
 use Rattle.space.proofs.Room.{size_of, list_of, plane_word, mark_word, size_word_lem, list_word_lem}
 use Rattle.space.proofs.RowAdds.{readable_desk}
 use Rattle.space.proofs.Slices.{slices}
@@ -36,7 +34,8 @@ use Rattle.gathered.specs.Sets.{size_in, numbers_in, IncludeReady, Included}
 use Rattle.gathered.specs.Cutting.{RowReadable, OwnBoundary, SideFit, SideReady, SideMade}
 use Rattle.gathered.proofs.Fitting.{some_fits, low_of, edges_of, ends_low, rank_low}
 use Rattle.rules.specs.declared.ElementId.{ElementId}
-use Rattle.std.specs.Prelude.{Option, None}
+use Rattle.std.specs.Prelude.{Option, None, Ok, Err}
+use Rattle.rules.specs.Refusals.{Reply}
 
 -- a row that fits names its hyperplane, or none
 plane_named_lem : (z : Element) → fitting desk z ≡ true → plane_named (plane_number (plane_of z)) ≡ plane_of z
@@ -89,7 +88,7 @@ module _ {cs es : List ℕ} {r e : ℕ} {set : List ℕ} {x : Option ElementId} 
         index = R.indexed;
       }
 
-  pub side_removed : {ix : List ℕ} {keep : Bool} → SideReady cs es ix r e set x → keep ≡ false → SideMade cs es r e keep set x (added.Made None) cs es ix set
+  pub side_removed : {ix : List ℕ} {keep : Bool} → SideReady cs es ix r e set x → keep ≡ false → SideMade cs es r e keep set x (Ok None) cs es ix set
   side_removed R q = record {
     of = λ ps hs t F. went None t (ap (λ (b : Bool). side_of_cut desk b (element t e) x (numbers_in set) t) q) refl F.holds;
     indexed = R.indexed;
@@ -155,7 +154,7 @@ module _ {cs es : List ℕ} {r e : ℕ} {set : List ℕ} {x : Option ElementId} 
   }
 
   pub side_own : {ix : List ℕ} {keep : Bool} → SideReady cs es ix r e set x → (all : List ℕ) (n : ℕ) → n ≡ size_in all → keep ≡ true → Included set x all → OwnBoundary es e all n
-      → SideMade cs es r e keep set x (added.Made (given e)) cs es ix all
+      → SideMade cs es r e keep set x (Ok (given e)) cs es ix all
   side_own R all n size q I O = record {
     of = λ ps hs t F.
         went (given e) t (ap (λ (b : Bool). side_of_cut desk b (element t e) x (numbers_in set) t) q ∙ own_found F all n size I O) refl F.holds;
@@ -163,12 +162,12 @@ module _ {cs es : List ℕ} {r e : ℕ} {set : List ℕ} {x : Option ElementId} 
     long = (I.sized 32 R.fit.sized).long;
   }
 
-  pub side_kept : {ix : List ℕ} {keep : Bool} {y : Added} {cs' es' ix' : List ℕ} → SideReady cs es ix r e set x → (plane : ℕ) (mark : Bool) (all : List ℕ) (n : ℕ) → n ≡ size_in all → keep ≡ true
+  pub side_kept : {ix : List ℕ} {keep : Bool} {y : Reply (Option ElementId)} {cs' es' ix' : List ℕ} → SideReady cs es ix r e set x → (plane : ℕ) (mark : Bool) (all : List ℕ) (n : ℕ) → n ≡ size_in all → keep ≡ true
       → plane ≡ get_or es (e * 36 + 2) 0 → mark ≡ eqb (get_or es (e * 36 + 1) 0) 1 → Included set x all
       → PolytopeAdded cs es r (take n all) plane mark y cs' es' → Indexed es' (get_or cs' 1 0) ix' → SideMade cs es r e keep set x y cs' es' ix' all
   side_kept {ix} {keep} {y} {cs'} {es'} R plane mark all n size q p m I A indexed = record {
     of = λ ps hs t F.
-        subst (λ (o : Outcome (Option ElementId)). Came added.Made added.Refused (Holds desk cs' ps hs es') t o y)
+        subst (λ (o : Outcome (Option ElementId)). Came Ok Err (Holds desk cs' ps hs es') t o y)
         ((λ i. add_polytope desk (sym F.ranked i) (I.of i) (own_plane F plane p i) (own_mark F mark m i) t) ∙ sym (ap (λ (b : Bool). side_of_cut desk b (element t e) x (numbers_in set) t) q))
         ((subst (λ (j : ℕ). PolytopeAdded cs es r (take j all) plane mark y cs' es') size A).of ps hs t F.holds (λ l. F.some) (side_edges F (numbers_in all) I.of));
     indexed = indexed;

@@ -1,5 +1,5 @@
 -- When an element whose boundary has answered may go on, and what rules 6 to 8 then give: the steps of the rules. Definitions only.
-use Rattle.std.specs.Prelude.{ℕ, ◌+◌, ◌-◌, ◌*◌, ◌≤◌, ◌<◌, ◌≡◌, Bool, true, ◌||◌, List, length, get_or, Float, Option}
+use Rattle.std.specs.Prelude.{ℕ, ◌+◌, ◌-◌, ◌*◌, ◌≤◌, ◌<◌, ◌≡◌, Bool, true, ◌||◌, List, length, get_or, Float, Option, Ok, Err}
 use Rattle.rules.specs.Limits.{desk}
 use Rattle.rules.specs.Table.{Table, element_count, rank, element}
 use Rattle.rules.specs.Sound.{sound}
@@ -8,13 +8,11 @@ use Rattle.rules.specs.Replies.{params_of}
 use Rattle.rules.specs.Held.{Extends, Holds, Came, Sets, SetOf, SomeOf}
 use Rattle.rules.specs.declared.ElementAnswer.{ElementAnswer}
 use Rattle.space.specs.Chains.{Indexed}
-use Rattle.space.specs.declared.memo.Added.{Added}
-use Rattle.space.specs.declared.memo.Added.TheVariants as added
-use Rattle.gathered.specs.declared.answer.ElementReply.{ElementReply}
-use Rattle.gathered.specs.declared.answer.ElementReply.TheVariants as reply
 use Rattle.gathered.specs.Sets.{inside_in, outside_in, numbers_in, SizedSet, Shaped, Sized, Gathers, Used}
 use Rattle.rules.specs.declared.Cutter.{Cutter}
 use Rattle.rules.specs.declared.ElementId.{ElementId}
+use Rattle.rules.specs.Refusals.{Reply}
+use Rattle.rules.specs.declared.ElementCutOutput.{ElementCutOutput}
 
 -- ---- the cut of one element
 
@@ -56,9 +54,9 @@ pub record PlaneReady (cs : List ℕ) (n : ℕ) : Type 0 where
   pub room : n < desk.hyperplanes
 
 -- whatever such table the memory holds: the intersection's step; and the index leads to the rows of after
-pub record IntersectionMade (cs es : List ℕ) (r : ℕ) (k : Cutter) (set : List ℕ) (y : Added) (cs' es' ix' : List ℕ) : Type 0 where
+pub record IntersectionMade (cs es : List ℕ) (r : ℕ) (k : Cutter) (set : List ℕ) (y : Reply (Option ElementId)) (cs' es' ix' : List ℕ) : Type 0 where
   pub of : (ps hs : List Float) (t : Table) → IntersectionFit cs ps hs es r k set t
-      → Came added.Made added.Refused (Holds desk cs' ps hs es') t (new_intersection desk (cut_of t.dimension k) r (numbers_in set) t) y
+      → Came Ok Err (Holds desk cs' ps hs es') t (new_intersection desk (cut_of t.dimension k) r (numbers_in set) t) y
   pub indexed : Indexed es' (get_or cs' 1 0) ix'
 
 -- ---- a side
@@ -99,22 +97,22 @@ pub record OwnTold (es : List ℕ) (e : ℕ) (list : List ℕ) (n : ℕ) (r : Bo
   pub wherever : OwnBoundary es e list n → r ≡ true
 
 -- whatever such table the memory holds: the side's step; the index leads to the rows of after, and the set has its words
-pub record SideMade (cs es : List ℕ) (r e : ℕ) (keep : Bool) (set : List ℕ) (x : Option ElementId) (y : Added) (cs' es' ix' set' : List ℕ) : Type 0 where
+pub record SideMade (cs es : List ℕ) (r e : ℕ) (keep : Bool) (set : List ℕ) (x : Option ElementId) (y : Reply (Option ElementId)) (cs' es' ix' set' : List ℕ) : Type 0 where
   pub of : (ps hs : List Float) (t : Table) → SideFit cs ps hs es r e set x t
-      → Came added.Made added.Refused (Holds desk cs' ps hs es') t (side_of_cut desk keep (element t e) x (numbers_in set) t) y
+      → Came Ok Err (Holds desk cs' ps hs es') t (side_of_cut desk keep (element t e) x (numbers_in set) t) y
   pub indexed : Indexed es' (get_or cs' 1 0) ix'
   pub long : length set' ≡ 34
 
 -- ---- an answer of the rules, as code gives it
 
 -- its output; its warning is in the room
-abbrev pub answered_by : ElementAnswer → ElementReply
-answered_by a = reply.Answered a.output
+abbrev pub answered_by : ElementAnswer → Reply ElementCutOutput
+answered_by a = Ok a.output
 
 -- the answer of a step, the cut's warning with its own, and the memory of the table that it gives; or its refusal, and the memory of some table that goes on from the one before
-pub data Told (H : Table → Type 0) (t : Table) (o : Outcome ElementAnswer) (y : ElementReply) (v w : Bool) : Type 0 where
+pub data Told (H : Table → Type 0) (t : Table) (o : Outcome ElementAnswer) (y : Reply ElementCutOutput) (v w : Bool) : Type 0 where
   went : (a : ElementAnswer) (u : Table) → o ≡ done a u → y ≡ answered_by a → w ≡ (v || a.warning) → H u → Told H t o y v w
-  stopped : (n : ℕ) (u : Table) → o ≡ refused n → y ≡ reply.Refused n → Extends t u → H u → Told H t o y v w
+  stopped : (n : ℕ) (u : Table) → o ≡ refused n → y ≡ Err n → Extends t u → H u → Told H t o y v w
 
 -- ---- rule 6
 
@@ -136,9 +134,9 @@ pub record Rule6Ready (cs es ix : List ℕ) (r e : ℕ) (k : Cutter) (s : List (
   pub indexed : Indexed es (get_or cs 1 0) ix
 
 -- whatever such table the memory holds, and whatever is gathered: rule 6; the index leads to the rows of after, and the room is as it was but for its sets
-pub record Rule6Done (cs es : List ℕ) (r e : ℕ) (k : Cutter) (s : List (List ℕ)) (y : ElementReply) (cs' es' ix' : List ℕ) (s' : List (List ℕ)) : Type 0 where
+pub record Rule6Done (cs es : List ℕ) (r e : ℕ) (k : Cutter) (s : List (List ℕ)) (y : Reply ElementCutOutput) (cs' es' ix' : List ℕ) (s' : List (List ℕ)) : Type 0 where
   pub of : (ps hs : List Float) (t : Table) (g : Gathered) → Rule6Fit cs ps hs es r e k s t g
-      → Came answered_by reply.Refused (Holds desk cs' ps hs es') t (rule6 desk (cut_of t.dimension k) (element t e) g g.flush t) y
+      → Came answered_by Err (Holds desk cs' ps hs es') t (rule6 desk (cut_of t.dimension k) (element t e) g g.flush t) y
   pub indexed : Indexed es' (get_or cs' 1 0) ix'
   pub used : Used s s'
 
@@ -169,8 +167,8 @@ pub record Rule7Ready (cs es ix : List ℕ) (r e : ℕ) (k : Cutter) (s : List (
   pub indexed : Indexed es (get_or cs 1 0) ix
 
 -- whatever such table the memory holds, and whatever is gathered: rule 7; the index leads to the rows of after, and the room is as it was but for its sets
-pub record Rule7Done (cs es : List ℕ) (r e : ℕ) (k : Cutter) (s : List (List ℕ)) (x : Option ElementId) (y : ElementReply) (cs' es' ix' : List ℕ) (s' : List (List ℕ)) : Type 0 where
+pub record Rule7Done (cs es : List ℕ) (r e : ℕ) (k : Cutter) (s : List (List ℕ)) (x : Option ElementId) (y : Reply ElementCutOutput) (cs' es' ix' : List ℕ) (s' : List (List ℕ)) : Type 0 where
   pub of : (ps hs : List Float) (t : Table) (g : Gathered) → Rule7Fit cs ps hs es r e k s x t g
-      → Came answered_by reply.Refused (Holds desk cs' ps hs es') t (rule7 desk (cut_of t.dimension k) (element t e) g x t) y
+      → Came answered_by Err (Holds desk cs' ps hs es') t (rule7 desk (cut_of t.dimension k) (element t e) g x t) y
   pub indexed : Indexed es' (get_or cs' 1 0) ix'
   pub used : Used s s'

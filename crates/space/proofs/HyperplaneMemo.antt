@@ -1,5 +1,5 @@
 -- Sharing a hyperplane is the step of the rules; and its search, over the hyperplanes that are read back, is theirs.
-use Rattle.std.specs.Prelude.{if◌then◌else◌, Option, Some, None}
+use Rattle.std.specs.Prelude.{if◌then◌else◌, Option, Some, None, Ok, Err}
 use Prim.Native.Nat.{ℕ, ◌<◌, zero, suc, ◌≤◌, ◌*◌, ◌+◌}
 use mathlib.Core.Bool.{Bool, true, false}
 use mathlib.Core.List.{List, ◌∷◌, []}
@@ -27,14 +27,14 @@ use Rattle.rules.proofs.Good.{Good, sound_good}
 use Rattle.rules.proofs.Laws.{le_test}
 use Rattle.rules.proofs.RoundTrip.{plane_read, plane_long}
 use Rattle.rules.proofs.Rows.{read_rows}
-use Rattle.space.specs.declared.memo.PlacedHyperplane.{PlacedHyperplane}
 use Rattle.space.specs.Shared.{five, new_hyperplane, hyperplane_by, plane_outcome, plane_found, hyperplane_outcome, HyperplaneShared, hyperplane_at, row_of, HyperplaneAdded}
 use Rattle.space.proofs.Room.{wide_more, plane_counted_lem, plane_stored}
 use Rattle.space.proofs.RowAdds.{readable_desk}
 use Rattle.space.proofs.Slices.{slices}
 use Rattle.space.proofs.VertexMemo.{four_is, dimension_is}
 use borrow.Author.Tests.{le-ltb, lt-ltb}
-use Rattle.space.specs.declared.memo.PlacedHyperplane.TheVariants as hyperplane
+use Rattle.rules.specs.declared.Refusal.TheVariants.{HyperplanesFull}
+use Rattle.rules.specs.Refusals.{Reply}
 use Rattle.rules.specs.declared.Refusal.TheVariants.{HyperplanesFull}
 
 pub primordials_none : (d : ℕ) → d < 2 → 0 ≡ primordials d
@@ -73,7 +73,7 @@ unfolding plane_outcome
 by_room cs hs row m e b t = ap (λ (x : Option HyperplaneId). plane_outcome cs hs row (hyperplane_number x)) e ∙ ap (hyperplane_by cs hs row) t
 
 module _ {cs : List ℕ} {hs : List Float} {row : List Float} {m : Option HyperplaneId} where
-  pub shared_old : (k : HyperplaneId) → m ≡ Some k → HyperplaneShared cs hs row m (hyperplane.At k) cs hs
+  pub shared_old : (k : HyperplaneId) → m ≡ Some k → HyperplaneShared cs hs row m (Ok k) cs hs
   unfolding plane_outcome
   shared_old k e = record {
     words = sym (ap (λ (x : Option HyperplaneId). plane_outcome cs hs row (hyperplane_number x)) e);
@@ -81,11 +81,11 @@ module _ {cs : List ℕ} {hs : List Float} {row : List Float} {m : Option Hyperp
   }
 
   module _ (n : ℕ) (k : n ≡ get_or cs 3 0) (e : m ≡ None) where
-    pub shared_full : 64 ≤ n → HyperplaneShared cs hs row m (hyperplane.Refused 10) cs hs
+    pub shared_full : 64 ≤ n → HyperplaneShared cs hs row m (Err HyperplanesFull) cs hs
     shared_full h = record {
       words = sym (by_room cs hs row m e false (le-ltb (get_or cs 3 0) 64 (subst (λ (i : ℕ). 64 ≤ i) k h)));
       of = λ ps es t g H w l.
-          stopped 10 t
+          stopped HyperplanesFull t
           (ap (λ (x : Option HyperplaneId). share_plane desk g (hyperplane_number x) t) e
           ∙ ap (λ (b : Bool). if b then done (length t.planes) (with_plane g t) else refused HyperplanesFull) (le-ltb (length t.planes) 64 (subst (λ (i : ℕ). 64 ≤ i) (number n k H) h)))
           refl (extends_refl t) H;
@@ -144,7 +144,7 @@ plane_is d l h k g w s =
     (λ i. divider_of d (record { normal = sym (four_is h.normal k) i; distance = h.distance }))
     ∙ ap (λ (row : List Float). divider_of d (hyperplane_of row)) w ∙ row_back d l g s
 
-pub hyperplane_added : {cs : List ℕ} {hs : List Float} {h : Hyperplane} {row : List Float} {m : Option HyperplaneId} {r : PlacedHyperplane} {cs' : List ℕ} {hs' : List Float} (d k n : ℕ)
+pub hyperplane_added : {cs : List ℕ} {hs : List Float} {h : Hyperplane} {row : List Float} {m : Option HyperplaneId} {r : Reply HyperplaneId} {cs' : List ℕ} {hs' : List Float} (d k n : ℕ)
     → d ≡ get_or cs 0 0 → k ≡ primordials d → n ≡ get_or cs 3 0 → length h.normal ≡ 4 → row ≡ row_of h
     → hyperplane_number m ≡ find_from k (λ g. plane_matches g (divider_of d h)) (drop k (planes_in d n hs)) → HyperplaneShared cs hs row m r cs' hs' → HyperplaneAdded cs hs h r cs' hs'
 unfolding add_plane hyperplane_outcome
@@ -159,5 +159,5 @@ hyperplane_added {cs} {hs} {h} {row} {m} {r} {cs'} {hs'} d k n hd hk hn long hr 
       let o : hyperplane_number m ≡ find_from P (λ x. plane_matches x g) (drop P t.planes) =
       f ∙ (λ a. find_from (p a) (λ x. plane_matches x (divider_of (j a) h)) (drop (p a) (planes_in (j a) (i a) (H.planes a))))
       ∙ ap₂ (λ (y : Plane) (xs : List Plane). find_from P (λ x. plane_matches x y) (drop P xs)) (plane_is t.dimension (le_test t.dimension 4 G.high) h long g w s) (planes_back t G) in
-      subst (λ (x : Option ℕ). Came hyperplane_at hyperplane.Refused (Holds desk cs' ps hs' es) t (share_plane desk g x t) r) o (S.of ps es t g H (hr ∙ w) (ap length hr)));
+      subst (λ (x : Option ℕ). Came hyperplane_at Err (Holds desk cs' ps hs' es) t (share_plane desk g x t) r) o (S.of ps es t g H (hr ∙ w) (ap length hr)));
 }

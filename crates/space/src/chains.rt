@@ -19,13 +19,6 @@ const SPREAD: usize = 91;
 // The words of the index.
 pub const INDEX: usize = KEYS + ELEMENTS;
 
-// The lowest element whose row is the given one, or none.
-#[derive(Clone, Copy)]
-pub enum FoundElement {
-    None,
-    At(ElementId),
-}
-
 // The row's first two boundary numbers, mixed: equal rows share it. A remainder, so that any words are a place in the index.
 pub fn key_of(words: &[u16], at: usize) -> usize
     requires { at + row_width ≤ length words.now }
@@ -69,21 +62,22 @@ fn last_met(elements: &[u16], n: usize, words: &[u16], from: usize, index: &[u16
     met
 }
 
+// The lowest element whose row is the given one, or none.
 pub fn find_row(
     elements: &[u16],
     n: usize,
     words: &[u16],
     from: usize,
     index: &[u16],
-) -> FoundElement
+) -> Option<ElementId>
     requires { SearchReady elements.now n words.now from index.now }
     ensures { element_number result ≡ find (alike eqb (take row_width (drop from words.now))) (rows n row_width elements.now) }
 {
     let met = last_met(elements, n, words, from, index);
     if met == 0 {
-        return FoundElement::None;
+        return None;
     }
-    FoundElement::At(ElementId(met - 1))
+    Some(ElementId(met - 1))
 }
 
 // Row n is the new start of its key's chain.

@@ -11,13 +11,6 @@ ghost use Rattle.space.specs.Ready.{ElementReady, BoundaryAtReady, PutRowReady, 
 use crate::words::{SET, WIDTH, wide};
 use rules::ElementId;
 
-// What adding an element gives.
-#[derive(Clone, Copy)]
-pub enum Placed {
-    Refused(u8),
-    At(ElementId),
-}
-
 pub fn rank_of(elements: &[u16], e: ElementId) -> usize
     requires { ElementReady elements.now e.0 }
     ensures { result ≡ get_or elements.now (e.0 * row_width) 0 }
