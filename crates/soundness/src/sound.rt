@@ -12,7 +12,7 @@ ghost use Rattle.soundness.specs.Tests.{PartOf, StoredReady, RowTested, RowsRead
 use crate::chains::row_new;
 use crate::floats::floats_sound;
 use crate::row::{HEAD, MASK, Spacing, one_if_corner, past_mask, row_sound};
-use rules::{ElementId, VertexId};
+use rules::{ElementId, Refusal, Reply, VertexId};
 use space::chains::INDEX;
 use space::words::{
     AXES, BOUNDARY, ELEMENT_WORDS, ELEMENTS, HYPERPLANES, VERTICES, WIDTH, right_size, wide,
@@ -173,12 +173,12 @@ pub fn memory_sound(counts: &[u16], points: &[f64], planes: &[f64], elements: &[
     memory_indexed(counts, points, planes, elements, &mut index)
 }
 
-// Document 01, `is_sound`: 0 when the memory is sound, 3 when not.
-pub fn is_sound(counts: &[u16], points: &[f64], planes: &[f64], elements: &[u16]) -> u8
+// Document 01, `is_sound`: done when the memory is sound, else 3.
+pub fn is_sound(counts: &[u16], points: &[f64], planes: &[f64], elements: &[u16]) -> Reply<()>
     ensures { result ≡ is_sound_reply desk (memory_of counts.now points.now planes.now elements.now) }
 {
     if memory_sound(counts, points, planes, elements) {
-        return 0;
+        return Ok(());
     }
-    3
+    Err(Refusal::NotSound)
 }

@@ -7,7 +7,7 @@ use Rattle.rules.specs.Memory.{sound_memory}
 use Rattle.rules.specs.Held.{memory_of}
 use Rattle.soundness.proofs.ReadBack.{and_one}
 use Rattle.soundness.proofs.AskedOnce.{counts_long, counted, three, four, none_refused}
-use Rattle.soundness.proofs.asked.root_refusal.Goals as goal
+use Rattle.soundness.proofs.asked.root_asked.Goals as goal
 
 pub returns-then-not-memory_sound : goal.returns-then-not-memory_sound
 returns-then-not-memory_sound c = three _ _ _ _ _ (sym c.memory_sound.ensures ∙ c.if-not-memory_sound.true)

@@ -2,7 +2,7 @@
 use mathlib.Core.Path.{sym, ◌∙◌}
 use native.Mathlib.Omega.{arith}
 use Rattle.soundness.proofs.AskedOnce.{counts_long, counted, three, four, none_refused}
-use Rattle.soundness.proofs.asked.roots_refusal.Goals as goal
+use Rattle.soundness.proofs.asked.roots_asked.Goals as goal
 
 pub returns-then-not-memory_sound : goal.returns-then-not-memory_sound
 returns-then-not-memory_sound c = three _ _ _ _ _ (sym c.memory_sound.ensures ∙ c.if-not-memory_sound.true)
