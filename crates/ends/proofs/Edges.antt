@@ -13,7 +13,7 @@ use Rattle.rules.specs.Lists.{pad}
 use Rattle.rules.specs.Floats.{plus_zero, close_call, side_of, side_test, crossing_of, edge_test, crossing_point}
 use Rattle.rules.specs.Table.{Element, Table, rank_of, rank, boundary, element, point_at}
 use Rattle.rules.specs.Held.{Extends, Holds, Came, went, stopped, Sets, Ranked}
-use Rattle.rules.specs.Cut.{Outcome, done, next, give, Cutting, Gathered, corner_answer, nothing_yet, gathering, add_vertex, cross_edge, cut_ends, cut_edge, cut_element, rule6}
+use Rattle.rules.specs.Cut.{Outcome, done, next, give, Cutting, Gathered, corner_answer, nothing_yet, gathering, add_vertex, cross_edge, cut_ends, cut_edge, cut_element, rule6, refused}
 use Rattle.rules.specs.declared.EdgeTest.{EdgeTest}
 use Rattle.rules.specs.declared.ElementId.{ElementId}
 use Rattle.rules.specs.declared.ElementAnswer.{ElementAnswer}
@@ -43,6 +43,7 @@ use Rattle.ends.proofs.Vertices as vertex
 use Rattle.std.specs.Prelude.{Option, Some, None, Ok, Err}
 use Rattle.rules.specs.Refusals.{Reply}
 use Rattle.rules.specs.declared.ElementCutOutput.{ElementCutOutput}
+use Rattle.rules.specs.declared.Refusal.{Refusal}
 
 -- ---- the crossing is matched or appended
 
@@ -131,14 +132,14 @@ module _ {cs : List ℕ} {ps : List Float} {es : List ℕ} {e : ℕ} {k : Cutter
       after_left (went a u o l H) = went a u (same ∙ o) l H
       after_left (stopped n u o l z H) = stopped n u (same ∙ o) l (extends_trans Q.kept.extends z) H
 
-    not_added : (n : ℕ) → w ≡ Err n → Came placed_at Err (Holds desk cs' ps' hs es') t (add_vertex desk (crossing_point f p q) t) w
+    not_added : (n : Refusal) → w ≡ Err n → Came placed_at Err (Holds desk cs' ps' hs es') t (add_vertex desk (crossing_point f p q) t) w
         → Came answered_by Err (Holds desk cs' ps' hs es') t whole (Err n)
     not_added n h (went j u o l H) = let r : ◌≡◌ {A = ℕ} 0 1 = cc in absurd (omega arith)
     not_added n h (stopped j u o l z H) =
         let r : n ≡ j = cc in
         stopped j u (ap (λ (y : Outcome ℕ). after_ends (cut_of t.dimension k) (element t e) (next y (λ v. give (crossed_of v g)))) o) (ap Err r) z H
 
-  pub crossed_refused : {ix' : List ℕ} → CrossedReady cs ps es e k s x → Indexed es' (get_or cs' 1 0) ix' → (n : ℕ) → w ≡ Err n → CrossedLeft cs ps es e k s x (Err n) cs' ps' es' ix' s
+  pub crossed_refused : {ix' : List ℕ} → CrossedReady cs ps es e k s x → Indexed es' (get_or cs' 1 0) ix' → (n : Refusal) → w ≡ Err n → CrossedLeft cs ps es e k s x (Err n) cs' ps' es' ix' s
   crossed_refused R indexed n h = record {
     cut = record { of = λ hs t p q f g X. not_added X n h (added X) };
     indexed = indexed;

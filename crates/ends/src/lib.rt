@@ -8,11 +8,9 @@ ghost use Rattle.space.specs.Shared.{stored_point};
 ghost use Rattle.ends.specs.Ends.{PointAsked, CornerReady, CornerCut, EndsReady, EndsRead, EndsAsked, EndsGathered, CrossedAsked, CrossedLeft};
 ghost use Rattle.ends.specs.Elements.{LowAsked, LowLeft};
 
-use gathered::answer::ElementReply;
 use gathered::sets::{FLUSH, FLUSHES, ROOM, TALLY};
 use gathered::{answer, sets};
-use rules::{Crossing, Cutter, ElementCutOutput, ElementId, ElementOrNone, Side, VertexId};
-use space::rows::Placed;
+use rules::{Cutter, ElementCutOutput, ElementId, Reply, Side, VertexId};
 use space::words::{SET, wide};
 use space::{memo, rows};
 
@@ -40,15 +38,15 @@ fn corner_output(e: ElementId, side: Side) -> ElementCutOutput
 {
     match side {
         Side::Inside => ElementCutOutput::NonFlush {
-            inside: ElementOrNone::Some(e),
-            outside: ElementOrNone::None,
-            intersection: ElementOrNone::None,
+            inside: Some(e),
+            outside: None,
+            intersection: None,
         },
         Side::On => ElementCutOutput::Flush,
         Side::Outside => ElementCutOutput::NonFlush {
-            inside: ElementOrNone::None,
-            outside: ElementOrNone::Some(e),
-            intersection: ElementOrNone::None,
+            inside: None,
+            outside: Some(e),
+            intersection: None,
         },
     }
 }
@@ -119,20 +117,15 @@ fn cut_crossed(
     k: Cutter,
     room: &mut [[u16; SET]; ROOM],
     x: [f64; 4],
-) -> ElementReply
+) -> Reply<ElementCutOutput>
     requires { CrossedAsked counts.old points.old elements.old index.old e.0 k room.old x }
     ensures { CrossedLeft counts.old points.old elements.old e.0 k room.old x result
         counts.new points.new elements.new index.new room.new }
 {
-    let placed = memo::add_vertex(counts, points, elements, index, x);
-    match placed {
-        Placed::Refused(no) => ElementReply::Refused(no),
-        Placed::At(v) => {
-            room[TALLY][FLUSHES] = 1;
-            room[TALLY][FLUSH] = v.0 as u16;
-            answer::rule6(counts, elements, index, e, 1, k, room)
-        }
-    }
+    let v = memo::add_vertex(counts, points, elements, index, x)?;
+    room[TALLY][FLUSHES] = 1;
+    room[TALLY][FLUSH] = v.0 as u16;
+    answer::rule6(counts, elements, index, e, 1, k, room)
 }
 
 // Rule 4; the edge test finds no crossing where an end is flush, and its warning is the cut's.
@@ -144,7 +137,7 @@ fn cut_edge(
     e: ElementId,
     k: Cutter,
     room: &mut [[u16; SET]; ROOM],
-) -> ElementReply
+) -> Reply<ElementCutOutput>
     requires { LowAsked counts.old points.old elements.old index.old 1 e.0 k room.old }
     ensures { LowLeft counts.old points.old elements.old 1 e.0 k room.old result
         counts.new points.new elements.new index.new room.new }
@@ -162,8 +155,8 @@ fn cut_edge(
     gather_ends(room, ends.a, sa, ends.b, sb);
     let crossing = test.crossing;
     match crossing {
-        Crossing::None => answer::rule6(counts, elements, index, e, 1, k, room),
-        Crossing::At(t) => {
+        None => answer::rule6(counts, elements, index, e, 1, k, room),
+        Some(t) => {
             let at = hypermath::crossing_point(d, [p, q], t);
             cut_crossed(counts, points, elements, index, e, k, room, at)
         }
@@ -180,14 +173,13 @@ pub fn cut_low(
     rank: usize,
     k: Cutter,
     room: &mut [[u16; SET]; ROOM],
-) -> ElementReply
+) -> Reply<ElementCutOutput>
     requires { LowAsked counts.old points.old elements.old index.old rank e.0 k room.old }
     ensures { LowLeft counts.old points.old elements.old rank e.0 k room.old result
         counts.new points.new elements.new index.new room.new }
 {
     if rank == 0 {
-        let a = cut_corner(counts, points, elements, e, k, room);
-        return ElementReply::Answered(a);
+        return Ok(cut_corner(counts, points, elements, e, k, room));
     }
     cut_edge(counts, points, elements, index, e, k, room)
 }

@@ -11,7 +11,7 @@ use Rattle.rules.specs.Limits.{desk}
 use Rattle.rules.specs.Table.{Element, Table, rank_of, element}
 use Rattle.rules.specs.Held.{Extends, Holds, Came, went, Ranked, AllOf, SetOf, SomeOf}
 use Rattle.rules.specs.Replies.{is_kept}
-use Rattle.rules.specs.Cut.{Outcome, done, next, give, Gathered, Cutting, given, new_intersection, side_of_cut, rule7, rule6}
+use Rattle.rules.specs.Cut.{Outcome, done, next, give, Gathered, Cutting, given, new_intersection, side_of_cut, rule7, rule6, refused}
 use Rattle.rules.specs.declared.ElementAnswer.{ElementAnswer}
 use Rattle.rules.specs.declared.ElementCutOutput.TheVariants.{Flush, NonFlush}
 use Rattle.rules.proofs.Extends.{extends_refl, begins_length, count_more, element_same}
@@ -30,6 +30,7 @@ use Rattle.rules.specs.declared.ElementId.{ElementId}
 use Rattle.std.specs.Prelude.{Option, Ok, Err}
 use Rattle.rules.specs.Refusals.{Reply}
 use Rattle.rules.specs.declared.ElementCutOutput.{ElementCutOutput}
+use Rattle.rules.specs.declared.Refusal.{Refusal}
 
 -- ---- in a later table
 
@@ -133,7 +134,7 @@ module _ {cs es : List ℕ} {r e : ℕ} {k : Cutter} {s : List (List ℕ)} {x : 
       }
 
   module _ {y : Reply (Option ElementId)} {cs₁ es₁ ix₁ i : List ℕ} (M : SideMade cs es r e (is_kept k.params.inside) (inside_in s) x y cs₁ es₁ ix₁ i) where
-    pub inside_refused : Shaped s → (n : ℕ) → y ≡ Err n → Rule7Done cs es r e k s x (Err n) cs₁ es₁ ix₁ (set s 1 i)
+    pub inside_refused : Shaped s → (n : Refusal) → y ≡ Err n → Rule7Done cs es r e k s x (Err n) cs₁ es₁ ix₁ (set s 1 i)
     unfolding rule7
     inside_refused S n q = record {
       of = λ ps hs t g F. came_refused n _ q (side_came F.fit F.some (here F.fit F.some) x F.intersection F.inside M);
@@ -166,7 +167,7 @@ module _ {cs es : List ℕ} {r e : ℕ} {k : Cutter} {s : List (List ℕ)} {x : 
             side_came F.fit F.some (inner F).2 x F.intersection F.outside
             (subst (λ (l : List ℕ). SideMade cs₁ es₁ r e (is_kept k.params.outside) l x z cs₂ es₂ ix₂ o) (outside_other s i) N)
 
-        pub outside_refused : Shaped s → (n : ℕ) → z ≡ Err n → Rule7Done cs es r e k s x (Err n) cs₂ es₂ ix₂ (set (set s 1 i) 2 o)
+        pub outside_refused : Shaped s → (n : Refusal) → z ≡ Err n → Rule7Done cs es r e k s x (Err n) cs₂ es₂ ix₂ (set (set s 1 i) 2 o)
         unfolding rule7
         outside_refused S n w = record {
           of = λ ps hs t g F. came_next a _ (inner F).1 (inner F).2.extends (came_refused n (λ b. give (sides a b x g.warning)) w (outer F));
@@ -302,7 +303,7 @@ module _ {cs es : List ℕ} {r e : ℕ} {k : Cutter} {s : List (List ℕ)} where
       by_none {z} {cs₂} {es₂} c =
           subst (λ (fs : List ℕ). Came answered_by Err (Holds desk cs₂ ps hs es₂) t (rule6 desk (cut_of t.dimension k) (element t e) g fs t) z) (none_flush F) c
 
-    pub intersection_refused : {ix : List ℕ} → Rule6Ready cs es ix r e k s → (j : ℕ) → y ≡ Err j → Rule6Done cs es r e k s (Err j) cs₁ es₁ ix₁ s
+    pub intersection_refused : {ix : List ℕ} → Rule6Ready cs es ix r e k s → (j : Refusal) → y ≡ Err j → Rule6Done cs es r e k s (Err j) cs₁ es₁ ix₁ s
     intersection_refused R j q = record { of = λ ps hs t g F. by_none F (came_refused j _ q (middle F)); indexed = M.indexed; used = untouched R.fit.sized.shaped }
 
     module _ (x : Option ElementId) (q : y ≡ Ok x) where

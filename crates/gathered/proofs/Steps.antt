@@ -4,7 +4,7 @@ use mathlib.Core.Bool.{Bool, ◌||◌}
 use mathlib.Core.Path.{◌≡◌, refl, ap, ◌∙◌, subst, sym}
 use native.Mathlib.Omega.{arith}
 use Rattle.rules.specs.Table.{Table}
-use Rattle.rules.specs.Cut.{Outcome, done, next, give, Step}
+use Rattle.rules.specs.Cut.{Outcome, done, next, give, Step, refused}
 use Rattle.rules.specs.Held.{Extends, Came, went, stopped}
 use Rattle.rules.specs.declared.ElementAnswer.{ElementAnswer}
 use Rattle.gathered.specs.Cutting.{answered_by, Told}
@@ -14,6 +14,7 @@ use Rattle.rules.specs.declared.ElementId.{ElementId}
 use Rattle.std.specs.Prelude.{Option, Ok, Err}
 use Rattle.rules.specs.Refusals.{Reply}
 use Rattle.rules.specs.declared.ElementCutOutput.{ElementCutOutput}
+use Rattle.rules.specs.declared.Refusal.{Refusal}
 
 -- a step that was not refused
 pub record Made (H : Table → Type 0) (o : Outcome (Option ElementId)) (p : Option ElementId) : Type 0 where
@@ -26,7 +27,7 @@ module _ {H : Table → Type 0} {t : Table} {o : Outcome (Option ElementId)} {y 
   made_is p q (stopped j u e w x h) = let z : ◌≡◌ {A = ℕ} 0 1 = cc in absurd (omega arith)
   made_is p q (went a u e w h) = let z : a ≡ p = cc in record { table = u; made = e ∙ ap (λ (v : Option ElementId). done v u) z; holds = h }
 
-  pub came_refused : (n : ℕ) (f : Option ElementId → Step ElementAnswer) → y ≡ Err n → Came Ok Err H t o y
+  pub came_refused : (n : Refusal) (f : Option ElementId → Step ElementAnswer) → y ≡ Err n → Came Ok Err H t o y
       → Came answered_by Err H t (next o f) (Err n)
   came_refused n f q (went a u e w h) = let z : ◌≡◌ {A = ℕ} 0 1 = cc in absurd (omega arith)
   came_refused n f q (stopped j u e w x h) =

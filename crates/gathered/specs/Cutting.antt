@@ -13,6 +13,7 @@ use Rattle.rules.specs.declared.Cutter.{Cutter}
 use Rattle.rules.specs.declared.ElementId.{ElementId}
 use Rattle.rules.specs.Refusals.{Reply}
 use Rattle.rules.specs.declared.ElementCutOutput.{ElementCutOutput}
+use Rattle.rules.specs.declared.Refusal.{Refusal}
 
 -- ---- the cut of one element
 
@@ -112,7 +113,7 @@ answered_by a = Ok a.output
 -- the answer of a step, the cut's warning with its own, and the memory of the table that it gives; or its refusal, and the memory of some table that goes on from the one before
 pub data Told (H : Table → Type 0) (t : Table) (o : Outcome ElementAnswer) (y : Reply ElementCutOutput) (v w : Bool) : Type 0 where
   went : (a : ElementAnswer) (u : Table) → o ≡ done a u → y ≡ answered_by a → w ≡ (v || a.warning) → H u → Told H t o y v w
-  stopped : (n : ℕ) (u : Table) → o ≡ refused n → y ≡ Err n → Extends t u → H u → Told H t o y v w
+  stopped : (n : Refusal) (u : Table) → o ≡ refused n → y ≡ Err n → Extends t u → H u → Told H t o y v w
 
 -- ---- rule 6
 

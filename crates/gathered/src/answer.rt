@@ -6,17 +6,9 @@ ghost use Rattle.gathered.specs.Cutting.{PlaneReady, IntersectionReady, Intersec
 
 use crate::including::include;
 use crate::sets::{FLUSH, FLUSHES, INSIDE, INTERSECTIONS, OUTSIDE, ROOM, TALLY};
-use rules::{Cutter, ElementCutOutput, ElementId, ElementOrNone, HyperplaneId, PolytopeFate};
-use space::memo::Added;
+use rules::{Cutter, ElementCutOutput, ElementId, HyperplaneId, PolytopeFate, Reply};
 use space::words::{NO_PLANE, SET, SIZE, wide};
 use space::{memo, rows};
-
-// How the cut of an element ended: what the functions of a cut hand each other. Its warning is in the room.
-#[derive(Clone, Copy)]
-pub enum ElementReply {
-    Refused(u8),
-    Answered(ElementCutOutput),
-}
 
 fn is_kept(fate: PolytopeFate) -> bool
     ensures { result ≡ is_kept fate }
@@ -47,7 +39,7 @@ fn new_intersection(
     rank: usize,
     k: Cutter,
     set: &[u16; SET],
-) -> Added
+) -> Reply<Option<ElementId>>
     requires { IntersectionReady counts.old elements.old index.old rank k set.now }
     ensures { IntersectionMade counts.old elements.old rank k set.now result
         counts.new elements.new index.new }
@@ -83,14 +75,14 @@ fn side_of_cut(
     rank: usize,
     fate: PolytopeFate,
     set: &mut [u16; SET],
-    x: ElementOrNone,
-) -> Added
+    x: Option<ElementId>,
+) -> Reply<Option<ElementId>>
     requires { SideReady counts.old elements.old index.old rank e.0 set.old x }
     ensures { SideMade counts.old elements.old rank e.0 (is_kept fate) set.old x result
         counts.new elements.new index.new set.new }
 {
     if !is_kept(fate) {
-        return Added::Made(ElementOrNone::None);
+        return Ok(None);
     }
     let plane = rows::plane_of(elements, e);
     let mark = rows::is_primordial(elements, e);
@@ -98,7 +90,7 @@ fn side_of_cut(
     let n = wide(set[SIZE]);
     // a side that lost nothing is the element itself, with no search for its row
     if is_own(elements, e, set, n) {
-        return Added::Made(ElementOrNone::Some(e));
+        return Ok(Some(e));
     }
     memo::add_polytope(counts, elements, index, rank, set, n, plane, mark)
 }
@@ -112,8 +104,8 @@ fn rule7(
     rank: usize,
     k: Cutter,
     room: &mut [[u16; SET]; ROOM],
-    x: ElementOrNone,
-) -> ElementReply
+    x: Option<ElementId>,
+) -> Reply<ElementCutOutput>
     requires { Rule7Ready counts.old elements.old index.old rank e.0 k room.old x }
     ensures { Rule7Done counts.old elements.old rank e.0 k room.old x result
         counts.new elements.new index.new room.new }
@@ -121,7 +113,7 @@ fn rule7(
     let params = k.params;
     let fate_inside = params.inside;
     let fate_outside = params.outside;
-    let first = side_of_cut(
+    let inside = side_of_cut(
         counts,
         elements,
         index,
@@ -130,30 +122,22 @@ fn rule7(
         fate_inside,
         &mut room[INSIDE],
         x,
-    );
-    match first {
-        Added::Refused(no) => ElementReply::Refused(no),
-        Added::Made(i) => {
-            let second = side_of_cut(
-                counts,
-                elements,
-                index,
-                e,
-                rank,
-                fate_outside,
-                &mut room[OUTSIDE],
-                x,
-            );
-            match second {
-                Added::Refused(no) => ElementReply::Refused(no),
-                Added::Made(o) => ElementReply::Answered(ElementCutOutput::NonFlush {
-                    inside: i,
-                    outside: o,
-                    intersection: x,
-                }),
-            }
-        }
-    }
+    )?;
+    let outside = side_of_cut(
+        counts,
+        elements,
+        index,
+        e,
+        rank,
+        fate_outside,
+        &mut room[OUTSIDE],
+        x,
+    )?;
+    Ok(ElementCutOutput::NonFlush {
+        inside,
+        outside,
+        intersection: x,
+    })
 }
 
 // More than one flush answer make the element flush, exactly one is the intersection; without one it is worked out, whichever sides are kept.
@@ -165,22 +149,19 @@ pub fn rule6(
     rank: usize,
     k: Cutter,
     room: &mut [[u16; SET]; ROOM],
-) -> ElementReply
+) -> Reply<ElementCutOutput>
     requires { Rule6Ready counts.old elements.old index.old rank e.0 k room.old }
     ensures { Rule6Done counts.old elements.old rank e.0 k room.old result
         counts.new elements.new index.new room.new }
 {
     let flushes = room[TALLY][FLUSHES];
     if 1 < flushes {
-        return ElementReply::Answered(ElementCutOutput::Flush);
+        return Ok(ElementCutOutput::Flush);
     }
     if flushes == 1 {
-        let x = ElementOrNone::Some(ElementId(wide(room[TALLY][FLUSH])));
+        let x = Some(ElementId(wide(room[TALLY][FLUSH])));
         return rule7(counts, elements, index, e, rank, k, room, x);
     }
-    let middle = new_intersection(counts, elements, index, rank, k, &room[INTERSECTIONS]);
-    match middle {
-        Added::Refused(no) => ElementReply::Refused(no),
-        Added::Made(x) => rule7(counts, elements, index, e, rank, k, room, x),
-    }
+    let x = new_intersection(counts, elements, index, rank, k, &room[INTERSECTIONS])?;
+    rule7(counts, elements, index, e, rank, k, room, x)
 }

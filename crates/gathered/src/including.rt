@@ -1,8 +1,8 @@
 // An element put into a set that lent words hold: in order of numbers, and never twice.
-ghost use Rattle.std.specs.Prelude.{◌≡◌};
+ghost use Rattle.std.specs.Prelude.{◌≡◌, Some};
 ghost use Rattle.gathered.specs.Sets.{SizedSet, Place, PutReady, put_at, IncludeReady, Included};
 
-use rules::ElementOrNone;
+use rules::ElementId;
 use space::words::{SET, SIZE, wide};
 
 // The first place whose number is not below x, or the end.
@@ -41,7 +41,7 @@ fn put_at(s: &mut [u16; SET], x: u16, at: usize)
 // A number that is there already is not put in again.
 fn insert(s: &mut [u16; SET], x: u16)
     requires { SizedSet s.old 32 }
-    ensures { Included s.old (ElementOrNone.Some (record { 0 = x })) s.new }
+    ensures { Included s.old (Some (record { 0 = x })) s.new }
 {
     let at = place(s, x);
     if wide(s[SIZE]) <= at {
@@ -55,11 +55,11 @@ fn insert(s: &mut [u16; SET], x: u16)
 }
 
 // None leaves the set as it is.
-pub fn include(s: &mut [u16; SET], p: ElementOrNone)
+pub fn include(s: &mut [u16; SET], p: Option<ElementId>)
     requires { IncludeReady s.old p }
     ensures { Included s.old p s.new }
 {
-    if let ElementOrNone::Some(e) = p {
+    if let Some(e) = p {
         insert(s, e.0 as u16);
     }
 }

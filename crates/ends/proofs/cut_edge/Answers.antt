@@ -34,7 +34,7 @@ returns-in-None c = missed_cut _ _ _ _ _ c.wide-d.ensures.value c.read_ends-ends
     c.edge_test-test.ensures c.note.ensures c.gather_ends.ensures
     c.in-None.is c.rule6.ensures
 
-pub returns-in-At : goal.returns-in-At
-returns-in-At c = crossing_cut _ _ _ _ _ c.wide-d.ensures.value c.read_ends-ends.ensures c.signed_distance-sa.ensures c.signed_distance-sb.ensures
+pub returns-in-Some : goal.returns-in-Some
+returns-in-Some c = crossing_cut _ _ _ _ _ c.wide-d.ensures.value c.read_ends-ends.ensures c.signed_distance-sa.ensures c.signed_distance-sb.ensures
     c.edge_test-test.ensures c.note.ensures c.gather_ends.ensures _ _
-    c.crossing_point-at.ensures c.in-At.is c.cut_crossed.ensures
+    c.crossing_point-at.ensures c.in-Some.is c.cut_crossed.ensures
