@@ -12,7 +12,7 @@ use lib.Ieee.{Float}
 use Rattle.rules.specs.Limits.{desk}
 use Rattle.rules.specs.Table.{Element, Table, rank_of, boundary_of, rank, boundary, element}
 use Rattle.rules.specs.Held.{Extends, Holds, Came, Sets, Ranked}
-use Rattle.rules.specs.Cut.{Outcome, done, next, Cutting, Gathered, nothing_yet, gathering, gathering_output, rule6, cut_element, cut_boundary}
+use Rattle.rules.specs.Cut.{Outcome, done, next, Cutting, Gathered, nothing_yet, gathering, gathering_output, rule6, cut_element, cut_boundary, refused}
 use Rattle.rules.specs.declared.ElementCutOutput.{ElementCutOutput}
 use Rattle.rules.specs.declared.ElementAnswer.{ElementAnswer}
 use Rattle.rules.specs.declared.Cutter.{Cutter}
@@ -22,7 +22,7 @@ use Rattle.rules.proofs.Fewer.{less_gathered, none_dropped}
 use Rattle.rules.proofs.Fine.{GatheredIn, boundary_below}
 use Rattle.rules.proofs.Good.{sound_good, good_sound}
 use Rattle.rules.proofs.Later.{Later, Replays}
-use Rattle.rules.proofs.Laws.{or_none, or_shift}
+use Rattle.rules.proofs.Laws.{not_both, or_none, or_shift}
 use Rattle.rules.proofs.Ranked.{sets_none}
 use Rattle.rules.proofs.Repeat as repeat
 use Rattle.rules.proofs.Stays.{Stays, Kept}
@@ -37,9 +37,10 @@ use Rattle.cut.specs.Known.{known_at, output_at, Repeats, KeepReady, ReplyKept, 
 use Rattle.cut.specs.Rounds.{AskReady, went, stopped, ElementEnded, ElementAsked, BoundaryEnded, BoundaryCut}
 use Rattle.cut.specs.Higher.{HigherFit, GatherReady, Filled, KnownGathered, HigherReady, HigherAsked}
 use Rattle.cut.proofs.StaysKnown.{asked_room, kept_ended, kept_still, reply_in_room, still_trans, noted_now}
-use Rattle.cut.proofs.Rounds.{boundary_not_0, ask, ask_stays, ep, owner, size_is, size_most, within, number_of, ranked_of, opened_at, cut_higher_lem}
+use Rattle.cut.proofs.Rounds.{ask, ask_stays, ep, owner, size_is, size_most, within, number_of, ranked_of, opened_at, cut_higher_lem}
 use Rattle.rules.specs.Refusals.{Reply}
-use Rattle.std.specs.Prelude.{Err}
+use Rattle.std.specs.Prelude.{Err, Ok}
+use Rattle.rules.specs.declared.Refusal.{Refusal}
 
 -- ---- the boundary is gathered from what is known
 
@@ -178,7 +179,7 @@ module _ {cs es ms : List ℕ} {s s₁ : List (List ℕ)} {r e : ℕ} {k : Cutte
     pub higher_keep : {ix : List ℕ} → HigherReady cs es ix ms s r e k → KeepReady e x
     higher_keep R = record { low = le_trans R.fit.fit.used R.fit.fit.holds.fits.element_room; room = reply_in_room R.fit.fit (told R.fit) }
 
-    pub higher_asked : {ix : List ℕ} → HigherReady cs es ix ms s r e k → {y : ℕ} {ms' : List ℕ} → ReplyKept ms e x y ms' → HigherAsked cs es ms s r e k y cs' es' ix' ms' s₂
+    pub higher_asked : {ix : List ℕ} → HigherReady cs es ix ms s r e k → {y : Reply (Unit {0})} {ms' : List ℕ} → ReplyKept ms e x y ms' → HigherAsked cs es ms s r e k y cs' es' ix' ms' s₂
     higher_asked R N = record {
       of = λ ps hs t H. kept_ended H.fit (told H) H.knows N;
       indexed = D.indexed;
@@ -203,16 +204,16 @@ boundary_again {r = r} {e} {k} {t} more F g u o =
     subst (Later (less_gathered none_dropped) GatheredIn t (cut_boundary (cut_element desk c (r - 1)) (boundary t e) nothing_yet)) o (again (r - 2) (ep r more)) in
     R.replay u (extends_refl u)
 
-module _ {cs : List ℕ} {ps : List Float} {es ms : List ℕ} {s : List (List ℕ)} {r e : ℕ} {k : Cutter} {y : ℕ} {cs' : List ℕ} {ps' : List Float} {es' ix' ms' : List ℕ} {s' : List (List ℕ)}
+module _ {cs : List ℕ} {ps : List Float} {es ms : List ℕ} {s : List (List ℕ)} {r e : ℕ} {k : Cutter} {y : Reply (Unit {0})} {cs' : List ℕ} {ps' : List Float} {es' ix' ms' : List ℕ} {s' : List (List ℕ)}
     (more : 1 < r) (B : BoundaryCut cs ps es ms s r e k y cs' ps' es' ix' ms' s') where
-  pub element_refused : (y ≡ 0 → ⊥) → ElementAsked cs ps es ms s r e k y cs' ps' es' ix' ms' s'
-  element_refused q = record { of = λ hs t F K. go hs t (B.of hs t F K); indexed = B.indexed; shaped = B.shaped; still = B.still }
+  pub element_refused : (x : Refusal) → y ≡ Err x → ElementAsked cs ps es ms s r e k (Err x) cs' ps' es' ix' ms' s'
+  element_refused x q = record { of = λ hs t F K. go hs t (B.of hs t F K); indexed = B.indexed; shaped = B.shaped; still = B.still }
     where
-      go : (hs : List Float) (t : Table) → BoundaryEnded cs' ps' hs es' ms' (warning_in s') r e k y (warning_in s) t → ElementEnded cs' ps' hs es' ms' (warning_in s') r e k y (warning_in s) t
-      go hs t (went g u o d w H) = absurd (q d)
-      go hs t (stopped j u o d x H) = stopped j u (higher_by k r e t more o) d x H
+      go : (hs : List Float) (t : Table) → BoundaryEnded cs' ps' hs es' ms' (warning_in s') r e k y (warning_in s) t → ElementEnded cs' ps' hs es' ms' (warning_in s') r e k (Err x) (warning_in s) t
+      go hs t (went g u o d w H) = not_both (sym q ∙ d)
+      go hs t (stopped j u o d z H) = stopped j u (higher_by k r e t more o) (sym q ∙ d) z H
 
-  module _ (q : y ≡ 0) where
+  module _ (q : y ≡ Ok tt) where
     -- where the round ended
     record End (hs : List Float) (t : Table) : Type 0 where
       pub table : Table
@@ -226,7 +227,7 @@ module _ {cs : List ℕ} {ps : List Float} {es ms : List ℕ} {s : List (List �
     end hs t F K = go (B.of hs t F K)
       where
         go : BoundaryEnded cs' ps' hs es' ms' (warning_in s') r e k y (warning_in s) t → End hs t
-        go (stopped j u o d x H) = absurd (boundary_not_0 (cut_of t.dimension k) (r - 1) e t o d q)
+        go (stopped j u o d x H) = not_both (sym d ∙ q)
         go (went g u o d w H) =
             let S = boundary_kept more F g u o in
             let same = element_same t u e S.extends F.used in
@@ -273,7 +274,7 @@ module _ {cs : List ℕ} {ps : List Float} {es ms : List ℕ} {s : List (List �
         let M = E R.planes R.table R.fit R.knows in
         record { points = ps'; planes = R.planes; table = M.table; fit = M.ready; indexed = B.indexed; shaped = B.shaped }
 
-    pub element_answered : {x : ℕ} {cs'' es'' ix'' ms'' : List ℕ} {s'' : List (List ℕ)} → HigherAsked cs' es' ms' s' r e k x cs'' es'' ix'' ms'' s'' → ElementAsked cs ps es ms s r e k x cs'' ps' es'' ix'' ms'' s''
+    pub element_answered : {x : Reply (Unit {0})} {cs'' es'' ix'' ms'' : List ℕ} {s'' : List (List ℕ)} → HigherAsked cs' es' ms' s' r e k x cs'' es'' ix'' ms'' s'' → ElementAsked cs ps es ms s r e k x cs'' ps' es'' ix'' ms'' s''
     element_answered {x} {cs''} {es''} {ix''} {ms''} {s''} D = record {
       of = λ hs t F K. go hs t F K (D.of ps' hs (E hs t F K).table (E hs t F K).ready);
       indexed = D.indexed;

@@ -35,8 +35,9 @@ use Rattle.soundness.proofs.AskedOnce.{held, answered, replied, asked_law, Tests
 use Rattle.cut.specs.Whole.{CutFit, CutReady, WholeCut}
 use Rattle.rules.specs.Refusals.{Reply}
 use Rattle.rules.specs.declared.ElementAnswer.{ElementAnswer}
-use Rattle.std.specs.Prelude.{None, Err}
+use Rattle.std.specs.Prelude.{None, Err, Ok}
 use Rattle.rules.specs.Replies.{answer_with}
+use Rattle.rules.specs.declared.Refusal.{Refusal}
 
 -- ---- zero bits past the dimension
 
@@ -82,7 +83,7 @@ module _ (p : CutParams) (root : ℕ) (cs : List ℕ) (ps hs : List Float) (es :
   finite = written desk m (cut_finite desk params root t)
 
   -- what is made of an answer
-  abbrev made : Asking → Reply ElementAnswer × Memory
+  abbrev made : Reply Asking → Reply ElementAnswer × Memory
   made a = answered (λ n. (Err n, m)) (infinite false) (infinite true) finite a
 
   by_distance : (x : Float) → at_distance (infinite false) (infinite true) finite x ≡ written desk m (cut_at_distance desk params x root t)
@@ -91,29 +92,29 @@ module _ (p : CutParams) (root : ℕ) (cs : List ℕ) (ps hs : List Float) (es :
   by_distance (inf true) = refl
   by_distance (fin s a b) = refl
 
-  made_is : {a : Asking} → a ≡ asked m h root → made a ≡ cut_reply desk p root m
+  made_is : {a : Reply Asking} → a ≡ asked m h root → made a ≡ cut_reply desk p root m
   unfolding cut_reply cut
   made_is q =
       ap made q ∙ asked_law (λ n. (Err n, m)) (infinite false) (infinite true) finite m h root
       ∙ ap (λ (x : Reply ElementAnswer × Memory). replied (λ n. (Err n, m)) x m h root) (by_distance h.distance)
 
-  same_memory_lem : {a : Asking} → a ≡ asked m h root → answered {A = ℕ} (λ n. 1) 0 0 0 a ≡ 0 → m ≡ encode desk t
+  same_memory_lem : {a : Reply Asking} → a ≡ asked m h root → answered {A = ℕ} (λ n. 1) 0 0 0 a ≡ 0 → m ≡ encode desk t
   same_memory_lem q z = holds_memory desk readable_desk (held cs ps hs es (asked_passed m h root q z).sound)
 
-  pub refused : (n : ℕ) → asking.Refused n ≡ asked m h root → (Err n, m) ≡ cut_reply desk p root m
+  pub refused : (n : Refusal) → Err n ≡ asked m h root → (Err n, m) ≡ cut_reply desk p root m
   refused n q = made_is q
 
   -- rule 1
-  pub all_inside : {r : Reply ElementAnswer} → asking.AllInside ≡ asked m h root → r ≡ Ok (answer_with (NonFlush (given root) None None) false)
+  pub all_inside : {r : Reply ElementAnswer} → Ok asking.AllInside ≡ asked m h root → r ≡ Ok (answer_with (NonFlush (given root) None None) false)
       → (r, m) ≡ cut_reply desk p root m
   all_inside q told = (λ j. (told j, same_memory_lem q refl j)) ∙ made_is q
 
-  pub all_outside : {r : Reply ElementAnswer} → asking.AllOutside ≡ asked m h root → r ≡ Ok (answer_with (NonFlush None (given root) None) false)
+  pub all_outside : {r : Reply ElementAnswer} → Ok asking.AllOutside ≡ asked m h root → r ≡ Ok (answer_with (NonFlush None (given root) None) false)
       → (r, m) ≡ cut_reply desk p root m
   all_outside q told = (λ j. (told j, same_memory_lem q refl j)) ∙ made_is q
 
   -- the rules from 2 on
-  module _ (q : asking.Finite ≡ asked m h root) where
+  module _ (q : Ok asking.Finite ≡ asked m h root) where
     passed : TestsPassed m h root
     passed = asked_passed m h root q refl
 

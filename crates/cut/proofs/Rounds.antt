@@ -21,7 +21,7 @@ use Rattle.rules.proofs.Built.{RuleNumber, After, cut_boundary_lem, cut_element_
 use Rattle.rules.proofs.Extends.{extends_refl, extends_trans, element_same, count_more, begins_length}
 use Rattle.rules.proofs.Good.{Good, sound_good, good_sound}
 use Rattle.rules.proofs.Growing.{all_get}
-use Rattle.rules.proofs.Laws.{le_test, eq_test, test_eq, or_none, or_shift}
+use Rattle.rules.proofs.Laws.{not_both, le_test, eq_test, test_eq, or_none, or_shift}
 use Rattle.rules.proofs.Ranked.{ranked_later}
 use Rattle.rules.proofs.Stays.{Stays, Kept}
 use Rattle.rules.proofs.StaysCut.{Facts, facts, ranked_get, element_stays}
@@ -33,18 +33,9 @@ use Rattle.gathered.specs.Sets.{Shaped, warning_in}
 use Rattle.gathered.specs.Cutting.{cut_of, Fit}
 use Rattle.cut.specs.Known.{known_at, Knows, KnownStill, KnownTo}
 use Rattle.cut.specs.Rounds.{AskReady, RoundReady, Ended, went, stopped, AnswerKept, ElementEnded, BoundaryEnded}
-
--- ---- no refusal of the rules is 0
-
-not_0 : {A : Type 0} (t : Table) (o : Outcome A) {n x : ℕ} → After t o → o ≡ refused n → x ≡ n → x ≡ 0 → ⊥
-not_0 t o h m d q = subst RuleNumber (sym d ∙ q) (subst (After t) m h)
-
-pub element_not_0 : (c : Cutting) (r e : ℕ) (t : Table) {n x : ℕ} → cut_element desk c r e t ≡ refused n → x ≡ n → x ≡ 0 → ⊥
-element_not_0 c r e t = not_0 t (cut_element desk c r e t) (cut_element_lem desk c r e t)
-
-pub boundary_not_0 : (c : Cutting) (r e : ℕ) (t : Table) {n x : ℕ} → cut_boundary (cut_element desk c r) (boundary t e) nothing_yet t ≡ refused n → x ≡ n → x ≡ 0 → ⊥
-boundary_not_0 c r e t =
-    not_0 t (cut_boundary (cut_element desk c r) (boundary t e) nothing_yet t) (cut_boundary_lem desk c (cut_element desk c r) (cut_element_lem desk c r) (boundary t e) nothing_yet t)
+use Rattle.rules.specs.Refusals.{Reply}
+use Rattle.rules.specs.declared.Refusal.{Refusal}
+use Rattle.std.specs.Prelude.{Ok, Err}
 
 -- ---- a table that may be cut
 
@@ -218,23 +209,23 @@ module _ {r : ℕ} (more : 1 < r) {e : ℕ} {k : Cutter} {cs₀ : List ℕ} {ps�
         }
 
     -- how asking element b ended, seen from the first table
-    abbrev NextEnded : ℕ → ℕ → List ℕ → List Float → List ℕ → List ℕ → Bool → {hs : List Float} {t : Table} → Fit cs₀ ps₀ hs es₀ r e k t → Knows k ms₀ v t → Type 0
+    abbrev NextEnded : ℕ → Reply (Unit {0}) → List ℕ → List Float → List ℕ → List ℕ → Bool → {hs : List Float} {t : Table} → Fit cs₀ ps₀ hs es₀ r e k t → Knows k ms₀ v t → Type 0
     NextEnded b x cs' ps' es' ms' w' {hs} {t} F K =
         Ended (λ a. a.warning) (AnswerKept cs' ps' hs es' ms' w' b k) (Holds desk cs' ps' hs es') (A F K).table (ask r more e k t.dimension b (A F K).table) x w w'
 
-    module _ (l : i < n) (b : ℕ) (read : b ≡ get_or es (e * 36 + (4 + i)) 0) {x : ℕ} {cs' : List ℕ} {ps' : List Float} {es' ms' : List ℕ} {w' : Bool} where
+    module _ (l : i < n) (b : ℕ) (read : b ≡ get_or es (e * 36 + (4 + i)) 0) {x : Reply (Unit {0})} {cs' : List ℕ} {ps' : List Float} {es' ms' : List ℕ} {w' : Bool} where
       module _ (C : (hs : List Float) (u : Table) → Fit cs ps hs es (r - 1) b k u → Knows k ms w u → ElementEnded cs' ps' hs es' ms' w' (r - 1) b k x w u) where
         next_one : {hs : List Float} {t : Table} (F : Fit cs₀ ps₀ hs es₀ r e k t) (K : Knows k ms₀ v t) → NextEnded b x cs' ps' es' ms' w' F K
         next_one {hs} {t} F K =
             subst (λ (d : ℕ). Ended (λ a. a.warning) (AnswerKept cs' ps' hs es' ms' w' b k) (Holds desk cs' ps' hs es') (A F K).table (cut_element desk (cut_of d k) (r - 1) b (A F K).table) x w w')
             (A F K).extends.dimension (C hs (A F K).table (fit_next F K l b read) (A F K).knows)
 
-        pub round_refused : (x ≡ 0 → ⊥) → (hs : List Float) (t : Table) → Fit cs₀ ps₀ hs es₀ r e k t → Knows k ms₀ v t → BoundaryEnded cs' ps' hs es' ms' w' r e k x v t
-        round_refused q hs t F K = go (next_one F K)
+        pub round_refused : (y : Refusal) → x ≡ Err y → (hs : List Float) (t : Table) → Fit cs₀ ps₀ hs es₀ r e k t → Knows k ms₀ v t → BoundaryEnded cs' ps' hs es' ms' w' r e k (Err y) v t
+        round_refused q z hs t F K = go (next_one F K)
           where
-            go : NextEnded b x cs' ps' es' ms' w' F K → BoundaryEnded cs' ps' hs es' ms' w' r e k x v t
-            go (went a u o d y H) = absurd (q d)
-            go (stopped j u o d y H) = stopped j u (opened_by F K l b read o) d (extends_trans (A F K).extends y) H
+            go : NextEnded b x cs' ps' es' ms' w' F K → BoundaryEnded cs' ps' hs es' ms' w' r e k (Err q) v t
+            go (went a u o d y H) = not_both (sym z ∙ d)
+            go (stopped j u o d y H) = stopped j u (opened_by F K l b read o) (sym z ∙ d) (extends_trans (A F K).extends y) H
 
         kept : {hs : List Float} {t : Table} (F : Fit cs₀ ps₀ hs es₀ r e k t) (K : Knows k ms₀ v t) (a : ElementAnswer) (u : Table)
             → ask r more e k t.dimension b (A F K).table ≡ done a u → Kept desk (AnswerOf (r - 1)) (A F K).table a u
@@ -243,11 +234,11 @@ module _ {r : ℕ} (more : 1 < r) {e : ℕ} {k : Cutter} {cs₀ : List ℕ} {ps�
             subst (Stays desk (AnswerOf (r - 1)) (A F K).table) o (ask_stays r more e k t.dimension b (A F K).table (A F K).good f.plane f.used f.ranked)
 
         -- an answer
-        pub going_on_lem : x ≡ 0 → KnownStill ms ms' → Going r more e k cs₀ ps₀ es₀ ms₀ v (i + 1) cs' ps' es' ms' w'
+        pub going_on_lem : x ≡ Ok tt → KnownStill ms ms' → Going r more e k cs₀ ps₀ es₀ ms₀ v (i + 1) cs' ps' es' ms' w'
         going_on_lem q still = record { of = λ hs t F K. go hs t F K (next_one F K) }
           where
             go : (hs : List Float) (t : Table) (F : Fit cs₀ ps₀ hs es₀ r e k t) (K : Knows k ms₀ v t) → NextEnded b x cs' ps' es' ms' w' F K → At r more e k hs t v (i + 1) cs' ps' es' ms' w'
-            go hs t F K (stopped j u o d y H) = absurd (element_not_0 (cut_of t.dimension k) (r - 1) b (A F K).table o d q)
+            go hs t F K (stopped j u o d y H) = not_both (sym d ∙ q)
             go hs t F K (went a u o d y H) =
                 let N = A F K in
                 let S = kept F K a u o in
@@ -265,7 +256,7 @@ module _ {r : ℕ} (more : 1 < r) {e : ℕ} {k : Cutter} {cs₀ : List ℕ} {ps�
                   rest = opened_by F K l b read o;
                 }
 
-    pub round_done : n ≤ i → i ≤ n → (hs : List Float) (t : Table) → Fit cs₀ ps₀ hs es₀ r e k t → Knows k ms₀ v t → BoundaryEnded cs ps hs es ms w r e k 0 v t
+    pub round_done : n ≤ i → i ≤ n → (hs : List Float) (t : Table) → Fit cs₀ ps₀ hs es₀ r e k t → Knows k ms₀ v t → BoundaryEnded cs ps hs es ms w r e k (Ok tt) v t
     round_done h j hs t F K =
         let N = A F K in
         let q : i ≡ length (boundary t e) = (let m = size_is more F n size in omega (arith, m, h, j)) in

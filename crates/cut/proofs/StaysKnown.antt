@@ -150,7 +150,7 @@ module _ {cs : List ℕ} {ps hs : List Float} {es : List ℕ} {r e : ℕ} {k : C
         go (told.went a u o q n H) = subst ReplyInRoom (sym q) (asked_room k e a good F.used (ranked_cut o) H.fits.element_room)
         go (told.stopped n u o q y H) = subst ReplyInRoom (sym q) tt
 
-    pub kept_ended : {ms ms' : List ℕ} {y : ℕ} → Knows k ms v t → ReplyKept ms e x y ms' → ElementEnded cs' ps' hs es' ms' w r e k y v t
+    pub kept_ended : {ms ms' : List ℕ} {y : Reply (Unit {0})} → Knows k ms v t → ReplyKept ms e x y ms' → ElementEnded cs' ps' hs es' ms' w r e k y v t
     kept_ended {ms} {ms'} {y} K N = go T
       where
         go : Told (Holds desk cs' ps' hs es') t (cut_element desk (cut_of t.dimension k) r e t) x v w → ElementEnded cs' ps' hs es' ms' w r e k y v t
@@ -169,7 +169,7 @@ module _ {cs : List ℕ} {ps hs : List Float} {es : List ℕ} {r e : ℕ} {k : C
               output = ap (λ (m : List ℕ). output_at m e) words ∙ kept_same ms e a.output (asked_room k e a good F.used (ranked_cut o) H.fits.element_room) fits;
             })
 
-  pub kept_still : {ms ms' : List ℕ} {x : Reply ElementCutOutput} {y : ℕ} {v : Bool} → Knows k ms v t → ReplyKept ms e x y ms' → KnownStill ms ms'
+  pub kept_still : {ms ms' : List ℕ} {x : Reply ElementCutOutput} {y : Reply (Unit {0})} {v : Bool} → Knows k ms v t → ReplyKept ms e x y ms' → KnownStill ms ms'
   kept_still {ms} {x = x} K N =
       let long = K.long in
       subst (KnownStill ms) (sym N.words) (still_kept ms e x (let z : e < length ms = omega (arith, low, long) in z))
@@ -184,7 +184,7 @@ module _ {cs : List ℕ} {ps : List Float} {es ms : List ℕ} {s : List (List �
   low_asks A = let R = A.ready in record { ready = record { planes = R.planes; table = R.table; fit = R.fit }; low = A.low; indexed = R.indexed; shaped = R.shaped }
 
   -- a known answer is the answer
-  pub known_asked : {ix : List ℕ} (y : Bool) → AskReady cs ps es ix ms s r e k → y ≡ known_at ms e → y ≡ true → ElementAsked cs ps es ms s r e k 0 cs ps es ix ms s
+  pub known_asked : {ix : List ℕ} (y : Bool) → AskReady cs ps es ix ms s r e k → y ≡ known_at ms e → y ≡ true → ElementAsked cs ps es ms s r e k (Ok tt) cs ps es ix ms s
   known_asked y R p q = record {
     of = λ hs t F K.
         (let A = K.of e (ask_low R) (sym p ∙ q) in
@@ -200,7 +200,7 @@ module _ {cs : List ℕ} {ps : List Float} {es ms : List ℕ} {s : List (List �
     pub low_keep : {ix : List ℕ} → AskReady cs ps es ix ms s r e k → KeepReady e x
     low_keep R = record { low = ask_low R; room = reply_in_room R.fit (C.cut.of R.planes R.table R.fit) }
 
-    pub low_asked : {ix : List ℕ} → AskReady cs ps es ix ms s r e k → {y : ℕ} {ms' : List ℕ} → ReplyKept ms e x y ms' → ElementAsked cs ps es ms s r e k y cs' ps' es' ix' ms' s'
+    pub low_asked : {ix : List ℕ} → AskReady cs ps es ix ms s r e k → {y : Reply (Unit {0})} {ms' : List ℕ} → ReplyKept ms e x y ms' → ElementAsked cs ps es ms s r e k y cs' ps' es' ix' ms' s'
     low_asked R N = record {
       of = λ hs t F K. kept_ended F (C.cut.of hs t F) K N;
       indexed = C.indexed;

@@ -12,7 +12,7 @@ use Rattle.rules.specs.Memory.{Memory}
 use Rattle.rules.specs.Table.{Element, Plane, Table, element_count, rank}
 use Rattle.rules.specs.Held as held
 use Rattle.rules.specs.Held.{Extends, Holds, Came, memory_of}
-use Rattle.rules.specs.Cut.{Outcome, done, next, add_plane, cut_element, cut_finite}
+use Rattle.rules.specs.Cut.{Outcome, done, next, add_plane, cut_element, cut_finite, refused}
 use Rattle.rules.specs.Replies.{divider_of, params_of, written}
 use Rattle.rules.specs.declared.Hyperplane.{Hyperplane}
 use Rattle.rules.specs.declared.HyperplaneId.{HyperplaneId}
@@ -20,7 +20,7 @@ use Rattle.rules.specs.declared.ElementCutOutput.{ElementCutOutput}
 use Rattle.rules.specs.declared.CutParams.{CutParams}
 use Rattle.rules.proofs.Extends.{extends_trans, count_more, begins_length}
 use Rattle.rules.proofs.Good.{Good, sound_good, good_sound}
-use Rattle.rules.proofs.Laws.{le_test}
+use Rattle.rules.proofs.Laws.{le_test, not_both}
 use Rattle.rules.proofs.Missed.{Unmoved, plane_unmoved}
 use Rattle.rules.proofs.Stays.{Stays, Kept, plane_stays}
 use Rattle.space.specs.Shared.{HyperplaneAdded, hyperplane_at}
@@ -38,11 +38,11 @@ use Rattle.cut.specs.Known.{output_at}
 use Rattle.cut.specs.Rounds.{AskReady, ElementAsked, ElementEnded, went, stopped}
 use Rattle.cut.specs.Whole.{CutFit, CutReady, CutTried, WholeCut}
 use Rattle.cut.proofs.StaysKnown.{knows_nothing}
-use Rattle.cut.proofs.Rounds.{element_not_0}
 use Rattle.rules.specs.Refusals.{Reply}
 use Rattle.rules.specs.declared.ElementAnswer.{ElementAnswer}
 use Rattle.std.specs.Prelude.{Err, Ok}
 use Rattle.rules.specs.Replies.{answer_with}
+use Rattle.rules.specs.declared.Refusal.{Refusal}
 
 -- ---- the hyperplane, then the root
 
@@ -94,7 +94,7 @@ module _ (p : CutParams) {cs : List ℕ} {ps hs : List Float} {es : List ℕ} {r
     added {t} F = P.of ps es t (divider_of t.dimension p.divider) F.holds F.sound F.row F.plane
 
     -- no room for the hyperplane
-    pub plane_refused : {ix : List ℕ} (n : ℕ) → x ≡ Err n → CutTried cs ps hs es p root (Err n) cs₁ ps hs₁ es ix
+    pub plane_refused : {ix : List ℕ} (n : Refusal) → x ≡ Err n → CutTried cs ps hs es p root (Err n) cs₁ ps hs₁ es ix
     plane_refused n q = record { of = λ t F. go t (added F); indexed = λ a w. let z : ◌≡◌ {A = ℕ} 0 1 = cc in absurd (omega arith) }
       where
         go : (t : Table) → Added ps es p.divider x cs₁ hs₁ t → Came Ok Err (Holds desk cs₁ ps hs₁ es) t (cut_finite desk (params_of t.dimension p) root t) (Err n)
@@ -152,7 +152,7 @@ module _ (p : CutParams) {cs : List ℕ} {ps hs : List Float} {es : List ℕ} {r
         }
 
         -- how the cut of the root ended is the reply
-        module _ {y : ℕ} {cs₂ : List ℕ} {ps₂ : List Float} {es₂ ix₂ ms₂ : List ℕ} {s₂ : List (List ℕ)} (C : ElementAsked cs₁ ps es (replicate 512 0) blank_room r root (cutter p v) y cs₂ ps₂ es₂ ix₂ ms₂ s₂) where
+        module _ {y : Reply (Unit {0})} {cs₂ : List ℕ} {ps₂ : List Float} {es₂ ix₂ ms₂ : List ℕ} {s₂ : List (List ℕ)} (C : ElementAsked cs₁ ps es (replicate 512 0) blank_room r root (cutter p v) y cs₂ ps₂ es₂ ix₂ ms₂ s₂) where
           root_ended : {t : Table} (F : CutFit cs ps hs es p.divider root t) → ElementEnded cs₂ ps₂ hs₁ es₂ ms₂ (warning_in s₂) r root (cutter p v) y false (named F).table
           root_ended F = C.of hs₁ (named F).table (root_fit F) (knows_nothing (cutter p v) (warning_in blank_room) (named F).table)
 
@@ -162,20 +162,20 @@ module _ (p : CutParams) {cs : List ℕ} {ps hs : List Float} {es : List ℕ} {r
               ap (λ (q' : Outcome ℕ). next q' (λ n l. cut_element desk (record { params = params_of t.dimension p; number = n }) (rank l root) root l)) (named F).ended
               ∙ ap₂ (λ (d n : ℕ). cut_element desk (cut_of d (cutter p v)) n root (named F).table) (sym (named F).extends.dimension) (root_fit F).ranked
 
-          pub root_refused : (y ≡ 0 → ⊥) → CutTried cs ps hs es p root (Err y) cs₂ ps₂ hs₁ es₂ ix₂
-          root_refused ended = record { of = λ t F. go t F (root_ended F); indexed = λ a w. C.indexed }
+          pub root_refused : (x : Refusal) → y ≡ Err x → CutTried cs ps hs es p root (Err x) cs₂ ps₂ hs₁ es₂ ix₂
+          root_refused x ended = record { of = λ t F. go t F (root_ended F); indexed = λ a w. C.indexed }
             where
               go : (t : Table) (F : CutFit cs ps hs es p.divider root t) → ElementEnded cs₂ ps₂ hs₁ es₂ ms₂ (warning_in s₂) r root (cutter p v) y false (named F).table
-                  → Came Ok Err (Holds desk cs₂ ps₂ hs₁ es₂) t (cut_finite desk (params_of t.dimension p) root t) (Err y)
-              go t F (went a u m d w H) = absurd (ended d)
-              go t F (stopped j u m d z H) = held.stopped j u (steps F ∙ m) (ap Err d) (extends_trans (named F).extends z) H
+                  → Came Ok Err (Holds desk cs₂ ps₂ hs₁ es₂) t (cut_finite desk (params_of t.dimension p) root t) (Err x)
+              go t F (went a u m d w H) = not_both (sym ended ∙ d)
+              go t F (stopped j u m d z H) = let w : ◌≡◌ {A = Reply (Unit {0})} (Err x) (Err j) = sym ended ∙ d in let q : x ≡ j = cc in held.stopped j u (steps F ∙ m) (ap Err q) (extends_trans (named F).extends z) H
 
-          pub root_answered : y ≡ 0 → (o : ElementCutOutput) (w : Bool) → o ≡ output_at ms₂ root → w ≡ warning_in s₂ → CutTried cs ps hs es p root (Ok (answer_with o w)) cs₂ ps₂ hs₁ es₂ ix₂
+          pub root_answered : y ≡ Ok tt → (o : ElementCutOutput) (w : Bool) → o ≡ output_at ms₂ root → w ≡ warning_in s₂ → CutTried cs ps hs es p root (Ok (answer_with o w)) cs₂ ps₂ hs₁ es₂ ix₂
           root_answered ended o w told warned = record { of = λ t F. go t F (root_ended F); indexed = λ a q. C.indexed }
             where
               go : (t : Table) (F : CutFit cs ps hs es p.divider root t) → ElementEnded cs₂ ps₂ hs₁ es₂ ms₂ (warning_in s₂) r root (cutter p v) y false (named F).table
                   → Came Ok Err (Holds desk cs₂ ps₂ hs₁ es₂) t (cut_finite desk (params_of t.dimension p) root t) (Ok (answer_with o w))
-              go t F (stopped j u m d z H) = absurd (element_not_0 (cut_of (named F).table.dimension (cutter p v)) r root (named F).table m d ended)
+              go t F (stopped j u m d z H) = not_both (sym d ∙ ended)
               go t F (went a u m d n H) = held.went a u (steps F ∙ m) (λ l. Ok (answer_with ((told ∙ H.output) l) ((warned ∙ n) l))) H.holds
 
 -- ---- the counts, lent in an array of their own
@@ -216,15 +216,15 @@ module _ {cs : List ℕ} {ps hs : List Float} {es : List ℕ} {p : CutParams} {r
   abbrev Tried : Table → Type 0
   Tried t = Came Ok Err (Holds desk cs₁ ps₁ hs₁ es₁) t (cut_finite desk (params_of t.dimension p) root t) y
 
-  pub whole_done : (o : ElementCutOutput) (v : Bool) → y ≡ Ok (answer_with o v) → WholeCut cs ps hs es p root (Ok (answer_with o v)) cs₁ ps₁ hs₁ es₁ ix₁
-  whole_done o v w = record { of = λ t F. go t (T.of t F); indexed = λ b q. T.indexed b (w ∙ q) }
+  pub whole_done : (a : ElementAnswer) → y ≡ Ok a → WholeCut cs ps hs es p root (Ok a) cs₁ ps₁ hs₁ es₁ ix₁
+  whole_done a w = record { of = λ t F. go t (T.of t F); indexed = λ b q. T.indexed b (w ∙ q) }
     where
       go : (t : Table) → Tried t
-          → ◌≡◌ {A = Reply ElementAnswer × Memory} (Ok (answer_with o v), memory_of cs₁ ps₁ hs₁ es₁) (written desk (memory_of cs ps hs es) (cut_finite desk (params_of t.dimension p) root t))
+          → ◌≡◌ {A = Reply ElementAnswer × Memory} (Ok a, memory_of cs₁ ps₁ hs₁ es₁) (written desk (memory_of cs ps hs es) (cut_finite desk (params_of t.dimension p) root t))
       go t (held.stopped j u m w' z H) = let e : ◌≡◌ {A = ℕ} 0 1 = cc in absurd (omega arith)
       go t (held.went b u m w' H) = (λ l. ((sym w ∙ w') l, holds_memory desk readable_desk H l)) ∙ sym (ap (written desk (memory_of cs ps hs es)) m)
 
-  module _ (n : ℕ) (w : y ≡ Err n) where
+  module _ (n : Refusal) (w : y ≡ Err n) where
     pub whole_asks : {ix : List ℕ} → CutReady cs ps hs es ix p.divider root → RestoreAsks cs cs₁ ps₁ hs₁ es₁
     whole_asks R = go (T.of R.table R.fit)
       where

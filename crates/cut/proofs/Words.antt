@@ -18,6 +18,7 @@ use Rattle.space.specs.Numbers.{NumberBelow}
 use Rattle.cut.specs.Known.{field_size, field_of, some_of, output_of, packed, output_in, known_at, output_at, fields_at, with_answer, with_reply, ReplyInRoom, asked_by}
 use Rattle.std.specs.Prelude.{Option, Some, None, Ok, Err}
 use Rattle.rules.specs.Refusals.{Reply}
+use Rattle.rules.specs.declared.Refusal.{Refusal}
 
 -- ---- a field and its element
 
@@ -152,7 +153,7 @@ module _ (ms : List ℕ) (e : ℕ) where
   kept_known (NonFlush i o x) h = fields_known ms e (field_of i) (field_of o) (field_of x) (field_above i) h
 
   -- a reply, by what it is
-  pub reply_refused : (x : Reply ElementCutOutput) (n : ℕ) → x ≡ Err n → ms ≡ with_reply ms e x
+  pub reply_refused : (x : Reply ElementCutOutput) (n : Refusal) → x ≡ Err n → ms ≡ with_reply ms e x
   reply_refused x n q = ap (with_reply ms e) (sym q)
 
   pub reply_answered : (x : Reply ElementCutOutput) (a : ElementCutOutput) (ms' : List ℕ) → x ≡ Ok a → ms' ≡ with_answer ms e a → ms' ≡ with_reply ms e x
@@ -167,10 +168,10 @@ module _ (ms : List ℕ) (e : ℕ) where
   answer_sides_kept a i o y u v w ms' p hu hv hw h = h ∙ (λ l. fields_at ms e (hu l) (hv l) (hw l)) ∙ ap (with_answer ms e) (sym p)
 
 -- how asking ended, by what it is
-pub asked_refused : (x : Reply ElementCutOutput) (n : ℕ) → x ≡ Err n → n ≡ asked_by x
+pub asked_refused : (x : Reply ElementCutOutput) (n : Refusal) → x ≡ Err n → Err n ≡ asked_by x
 asked_refused x n q = ap asked_by (sym q)
 
-pub asked_done : (x : Reply ElementCutOutput) (a : ElementCutOutput) → x ≡ Ok a → 0 ≡ asked_by x
+pub asked_done : (x : Reply ElementCutOutput) (a : ElementCutOutput) → x ≡ Ok a → Ok tt ≡ asked_by x
 asked_done x a q = ap asked_by (sym q)
 
 pub reply_room : (x : Reply ElementCutOutput) (a : ElementCutOutput) → x ≡ Ok a → ReplyInRoom x → OutputInRoom a

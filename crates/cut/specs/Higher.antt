@@ -9,6 +9,7 @@ use Rattle.gathered.specs.Sets.{Gathers, Shaped, Sized, warning_in}
 use Rattle.gathered.specs.Cutting.{Fit, cut_of}
 use Rattle.cut.specs.Known.{Knows, KnownStill, KnownTo}
 use Rattle.cut.specs.Rounds.{ElementEnded}
+use Rattle.rules.specs.Refusals.{Reply}
 
 -- a table that may be cut, of which all that is known is true, and all of the boundary of element e is known
 pub record HigherFit (cs : List ℕ) (ps hs : List Float) (es ms : List ℕ) (w : Bool) (r e : ℕ) (k : Cutter) (t : Table) : Type 0 where
@@ -51,7 +52,7 @@ pub record HigherReady (cs es ix ms : List ℕ) (s : List (List ℕ)) (r e : ℕ
   pub shaped : Shaped s
 
 -- whatever such table the memory holds: the cut of element e, with its answer in the words and its warning in the room; what was known still is
-pub record HigherAsked (cs es ms : List ℕ) (s : List (List ℕ)) (r e : ℕ) (k : Cutter) (x : ℕ) (cs' es' ix' ms' : List ℕ) (s' : List (List ℕ)) : Type 0 where
+pub record HigherAsked (cs es ms : List ℕ) (s : List (List ℕ)) (r e : ℕ) (k : Cutter) (x : Reply (Unit {0})) (cs' es' ix' ms' : List ℕ) (s' : List (List ℕ)) : Type 0 where
   pub of : (ps hs : List Float) (t : Table) → HigherFit cs ps hs es ms (warning_in s) r e k t → ElementEnded cs' ps hs es' ms' (warning_in s') r e k x (warning_in s) t
   pub indexed : Indexed es' (get_or cs' 1 0) ix'
   pub shaped : Shaped s'

@@ -70,10 +70,10 @@ ReplyInRoom (Ok a) = OutputInRoom a
 
 -- ---- a reply, kept in the words
 
--- how asking ended: the number of the refusal, or 0 where there is an answer
-abbrev pub asked_by : Reply ElementCutOutput → ℕ
-asked_by (Err n) = n
-asked_by (Ok a) = 0
+-- how asking ended: the refusal, or done where there is an answer
+abbrev pub asked_by : Reply ElementCutOutput → Reply (Unit {0})
+asked_by (Err n) = Err n
+asked_by (Ok a) = Ok tt
 
 -- what writing the fields of element e asks
 pub record FieldsReady (e a b c : ℕ) : Type 0 where
@@ -93,7 +93,7 @@ pub record KeepReady (e : ℕ) (x : Reply ElementCutOutput) : Type 0 where
   pub room : ReplyInRoom x
 
 -- and what it does: how asking ended, and the words after it
-pub record ReplyKept (ms : List ℕ) (e : ℕ) (x : Reply ElementCutOutput) (y : ℕ) (ms' : List ℕ) : Type 0 where
+pub record ReplyKept (ms : List ℕ) (e : ℕ) (x : Reply ElementCutOutput) (y : Reply (Unit {0})) (ms' : List ℕ) : Type 0 where
   pub asked : y ≡ asked_by x
   pub words : ms' ≡ with_reply ms e x
 

@@ -1,5 +1,5 @@
 -- The whole cut by a divider that is not infinite: its steps, its reply, and the memory after it. Definitions only.
-use Rattle.std.specs.Prelude.{ℕ, ◌<◌, ◌≡◌, true, List, get_or, Float, Err}
+use Rattle.std.specs.Prelude.{ℕ, ◌<◌, ◌≡◌, true, List, get_or, Float, Err, Ok}
 use Rattle.rules.specs.Limits.{desk}
 use Rattle.rules.specs.Memory.{Memory, plane_row, sound_memory}
 use Rattle.rules.specs.Table.{Table, element_count}

@@ -14,7 +14,7 @@ ghost use Rattle.rules.specs.Limits.{desk};
 ghost use Rattle.rules.specs.Held.{memory_of};
 ghost use Rattle.rules.specs.Replies.{cut_by, cut_reply};
 
-use rules::{CutParams, CutReply, ElementId, Hyperplane, PolytopeFate};
+use rules::{CutParams, ElementAnswer, ElementId, Hyperplane, PolytopeFate, Refusal, Reply};
 use sound::cut_sound;
 use soundness::sound::memory_indexed;
 use space::chains::INDEX;
@@ -27,13 +27,13 @@ pub fn cut(
     elements: &mut [u16],
     params: CutParams,
     root: ElementId,
-) -> CutReply
+) -> Reply<ElementAnswer>
     ensures { (result, memory_of counts.new points.new planes.new elements.new)
         ≡ cut_reply desk params root.0 (memory_of counts.old points.old planes.old elements.old) }
 {
     let mut index = [0u16; INDEX];
     if !memory_indexed(counts, points, planes, elements, &mut index) {
-        return CutReply::Refused(3);
+        return Err(Refusal::NotSound);
     }
     cut_sound(counts, points, planes, elements, &mut index, params, root)
 }
@@ -46,7 +46,7 @@ pub fn carve(
     elements: &mut [u16],
     divider: Hyperplane,
     root: ElementId,
-) -> CutReply
+) -> Reply<ElementAnswer>
     ensures { (result, memory_of counts.new points.new planes.new elements.new)
         ≡ cut_reply desk (cut_by divider PolytopeFate.Keep PolytopeFate.Remove) root.0 (memory_of counts.old points.old planes.old elements.old) }
 {
@@ -66,7 +66,7 @@ pub fn slice(
     elements: &mut [u16],
     divider: Hyperplane,
     root: ElementId,
-) -> CutReply
+) -> Reply<ElementAnswer>
     ensures { (result, memory_of counts.new points.new planes.new elements.new)
         ≡ cut_reply desk (cut_by divider PolytopeFate.Keep PolytopeFate.Keep) root.0 (memory_of counts.old points.old planes.old elements.old) }
 {

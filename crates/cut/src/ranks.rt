@@ -5,7 +5,7 @@ ghost use Rattle.cut.specs.Higher.{GatherReady, KnownGathered, HigherReady, High
 use crate::known::{KNOWN, keep, output_at};
 use gathered::sets::ROOM;
 use gathered::{answer, sets};
-use rules::{Cutter, ElementId};
+use rules::{Cutter, ElementId, Reply};
 use space::chains::INDEX;
 use space::rows;
 use space::words::{COUNTS, SET, wide};
@@ -21,7 +21,7 @@ pub fn answer_low(
     e: ElementId,
     rank: usize,
     k: Cutter,
-) -> u8
+) -> Reply<()>
     requires { LowReady counts.old points.old elements.old index.old known.old room.old rank e.0 k }
     ensures { ElementAsked counts.old points.old elements.old known.old room.old rank e.0 k result
         counts.new points.new elements.new index.new known.new room.new }
@@ -54,7 +54,7 @@ pub fn answer_higher(
     e: ElementId,
     rank: usize,
     k: Cutter,
-) -> u8
+) -> Reply<()>
     requires { HigherReady counts.old elements.old index.old known.old room.old rank e.0 k }
     ensures { HigherAsked counts.old elements.old known.old room.old rank e.0 k result
         counts.new elements.new index.new known.new room.new }

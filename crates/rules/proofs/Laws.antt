@@ -6,6 +6,9 @@ use mathlib.Core.Bool.{true, false, Bool, cond, false≢true, not, true≢false,
 use mathlib.Core.Path.{◌≡◌, refl, subst, sym, ◌∙◌}
 use native.Mathlib.Nat.{lt_irrefl, le_trans, suc-ne-zero}
 use lib.Dec.{T, leb, leb→le, le→leb, nleb→lt, eqb, eqb_refl, eqb→eq}
+use Rattle.std.specs.Prelude.{Ok, Err, is_err}
+use Rattle.rules.specs.Refusals.{Reply}
+use Rattle.rules.specs.declared.Refusal.{Refusal}
 
 -- ---- true and false
 
@@ -166,3 +169,7 @@ value_of (Some i) = i
 abbrev pub is_found : Option ℕ → Bool
 is_found None = false
 is_found (Some i) = true
+
+-- a reply is a refusal or an answer
+pub not_both : {A B : Type 0} {x : Refusal} {a : A} → ◌≡◌ {A = Reply A} (Err x) (Ok a) → B
+not_both {A} q = absurd (subst (λ (r : Reply A). T (is_err r)) q tt)

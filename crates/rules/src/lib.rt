@@ -4,6 +4,7 @@
 
 ghost use Rattle.std.specs.Prelude.{◌≡◌};
 ghost use Rattle.rules.specs.Refusals.{refusal_number};
+ghost use Rattle.rules.specs.Replies.{fate_of};
 
 // An element's number in its list.
 #[derive(Clone, Copy, Debug, PartialEq, Eq, PartialOrd, Ord)]
@@ -51,6 +52,17 @@ pub struct EdgeTest {
 pub enum PolytopeFate {
     Remove,
     Keep,
+}
+
+impl From<bool> for PolytopeFate {
+    ghost from_gives = { λ keep fate. fate ≡ fate_of keep };
+
+    fn from(keep: bool) -> PolytopeFate {
+        if keep {
+            return PolytopeFate::Keep;
+        }
+        PolytopeFate::Remove
+    }
 }
 
 // The parameters of a cut: its divider, and what becomes of each side.

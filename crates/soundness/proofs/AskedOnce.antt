@@ -18,7 +18,7 @@ use Rattle.rules.specs.Questions.{Asked, no_answer}
 use Rattle.rules.specs.Replies as replies
 use Rattle.rules.specs.Replies.{distance_fits, divider_fits}
 use Rattle.rules.specs.declared.Hyperplane.{Hyperplane}
-use Rattle.rules.proofs.Laws.{and_left, and_right, le_test, test_eq, eq_test}
+use Rattle.rules.proofs.Laws.{not_both, and_left, and_right, le_test, test_eq, eq_test}
 use Rattle.hypermath.specs.Answers.{unit_normal, distance_kind}
 use Rattle.hypermath.specs.declared.DistanceKind.{DistanceKind}
 use Rattle.hypermath.specs.declared.DistanceKind.TheVariants.{Unfit, Finite, PlusInfinity, MinusInfinity}
@@ -220,10 +220,6 @@ module _ (m : Memory) (h : Hyperplane) (root : ℕ) where
       finite_within h.distance p.0.fits.distance p.1
 
 -- ---- some roots
-
--- a reply is a refusal or an answer
-not_both : {A B : Type 0} {x : Refusal} {a : A} → ◌≡◌ {A = Reply A} (Err x) (Ok a) → B
-not_both {A} q = absurd (subst (λ (r : Reply A). T (is_err r)) q tt)
 
 module _ (cs : List ℕ) (ps hs : List Float) (es roots : List ℕ) where
   abbrev m : Memory
