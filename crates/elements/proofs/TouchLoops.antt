@@ -1,5 +1,5 @@
 -- What is left of the corners makes of what was tested so far what all of them make of nothing; and that is what the rules read from the sides of the vertex set.
-use Rattle.std.specs.Prelude.{if◌then◌else◌}
+use Rattle.std.specs.Prelude.{if◌then◌else◌, Ok}
 use Prim.Native.Nat.{ℕ, suc, ◌+◌, ◌*◌, ◌-◌, ◌/◌, ◌^◌, ◌<◌, ◌≤◌}
 use mathlib.Core.Bool.{Bool, true, false, ◌&&◌, ◌||◌, true≢false}
 use mathlib.Core.List.{List, [], ◌∷◌, ◌++◌, map}
@@ -288,9 +288,9 @@ module _ {cs : List ℕ} {ps hs : List Float} {es : List ℕ} {t : Table} (H : H
 pub ready_corners : {cs : List ℕ} {ps : List Float} {es : List ℕ} {root : ℕ} {ws : List ℕ} → TouchReady cs ps es root → Level es root 0 ws → CornersReady ps es ws
 ready_corners {root = root} {ws} R v = corners_ready R.holds R.sound root R.used ws v
 
-pub finite_touched : {cs : List ℕ} {ps : List Float} {es : List ℕ} {h : Hyperplane} {root : ℕ} (ws : List ℕ) (d : ℕ) (s : Tested) {r : Reply Touched}
-    → Level es root 0 ws → d ≡ get_or cs 0 0 → s ≡ tested_to nothing_tested (map (corner_side d h ps es) (marked_numbers ws)) → r ≡ answer_of s → FiniteTouched cs ps es h root r
+pub finite_touched : {cs : List ℕ} {ps : List Float} {es : List ℕ} {h : Hyperplane} {root : ℕ} (ws : List ℕ) (d : ℕ) (s : Tested) {r : Touched}
+    → Level es root 0 ws → d ≡ get_or cs 0 0 → s ≡ tested_to nothing_tested (map (corner_side d h ps es) (marked_numbers ws)) → r ≡ touch_with (touch_by s.inside s.outside) s.corners → FiniteTouched cs ps es h root r
 finite_touched {h = h} {root} ws d s v e q a = record {
-  of = λ hs t H k u. a ∙ ap answer_of (q ∙ ap (tested_to nothing_tested) (sides_are H k root u ws v d h (dimension_is d e H)))
+  of = λ hs t H k u. ap Ok a ∙ ap answer_of (q ∙ ap (tested_to nothing_tested) (sides_are H k root u ws v d h (dimension_is d e H)))
       ∙ sides_told (corner_sides (divider_of t.dimension h) t root);
 }

@@ -1,5 +1,5 @@
 -- How the corners of an element are tested against a plane, in rising order, by their marks. Definitions only.
-use Rattle.std.specs.Prelude.{ℕ, ◌+◌, ◌<◌, ◌≤◌, true, false, ◌&&◌, ◌≡◌, List, [], ◌∷◌, map, length, Float, if◌then◌else◌}
+use Rattle.std.specs.Prelude.{ℕ, ◌+◌, ◌<◌, ◌≤◌, true, false, ◌&&◌, ◌≡◌, List, [], ◌∷◌, map, length, Float, if◌then◌else◌, Ok}
 use Rattle.rules.specs.Limits.{desk}
 use Rattle.rules.specs.Lists.{member}
 use Rattle.rules.specs.Floats.{side_of}
@@ -79,5 +79,5 @@ pub record TouchReady (cs : List ℕ) (ps : List Float) (es : List ℕ) (root : 
   pub used : root < element_count table
 
 -- whatever such table it is: what is read from the sides of the corners
-pub record FiniteTouched (cs : List ℕ) (ps : List Float) (es : List ℕ) (h : Hyperplane) (root : ℕ) (reply : Reply Touched) : Type 0 where
-  pub of : (hs : List Float) (t : Table) → Holds desk cs ps hs es t → sound desk t ≡ true → root < element_count t → reply ≡ touched (corner_sides (divider_of t.dimension h) t root)
+pub record FiniteTouched (cs : List ℕ) (ps : List Float) (es : List ℕ) (h : Hyperplane) (root : ℕ) (reply : Touched) : Type 0 where
+  pub of : (hs : List Float) (t : Table) → Holds desk cs ps hs es t → sound desk t ≡ true → root < element_count t → Ok reply ≡ touched (corner_sides (divider_of t.dimension h) t root)

@@ -9,8 +9,8 @@ use crate::common::{all_of_rank, common};
 use crate::levels::level;
 use crate::listing::{list_marks, list_vertices};
 use crate::ranks::greatest;
-use rules::{ElementId, ListReply};
-use soundness::asked::{root_refusal, roots_refusal};
+use rules::{ElementId, Refusal, Reply};
+use soundness::asked::{root_asked, roots_asked};
 use space::rows::rank_of;
 use space::words::wide;
 
@@ -22,13 +22,10 @@ pub fn subelements_of(
     elements: &[u16],
     root: ElementId,
     list: &mut [u16],
-) -> ListReply
+) -> Reply<usize>
     ensures { (result, list.new) ≡ sub_elements_reply desk (memory_of counts.now points.now planes.now elements.now) root.0 list.old }
 {
-    let no = root_refusal(counts, points, planes, elements, root);
-    if no != 0 {
-        return ListReply::Refused(no);
-    }
+    root_asked(counts, points, planes, elements, root)?;
     let s = below(elements, root);
     list_marks(s, list)
 }
@@ -42,13 +39,10 @@ pub fn subelements_with_rank(
     root: ElementId,
     rank: u8,
     list: &mut [u16],
-) -> ListReply
+) -> Reply<usize>
     ensures { (result, list.new) ≡ with_rank_reply desk (memory_of counts.now points.now planes.now elements.now) rank root.0 list.old }
 {
-    let no = root_refusal(counts, points, planes, elements, root);
-    if no != 0 {
-        return ListReply::Refused(no);
-    }
+    root_asked(counts, points, planes, elements, root)?;
     let some = level(elements, root, rank as usize);
     list_marks(some, list)
 }
@@ -61,13 +55,10 @@ pub fn vertex_set(
     elements: &[u16],
     root: ElementId,
     list: &mut [u16],
-) -> ListReply
+) -> Reply<usize>
     ensures { (result, list.new) ≡ vertex_set_reply desk (memory_of counts.now points.now planes.now elements.now) root.0 list.old }
 {
-    let no = root_refusal(counts, points, planes, elements, root);
-    if no != 0 {
-        return ListReply::Refused(no);
-    }
+    root_asked(counts, points, planes, elements, root)?;
     let corners = level(elements, root, 0);
     list_vertices(elements, corners, list)
 }
@@ -80,19 +71,16 @@ pub fn greatest_common_subelements(
     elements: &[u16],
     roots: &[u16],
     list: &mut [u16],
-) -> ListReply
+) -> Reply<usize>
     ensures { (result, list.new) ≡ greatest_common_reply desk (memory_of counts.now points.now planes.now elements.now) roots.now list.old }
 {
-    let no = roots_refusal(counts, points, planes, elements, roots);
-    if no != 0 {
-        return ListReply::Refused(no);
-    }
-    if roots.len() == 0 {
-        return ListReply::Refused(6);
+    roots_asked(counts, points, planes, elements, roots)?;
+    if roots.is_empty() {
+        return Err(Refusal::Rank);
     }
     let rank = rank_of(elements, ElementId(wide(roots[0])));
     if !all_of_rank(elements, roots, rank) {
-        return ListReply::Refused(6);
+        return Err(Refusal::Rank);
     }
     let s = common(elements, roots);
     let some = greatest(elements, s, rank);

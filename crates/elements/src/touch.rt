@@ -2,14 +2,14 @@
 ghost use Rattle.std.specs.Prelude.{◌+◌, ◌<◌, ◌&&◌, map, ◌≡◌};
 ghost use Rattle.rules.specs.Limits.{desk};
 ghost use Rattle.rules.specs.Held.{memory_of};
-ghost use Rattle.rules.specs.Touch.{touch_by, touch_reply};
+ghost use Rattle.rules.specs.Touch.{touch_by, touch_with, touch_reply};
 ghost use Rattle.elements.specs.Marks.{marked_numbers};
 ghost use Rattle.elements.specs.Touches.{corner_side, with_side, tested_to, nothing_tested, CornerReady, WordTestable, WordTested, CornersReady, TouchReady, FiniteTouched};
 
 use crate::levels::level;
 use crate::marks::{BITS, WORDS, zeros_below};
 use hypermath::{side_of, signed_distance};
-use rules::{ElementId, Hyperplane, Side, Touch, TouchReply, VertexId};
+use rules::{ElementId, Hyperplane, Reply, Side, Touch, Touched, VertexId};
 use soundness::asked::{Asking, divider_asked};
 use space::chains::INDEX;
 use space::memo::read_point;
@@ -121,24 +121,19 @@ fn test_corners(
     s
 }
 
-fn told(s: Tested) -> TouchReply
-    ensures { result ≡ TouchReply.Touched (touch_by s.inside s.outside) s.corners }
+fn told(s: Tested) -> Touched
+    ensures { result ≡ touch_with (touch_by s.inside s.outside) s.corners }
 {
-    let tested = s.corners;
-    if s.inside {
-        if s.outside {
-            let answer = Touch::Both;
-            return TouchReply::Touched { answer, tested };
-        }
-        let answer = Touch::InsideOrOn;
-        return TouchReply::Touched { answer, tested };
+    let answer = match (s.inside, s.outside) {
+        (false, false) => Touch::AllOn,
+        (true, false) => Touch::InsideOrOn,
+        (false, true) => Touch::OutsideOrOn,
+        (true, true) => Touch::Both,
+    };
+    Touched {
+        answer,
+        tested: s.corners,
     }
-    if s.outside {
-        let answer = Touch::OutsideOrOn;
-        return TouchReply::Touched { answer, tested };
-    }
-    let answer = Touch::AllOn;
-    TouchReply::Touched { answer, tested }
 }
 
 // The corners of the root, by their marks.
@@ -148,7 +143,7 @@ fn touch_finite(
     elements: &[u16],
     h: Hyperplane,
     root: ElementId,
-) -> TouchReply
+) -> Touched
     requires { TouchReady counts.now points.now elements.now root.0 }
     ensures { FiniteTouched counts.now points.now elements.now h root.0 result }
 {
@@ -160,11 +155,10 @@ fn touch_finite(
 }
 
 // Rule 1: all on one side, and no corner is tested.
-fn all_on(answer: Touch) -> TouchReply
-    ensures { result ≡ TouchReply.Touched answer 0 }
+fn untested(answer: Touch) -> Touched
+    ensures { result ≡ touch_with answer 0 }
 {
-    let tested = 0;
-    TouchReply::Touched { answer, tested }
+    Touched { answer, tested: 0 }
 }
 
 // 3, 4, 5, then rule 1, and the corners. The memory is read only.
@@ -175,15 +169,14 @@ pub fn touch(
     elements: &[u16],
     h: Hyperplane,
     root: ElementId,
-) -> TouchReply
+) -> Reply<Touched>
     ensures { result ≡ touch_reply desk h root.0 (memory_of counts.now points.now planes.now elements.now) }
 {
     let mut index = [0u16; INDEX];
-    let asked = divider_asked(counts, points, planes, elements, &mut index, h, root);
-    match asked {
-        Asking::Refused(n) => TouchReply::Refused(n),
-        Asking::AllInside => all_on(Touch::InsideOrOn),
-        Asking::AllOutside => all_on(Touch::OutsideOrOn),
+    let asked = divider_asked(counts, points, planes, elements, &mut index, h, root)?;
+    Ok(match asked {
+        Asking::AllInside => untested(Touch::InsideOrOn),
+        Asking::AllOutside => untested(Touch::OutsideOrOn),
         Asking::Finite => touch_finite(counts, points, elements, h, root),
-    }
+    })
 }

@@ -16,7 +16,7 @@ use Rattle.rules.specs.Replies.{facet_answer, primordial_facet_reply}
 use Rattle.rules.proofs.Good.{Good}
 use Rattle.rules.proofs.Laws.{if_true, if_false, test_eq, not_eq, le_test, mark_back}
 use Rattle.space.proofs.Room.{mark_word}
-use Rattle.soundness.specs.Asked.{refusal}
+use Rattle.soundness.specs.Asked.{roots_asked}
 use Rattle.soundness.proofs.AskedOnce as once
 use Rattle.soundness.proofs.AskedOnce.{table}
 use Rattle.walk.specs.Boundaries.{row_boundary, BoundaryFits}
@@ -25,6 +25,8 @@ use Rattle.walk.proofs.Asking as ask
 use Rattle.walk.proofs.Boundaries.{row_on, row_end, bounds, boundary_fits, boundary_is}
 use Rattle.rules.specs.declared.Refusal.TheVariants.{Rank}
 use Rattle.std.specs.Prelude.{Ok, Err}
+use Rattle.rules.specs.Refusals.{Reply}
+use Rattle.rules.specs.declared.Refusal.{Refusal}
 
 -- ---- a search for one of which p holds
 
@@ -53,15 +55,15 @@ marks_are {es = es} {t} q H (x ∷ xs) h =
     || marks_are q H xs h.1 i)
 
 -- n is what the code found
-module _ (root : ℕ) (cs : List ℕ) (ps hs : List Float) (es : List ℕ) (n : ℕ) (e : n ≡ refusal (memory_of cs ps hs es) (root ∷ [])) where
+module _ (root : ℕ) (cs : List ℕ) (ps hs : List Float) (es : List ℕ) (n : Reply (Unit {0})) (e : n ≡ roots_asked (memory_of cs ps hs es) (root ∷ [])) where
   abbrev t : Table
   t = table cs ps hs es
 
-  pub refused : (n ≡ 0 → ⊥) → Err n ≡ primordial_facet_reply desk (memory_of cs ps hs es) root
+  pub refused : (x : Refusal) → n ≡ Err x → Err x ≡ primordial_facet_reply desk (memory_of cs ps hs es) root
   unfolding primordial_facet_reply
-  refused z = ap facet_answer (once.refused cs ps hs es (root ∷ []) n e (primordial_facet t root) z)
+  refused x z = ap facet_answer (once.refused cs ps hs es (root ∷ []) n e (primordial_facet t root) x z)
 
-  module _ (z : n ≡ 0) where
+  module _ (z : n ≡ Ok tt) where
     H : Holds desk cs ps hs es t
     H = ask.holds cs ps hs es root n e z
 

@@ -22,7 +22,7 @@ use Rattle.rules.proofs.FaceEdges.{start_first, takes_all}
 use Rattle.rules.proofs.Good.{Good, sound_good}
 use Rattle.rules.proofs.Laws.{if_true, if_false, test_eq, not_eq, test_le, test_above}
 use Rattle.rules.proofs.WalkRound.{taken}
-use Rattle.soundness.specs.Asked.{refusal}
+use Rattle.soundness.specs.Asked.{roots_asked}
 use Rattle.soundness.proofs.AskedOnce as once
 use Rattle.soundness.proofs.AskedOnce.{table}
 use Rattle.walk.specs.Boundaries.{row_boundary, BoundaryFits}
@@ -34,6 +34,7 @@ use Rattle.walk.proofs.Starts.{start_corner, start_is}
 use Rattle.walk.proofs.Walking.{first_is, first_met, walk_is}
 use Rattle.rules.specs.Refusals.{Reply}
 use Rattle.rules.specs.declared.Refusal.TheVariants.{NotClosed, Rank, RoomShort}
+use Rattle.rules.specs.declared.Refusal.{Refusal}
 
 -- ---- 12, or the list written
 
@@ -144,18 +145,18 @@ module _ {cs : List ℕ} {ps hs : List Float} {es : List ℕ} {t : Table} (H : H
 -- ---- what was asked, and then the walk
 
 -- n is what the code found
-module _ (root : ℕ) (cs : List ℕ) (ps hs : List Float) (es room : List ℕ) (n : ℕ) (e : n ≡ refusal (memory_of cs ps hs es) (root ∷ [])) where
+module _ (root : ℕ) (cs : List ℕ) (ps hs : List Float) (es room : List ℕ) (n : Reply (Unit {0})) (e : n ≡ roots_asked (memory_of cs ps hs es) (root ∷ [])) where
   abbrev t : Table
   t = table cs ps hs es
 
   abbrev reply : Reply ℕ × List ℕ
   reply = edges_in_order_reply desk (memory_of cs ps hs es) root room
 
-  pub refused : (n ≡ 0 → ⊥) → (Err n, room) ≡ reply
+  pub refused : (x : Refusal) → n ≡ Err x → (Err x, room) ≡ reply
   unfolding edges_in_order_reply
-  refused z = ap (λ (a : Asked (List ℕ)). listed a room) (once.refused cs ps hs es (root ∷ []) n e (in_numbers (edges_in_order t root)) z)
+  refused x z = ap (λ (a : Asked (List ℕ)). listed a room) (once.refused cs ps hs es (root ∷ []) n e (in_numbers (edges_in_order t root)) x z)
 
-  module _ (z : n ≡ 0) where
+  module _ (z : n ≡ Ok tt) where
     goes : listed (in_numbers (edges_in_order t root)) room ≡ reply
     unfolding edges_in_order_reply
     goes = ap (λ (a : Asked (List ℕ)). listed a room) (once.question_is cs ps hs es (root ∷ []) n e z (in_numbers (edges_in_order t root)))

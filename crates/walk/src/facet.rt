@@ -7,8 +7,8 @@ ghost use Rattle.rules.specs.Replies.{primordial_facet_reply};
 ghost use Rattle.walk.specs.Boundaries.{row_boundary, BoundaryFits};
 ghost use Rattle.walk.specs.Facets.{row_primordial};
 
-use rules::{ElementId, FacetReply};
-use soundness::asked::root_refusal;
+use rules::{ElementId, Refusal, Reply};
+use soundness::asked::root_asked;
 use space::rows;
 use space::words::wide;
 
@@ -34,15 +34,12 @@ pub fn has_primordial_facet(
     planes: &[f64],
     elements: &[u16],
     root: ElementId,
-) -> FacetReply
+) -> Reply<bool>
     ensures { result ≡ primordial_facet_reply desk (memory_of counts.now points.now planes.now elements.now) root.0 }
 {
-    let no = root_refusal(counts, points, planes, elements, root);
-    if no != 0 {
-        return FacetReply::Refused(no);
-    }
+    root_asked(counts, points, planes, elements, root)?;
     if rows::rank_of(elements, root) != wide(counts[0]) {
-        return FacetReply::Refused(6);
+        return Err(Refusal::Rank);
     }
-    FacetReply::Has(any_primordial(elements, root))
+    Ok(any_primordial(elements, root))
 }

@@ -14,8 +14,8 @@ ghost use Rattle.walk.specs.Boundaries.{row_boundary, BoundaryFits};
 ghost use Rattle.walk.specs.Walks as words;
 ghost use Rattle.walk.specs.Walks.{has_end, end_across, edge_beside, lowest_end, no_edge, first_way, numbers_round, words_in_order, EndReady, VertexOf, FaceFits, ListFits, WalkFits};
 
-use rules::{ElementId, ListReply, VertexId};
-use soundness::asked::root_refusal;
+use rules::{ElementId, Refusal, Reply, VertexId};
+use soundness::asked::root_asked;
 use space::rows;
 use space::words::wide;
 
@@ -154,16 +154,16 @@ pub fn walk_face(elements: &[u16], f: ElementId, list: &mut [u16])
 }
 
 // 12, and only then is the list written.
-pub fn face_in_order(elements: &[u16], f: ElementId, list: &mut [u16]) -> ListReply
+pub fn face_in_order(elements: &[u16], f: ElementId, list: &mut [u16]) -> Reply<usize>
     requires { FaceFits elements.now f.0 }
     ensures { (result, list.new) ≡ listed (answer (words_in_order elements.now (row_boundary elements.now f.0))) list.old }
 {
     let n = rows::size_of(elements, f);
     if list.len() < 2 * n {
-        return ListReply::Refused(12);
+        return Err(Refusal::RoomShort);
     }
     walk_face(elements, f, list);
-    ListReply::Listed(2 * n)
+    Ok(2 * n)
 }
 
 // 3, 4, 6, and 12 last.
@@ -174,15 +174,12 @@ pub fn edges_in_order(
     elements: &[u16],
     root: ElementId,
     list: &mut [u16],
-) -> ListReply
+) -> Reply<usize>
     ensures { (result, list.new) ≡ edges_in_order_reply desk (memory_of counts.now points.now planes.now elements.now) root.0 list.old }
 {
-    let no = root_refusal(counts, points, planes, elements, root);
-    if no != 0 {
-        return ListReply::Refused(no);
-    }
+    root_asked(counts, points, planes, elements, root)?;
     if rows::rank_of(elements, root) != 2 {
-        return ListReply::Refused(6);
+        return Err(Refusal::Rank);
     }
     face_in_order(elements, root, list)
 }
