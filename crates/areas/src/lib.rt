@@ -14,7 +14,7 @@ ghost use Rattle.rules.specs.Areas.{areas_reply};
 ghost use Rattle.areas.specs.Words.{word_area, words_on_grid, word_sheet, sheet_asked, row_is_face, PiecesFit, PiecesUsed, SheetFits, Sized, AreasWritten};
 
 use crate::piece::{is_piece_on_grid, twice_area};
-use rules::{ElementId, ListReply};
+use rules::{ElementId, Refusal, Reply};
 use soundness::sound::memory_sound;
 use space::rows;
 use space::words::wide;
@@ -92,19 +92,19 @@ fn write_sheet(points: &[f64], elements: &[u16], pieces: &[u16], areas: &mut [i6
 }
 
 // 25 of all pieces, then 12, and only then is the room written.
-fn sheet_of(points: &[f64], elements: &[u16], pieces: &[u16], areas: &mut [i64]) -> ListReply
+fn sheet_of(points: &[f64], elements: &[u16], pieces: &[u16], areas: &mut [i64]) -> Reply<usize>
     requires { PiecesFit points.now elements.now pieces.now }
     ensures { (result, areas.new) ≡ listed (sheet_asked points.now elements.now pieces.now) areas.old }
 {
     if !are_on_grid(points, elements, pieces) {
-        return ListReply::Refused(25);
+        return Err(Refusal::OffGrid);
     }
     let n = pieces.len() + 2;
     if areas.len() < n {
-        return ListReply::Refused(12);
+        return Err(Refusal::RoomShort);
     }
     write_sheet(points, elements, pieces, areas);
-    ListReply::Listed(n)
+    Ok(n)
 }
 
 // 3, 26, 4, 6, 25, 12, each of all pieces before the next; the room gets the areas, their count, and the sum of their sizes.
@@ -115,23 +115,23 @@ pub fn areas(
     elements: &[u16],
     pieces: &[u16],
     areas: &mut [i64],
-) -> ListReply
+) -> Reply<usize>
     ensures { (result, areas.new) ≡ areas_reply desk (memory_of counts.now points.now planes.now elements.now) pieces.now areas.old }
 {
     if !memory_sound(counts, points, planes, elements) {
-        return ListReply::Refused(3);
+        return Err(Refusal::NotSound);
     }
     if MOST_PIECES < pieces.len() {
-        return ListReply::Refused(26);
+        return Err(Refusal::ListLong);
     }
     if !are_in_use(wide(counts[1]), pieces) {
-        return ListReply::Refused(4);
+        return Err(Refusal::NotInUse);
     }
     if counts[0] != 2 {
-        return ListReply::Refused(6);
+        return Err(Refusal::Rank);
     }
     if !are_faces(elements, pieces) {
-        return ListReply::Refused(6);
+        return Err(Refusal::Rank);
     }
     sheet_of(points, elements, pieces, areas)
 }

@@ -13,7 +13,7 @@ ghost use Rattle.cube.specs.Writing.{PointsRoom, PlanesRoom, ElementsRoom, RoomR
 ghost use Rattle.cube.specs.Writing.{CornerPut, PointsPut, FacetPut, PlanesPut, CubePut};
 ghost use Rattle.rules.specs.Replies.{cube_reply};
 
-use rules::{ElementId, Hyperplane, HyperplaneId, VertexId};
+use rules::{ElementId, Hyperplane, HyperplaneId, Refusal, Reply, VertexId};
 use space::words::{AXES, NO_PLANE, PLANE_WIDTH, SET, WIDTH, right_size};
 use space::{memo, restore, rows};
 
@@ -341,22 +341,22 @@ pub fn with_primordial_cube_radius(
     points: &mut [f64],
     planes: &mut [f64],
     elements: &mut [u16],
-) -> u8
+) -> Reply<()>
     ensures { (result, memory_of counts.new points.new planes.new elements.new)
         ≡ cube_reply desk dimension radius (memory_of counts.old points.old planes.old elements.old) }
 {
     if dimension < 1 {
-        return 1;
+        return Err(Refusal::Dimension);
     }
     if 4 < dimension {
-        return 1;
+        return Err(Refusal::Dimension);
     }
     if !radius_fits(radius) {
-        return 2;
+        return Err(Refusal::Radius);
     }
     if !right_size(counts, points, planes, elements) {
-        return 3;
+        return Err(Refusal::NotSound);
     }
     put_cube(counts, points, planes, elements, dimension as usize, radius);
-    0
+    Ok(())
 }

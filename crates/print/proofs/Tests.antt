@@ -44,16 +44,19 @@ module _ (cs : List ℕ) (ps hs : List Float) (es : List ℕ) (root : ℕ) where
 
   -- ---- 3, 4, and 6 for the rank
 
-  pub refused : (room : List ℕ) (n : ℕ) (r : Reply Bool) → r ≡ primordial_facet_reply desk m root → r ≡ Err n → (Err n, room) ≡ print_reply desk m root room
+  pub refused : (room : List ℕ) (n : Refusal) (r : Reply Bool) → r ≡ primordial_facet_reply desk m root → r ≡ Err n → (Err n, room) ≡ print_reply desk m root room
   unfolding primordial_facet_reply primordial_facet print_reply printed
   refused room n r e h = go (sound_memory desk m) (ltb root (element_count t)) (eqb (rank t root) t.dimension) (eqb t.dimension 3) facet (sym e ∙ h)
     where
+      same : {x : Refusal} → ◌≡◌ {A = Reply Bool} (Err x) (Err n) → n ≡ x
+      same q = cc
+
       go : (a b c k d : Bool) → facet_answer (if not a then no_answer NotSound else if not (b && true) then no_answer NotInUse else if c then answer d else no_answer Rank) ≡ Err n
           → (Err n, room) ≡ listed (if not a then no_answer NotSound else if not (b && true) then no_answer NotInUse else if k then unless_facet (if c then answer d else no_answer Rank) (print_file t root) else no_answer Rank) room
-      go false b c k d q = ap (λ (j : ℕ). (Err j, room)) (sym (ap reply_number q))
-      go true false c k d q = ap (λ (j : ℕ). (Err j, room)) (sym (ap reply_number q))
-      go true true false true d q = ap (λ (j : ℕ). (Err j, room)) (sym (ap reply_number q))
-      go true true false false d q = ap (λ (j : ℕ). (Err j, room)) (sym (ap reply_number q))
+      go false b c k d q = ap (λ (j : Refusal). (Err j, room)) (same q)
+      go true false c k d q = ap (λ (j : Refusal). (Err j, room)) (same q)
+      go true true false true d q = ap (λ (j : Refusal). (Err j, room)) (same q)
+      go true true false false d q = ap (λ (j : Refusal). (Err j, room)) (same q)
       go true true true k d q = none_some d (sym (ap facet_value q))
 
   -- ---- an answer: the memory is sound, the root in use and of full rank

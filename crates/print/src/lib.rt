@@ -16,7 +16,7 @@ ghost use Rattle.walk.specs.Boundaries.{row_boundary};
 ghost use Rattle.print.specs.Pieces.{face_in, count_in, file_in, FacesReady, SolidReady, PieceReady};
 
 use lent_bytes::write;
-use rules::{ElementId, FacetReply, ListReply};
+use rules::{ElementId, Refusal, Reply};
 use space::rows;
 use space::words::wide;
 use triangles::face;
@@ -58,18 +58,18 @@ fn faces(points: &[f64], elements: &[u16], root: ElementId, room: &mut [u8], at:
 }
 
 // 12, and only then is the file written.
-fn solid(points: &[f64], elements: &[u16], root: ElementId, file: &mut [u8]) -> ListReply
+fn solid(points: &[f64], elements: &[u16], root: ElementId, file: &mut [u8]) -> Reply<usize>
     requires { SolidReady points.now elements.now root.0 }
     ensures { (result, file.new) ≡ listed (answer (file_in points.now elements.now root.0)) file.old }
 {
     let n = triangle_count(elements, root);
     if file.len() < HEAD + TRIANGLE * n {
-        return ListReply::Refused(12);
+        return Err(Refusal::RoomShort);
     }
     let counted = write::number(HEADER, 0, file, 0);
     let start = write::number(4, n as u64, file, counted);
     let end = faces(points, elements, root, file, start);
-    ListReply::Listed(end)
+    Ok(end)
 }
 
 // The print file of a piece at the front of the room.
@@ -80,19 +80,15 @@ pub fn stl(
     elements: &[u16],
     root: ElementId,
     file: &mut [u8],
-) -> ListReply
+) -> Reply<usize>
     ensures { (result, file.new) ≡ print_reply desk (memory_of counts.now points.now planes.now elements.now) root.0 file.old }
 {
-    match has_primordial_facet(counts, points, planes, elements, root) {
-        FacetReply::Refused(n) => ListReply::Refused(n),
-        FacetReply::Has(primordial) => {
-            if wide(counts[0]) != 3 {
-                return ListReply::Refused(6);
-            }
-            if primordial {
-                return ListReply::Refused(16);
-            }
-            solid(points, elements, root, file)
-        }
+    let primordial = has_primordial_facet(counts, points, planes, elements, root)?;
+    if wide(counts[0]) != 3 {
+        return Err(Refusal::Rank);
     }
+    if primordial {
+        return Err(Refusal::PrimordialFacet);
+    }
+    solid(points, elements, root, file)
 }
