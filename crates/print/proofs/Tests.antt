@@ -27,6 +27,7 @@ use Rattle.print.specs.Pieces.{point_in, file_in, SolidReady}
 use Rattle.print.proofs.Printing.{row_point, solid_ready, file_is}
 use Rattle.rules.specs.Refusals.{Reply, reply_number}
 use Rattle.rules.specs.declared.Refusal.TheVariants.{NotInUse, NotSound, PrimordialFacet, Rank}
+use Rattle.rules.specs.declared.Refusal.{Refusal}
 
 abbrev some_bool : Option Bool → Bool
 some_bool None = false

@@ -9,7 +9,7 @@ use lent_bytes::write;
 use rules::{ElementId, VertexId};
 use space::rows;
 use space::words::{AXES, BOUNDARY, wide};
-use walk::face_in_order;
+use walk::walk_face;
 
 // A walk has two numbers for each edge of a face.
 const WALK: usize = 2 * BOUNDARY;
@@ -62,6 +62,6 @@ pub fn face(points: &[f64], elements: &[u16], f: ElementId, room: &mut [u8], at:
 {
     let mut list = [0u16; WALK];
     let n = rows::size_of(elements, f);
-    face_in_order(elements, f, &mut list);
+    walk_face(elements, f, &mut list);
     fan(points, &list, n, room, at)
 }
