@@ -13,16 +13,10 @@ use Rattle.rules.proofs.Laws.{test_eq, not_eq}
 use Rattle.desk.specs.Words.{cut_word, fate_by}
 use Rattle.rules.specs.Refusals.{Reply}
 use Rattle.rules.specs.declared.ElementAnswer.{ElementAnswer}
-use Rattle.std.specs.Prelude.{Err}
+use Rattle.std.specs.Prelude.{Err, Ok}
 use Rattle.rules.specs.Replies.{answer_with}
-
--- ---- a side
-
-pub fate_none : (n : ℕ) → n ≡ 0 → Remove ≡ fate_by n
-fate_none n q = sym (ap (λ (b : Bool). fate_of (not b)) (test_eq n 0 q))
-
-pub fate_some : (n : ℕ) → (n ≡ 0 → ⊥) → Keep ≡ fate_by n
-fate_some n q = sym (ap (λ (b : Bool). fate_of (not b)) (not_eq n 0 q))
+use Rattle.rules.specs.Refusals.{refusal_number}
+use Rattle.rules.specs.declared.Refusal.{Refusal}
 
 -- ---- the whole reply
 
@@ -31,8 +25,8 @@ module _ (h : Hyperplane) (i o : PolytopeFate) (root : ℕ) (m m' : Memory) {r :
     same : cut_word (r, m') ≡ cut_word (cut_reply desk (cut_by h i' o') root m)
     same = ap cut_word (e ∙ ap₂ (λ (x y : PolytopeFate). cut_reply desk (cut_by h x y) root m) ei eo)
 
-    pub word_refused : (n : ℕ) → r ≡ Err n → (n, m') ≡ cut_word (cut_reply desk (cut_by h i' o') root m)
-    word_refused n q = (λ j. cut_word (sym q j, m')) ∙ same
+    pub word_refused : (n : Refusal) (x : ℕ) → r ≡ Err n → x ≡ refusal_number n → (x, m') ≡ cut_word (cut_reply desk (cut_by h i' o') root m)
+    word_refused n x q v = (λ j. (v j, m')) ∙ (λ j. cut_word (sym q j, m')) ∙ same
 
-    pub word_answered : (a : ElementCutOutput) (w : Bool) (x : ℕ) → r ≡ Ok (answer_with a w) → x ≡ output_word a w → (x, m') ≡ cut_word (cut_reply desk (cut_by h i' o') root m)
-    word_answered a w x q v = (λ j. (v j, m')) ∙ (λ j. cut_word (sym q j, m')) ∙ same
+    pub word_answered : (a : ElementAnswer) (x : ℕ) → r ≡ Ok a → x ≡ output_word a.output a.warning → (x, m') ≡ cut_word (cut_reply desk (cut_by h i' o') root m)
+    word_answered a x q v = (λ j. (v j, m')) ∙ (λ j. cut_word (sym q j, m')) ∙ same

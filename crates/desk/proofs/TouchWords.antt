@@ -1,5 +1,5 @@
 -- No more corners are tested than there is room for elements, so their count fits above the answer.
-use Rattle.std.specs.Prelude.{if◌then◌else◌, Err}
+use Rattle.std.specs.Prelude.{if◌then◌else◌, Err, Ok}
 use Prim.Native.Nat.{ℕ, suc, ◌+◌, ◌*◌, ◌≤◌}
 use mathlib.Core.Bool.{Bool, true, false, not, ◌&&◌, ◌||◌}
 use mathlib.Core.List.{List, [], ◌∷◌}
@@ -67,8 +67,8 @@ count_low h root m q = subst CountFits (sym q) (count_fits_lem h root m)
 
 -- ---- the number
 
-pub touched_low : {r : Reply Touched} (a : Touch) (k : ℕ) → r ≡ Ok (touch_with a k) → CountFits r → k ≤ longest
-touched_low a k q f = subst CountFits q f
+pub touched_low : {r : Reply Touched} (t : Touched) → r ≡ Ok t → CountFits r → t.tested ≤ longest
+touched_low t q f = subst CountFits q f
 
-pub word_touched : (r : Reply Touched) (a : Touch) (k v : ℕ) → r ≡ Ok (touch_with a k) → v ≡ touch_value a → v * 0x100 + k * 0x10000 ≡ touch_word r
-word_touched r a k v q e = ap (λ (x : ℕ). x * 0x100 + k * 0x10000) e ∙ sym (ap touch_word q)
+pub word_touched : (r : Reply Touched) (t : Touched) (v : ℕ) → r ≡ Ok t → v ≡ touch_value t.answer → v * 0x100 + t.tested * 0x10000 ≡ touch_word r
+word_touched r t v q e = ap (λ (x : ℕ). x * 0x100 + t.tested * 0x10000) e ∙ sym (ap touch_word q)

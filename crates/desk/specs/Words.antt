@@ -6,21 +6,25 @@ use Rattle.rules.specs.Touch.{touch_value}
 use Rattle.rules.specs.declared.Hyperplane.{Hyperplane}
 use Rattle.rules.specs.declared.PolytopeFate.{PolytopeFate}
 use Rattle.rules.specs.declared.CutListReply.{CutListReply}
-use Rattle.rules.specs.declared.CutListReply.TheVariants.{Refused as CutsRefused, Stopped, Answered as AllAnswered}
-use Rattle.rules.specs.Refusals.{Reply}
+use Rattle.rules.specs.declared.CutListReply.TheVariants.{Refused, Stopped, Answered}
+use Rattle.rules.specs.Refusals.{refusal_number, Reply, reply_number}
 use Rattle.rules.specs.declared.ElementAnswer.{ElementAnswer}
 use Rattle.rules.specs.declared.Touched.{Touched}
 
+-- the number of a reply that has nothing else to tell
+abbrev pub number_word : Reply (Unit {0}) × Memory → ℕ × Memory
+number_word (r, m) = (reply_number r, m)
+
 -- bits 0 to 7 are the reply's number
 abbrev pub cut_word : Reply ElementAnswer × Memory → ℕ × Memory
-cut_word (Err n, m) = (n, m)
+cut_word (Err r, m) = (refusal_number r, m)
 cut_word (Ok a, m) = (output_word a.output a.warning, m)
 
 -- bits 0 to 7 are the reply's number, and above them stands how many answers were written: where a cut was refused, its position
 abbrev pub written_word : CutListReply → ℕ
-written_word (CutsRefused n) = n
-written_word (Stopped n i) = n + i * 0x100
-written_word (AllAnswered k) = k * 0x100
+written_word (Refused r) = refusal_number r
+written_word (Stopped r i) = refusal_number r + i * 0x100
+written_word (Answered k) = k * 0x100
 
 -- beside it, the room for answers and the memory
 abbrev pub cut_list_word : CutListReply × List ℕ × Memory → ℕ × List ℕ × Memory
@@ -28,7 +32,7 @@ cut_list_word (r, room, m) = (written_word r, room, m)
 
 -- bits 0 to 7 are the reply's number, and above them stands the size of the list
 abbrev pub size_word : Reply ℕ → ℕ
-size_word (Err n) = n
+size_word (Err r) = refusal_number r
 size_word (Ok n) = n * 0x100
 
 -- beside it, the list room
@@ -38,12 +42,12 @@ module _ {A : Type 0} where
 
 -- bits 0 to 7 are the reply's number, bit 8 the answer
 abbrev pub facet_word : Reply Bool → ℕ
-facet_word (Err n) = n
+facet_word (Err r) = refusal_number r
 facet_word (Ok b) = cond b 0x100 0
 
 -- bits 0 to 7 are the reply's number, bits 8 and 9 the answer, and from bit 16 on stands how many corners were tested
 abbrev pub touch_word : Reply Touched → ℕ
-touch_word (Err n) = n
+touch_word (Err r) = refusal_number r
 touch_word (Ok t) = touch_value t.answer * 0x100 + t.tested * 0x10000
 
 -- the divider, of its four components and its distance

@@ -6,6 +6,7 @@ mod words;
 ghost use Rattle.std.specs.Prelude.{◌≡◌};
 ghost use Rattle.rules.specs.Limits.{desk};
 ghost use Rattle.rules.specs.Held.{memory_of};
+ghost use Rattle.rules.specs.Refusals.{reply_number};
 ghost use Rattle.rules.specs.CutLists.{cut_list_reply};
 ghost use Rattle.rules.specs.Areas.{areas_reply};
 ghost use Rattle.rules.specs.Files.{save_reply, open_reply};
@@ -13,13 +14,13 @@ ghost use Rattle.rules.specs.Print.{print_reply};
 ghost use Rattle.rules.specs.Replies.{is_sound_reply, cube_reply, cut_by, cut_reply, sub_elements_reply, with_rank_reply, vertex_set_reply, greatest_common_reply, edges_in_order_reply, primordial_facet_reply};
 ghost use Rattle.rules.specs.Touch.{touch_reply};
 ghost use Rattle.cut.specs.Lists.{cut_list_of};
-ghost use Rattle.desk.specs.Words.{cut_word, cut_list_word, list_word, facet_word, touch_word, divider_with, fate_by};
+ghost use Rattle.desk.specs.Words.{number_word, cut_word, cut_list_word, list_word, facet_word, touch_word, divider_with, fate_by};
 
 use cut::answers::output_word;
 use elements::{questions, touch};
-use rules::{CutParams, CutReply, ElementId, FacetReply, Hyperplane};
+use rules::{CutParams, ElementId, Hyperplane};
 use walk::facet;
-use words::{fate, list_word, rank_byte, touch_word, written_word};
+use words::{fate, list_word, number, rank_byte, refused, touch_word, written_word};
 
 #[unsafe(no_mangle)]
 pub extern "C" fn desk_is_sound(
@@ -28,9 +29,9 @@ pub extern "C" fn desk_is_sound(
     planes: &[f64],
     elements: &[u16],
 ) -> u32
-    ensures { result ≡ is_sound_reply desk (memory_of counts.now points.now planes.now elements.now) }
+    ensures { result ≡ reply_number (is_sound_reply desk (memory_of counts.now points.now planes.now elements.now)) }
 {
-    soundness::sound::is_sound(counts, points, planes, elements) as u32
+    number(soundness::sound::is_sound(counts, points, planes, elements))
 }
 
 #[unsafe(no_mangle)]
@@ -43,10 +44,12 @@ pub extern "C" fn desk_cube(
     radius: f64,
 ) -> u32
     ensures { (result, memory_of counts.new points.new planes.new elements.new) ≡
-        cube_reply desk ndim radius (memory_of counts.old points.old planes.old elements.old) }
+        number_word (cube_reply desk ndim radius (memory_of counts.old points.old planes.old elements.old)) }
 {
     let dimension = ndim as u64;
-    cube::with_primordial_cube_radius(dimension, radius, counts, points, planes, elements) as u32
+    number(cube::with_primordial_cube_radius(
+        dimension, radius, counts, points, planes, elements,
+    ))
 }
 
 #[unsafe(no_mangle)]
@@ -79,8 +82,8 @@ pub extern "C" fn desk_cut(
     let root = ElementId(root as usize);
     let reply = cut::cut(counts, points, planes, elements, params, root);
     match reply {
-        CutReply::Refused(no) => no as u64,
-        CutReply::Answered { output, warning } => output_word(output, warning),
+        Err(refusal) => refused(refusal) as u64,
+        Ok(answer) => output_word(answer.output, answer.warning),
     }
 }
 
@@ -266,8 +269,8 @@ pub extern "C" fn desk_has_primordial_facet(
     let root = ElementId(root as usize);
     let reply = facet::has_primordial_facet(counts, points, planes, elements, root);
     match reply {
-        FacetReply::Refused(no) => no as u32,
-        FacetReply::Has(b) => { if b { 0x100 } else { 0 } }
+        Err(refusal) => refused(refusal),
+        Ok(b) => { if b { 0x100 } else { 0 } }
     }
 }
 
@@ -295,9 +298,9 @@ pub extern "C" fn desk_open(
     file: &[u8],
 ) -> u32
     ensures { (result, memory_of counts.new points.new planes.new elements.new) ≡
-        open_reply desk file.now (memory_of counts.old points.old planes.old elements.old) }
+        number_word (open_reply desk file.now (memory_of counts.old points.old planes.old elements.old)) }
 {
-    files::open::open(counts, points, planes, elements, file) as u32
+    number(files::open::open(counts, points, planes, elements, file))
 }
 
 // As saving replies.

@@ -9,7 +9,7 @@ ghost use Rattle.lent_bytes.specs.Lent.{Put};
 ghost use Rattle.files.specs.Saved.{row_saved, saved, file_size, RowsUsed, SizeReady};
 
 use crate::records;
-use rules::ListReply;
+use rules::{Refusal, Reply};
 use soundness::sound::memory_sound;
 use space::words::{WIDTH, wide};
 
@@ -61,15 +61,14 @@ pub fn save(
     planes: &[f64],
     elements: &[u16],
     file: &mut [u8],
-) -> ListReply
+) -> Reply<usize>
     ensures { (result, file.new) ≡ save_reply desk (memory_of counts.now points.now planes.now elements.now) file.old }
 {
     if !memory_sound(counts, points, planes, elements) {
-        return ListReply::Refused(3);
+        return Err(Refusal::NotSound);
     }
     if file.len() < file_size(counts, elements) {
-        return ListReply::Refused(12);
+        return Err(Refusal::RoomShort);
     }
-    let size = table(counts, points, planes, elements, file);
-    ListReply::Listed(size)
+    Ok(table(counts, points, planes, elements, file))
 }

@@ -27,10 +27,10 @@ use Rattle.rules.proofs.Promises.{desk_keeps}
 use Rattle.rules.proofs.RoundTrip.{memory_back}
 use Rattle.lent_bytes.proofs.Decimals.{five_digits}
 use Rattle.session.specs.Written.{line_room}
-use Rattle.rules.specs.Refusals.{Reply, reply_number}
+use Rattle.rules.specs.Refusals.{Reply, reply_number, refusal_number}
 use Rattle.rules.specs.declared.ElementAnswer.{ElementAnswer}
 use Rattle.rules.specs.declared.ElementId.{ElementId}
-use Rattle.std.specs.Prelude.{Option, Some, None, Err}
+use Rattle.std.specs.Prelude.{Option, Some, None, Err, Ok}
 
 -- ---- numbers below 65,536
 
@@ -91,13 +91,13 @@ counts_short m s = let c = counts_low m s in let l = spaced_short (table_counts 
 -- ---- the line of a cube, and of a cut
 
 module _ (d : ℕ) (radius : Float) (m : Memory) where
-  pub cube_short : (cube_reply desk d radius m).0 ≡ 0 → length (text (cube_line (table_counts (cube_reply desk d radius m).1))) ≤ line_room
+  pub cube_short : reply_number (cube_reply desk d radius m).0 ≡ 0 → length (text (cube_line (table_counts (cube_reply desk d radius m).1))) ≤ line_room
   cube_short z =
       let s = counts_short (cube_reply desk d radius m).1 (desk_keeps.cube_is_sound d radius m z) in
       in_line (99 ∷ 117 ∷ 98 ∷ 101 ∷ []) (spaced (table_counts (cube_reply desk d radius m).1)) (lit≤ tt) (omega (arith, s))
 
-  pub cube_refused_short : length (text (refused_line (cube_reply desk d radius m).0)) ≤ line_room
-  cube_refused_short = refused_short (cube_reply desk d radius m).0 (low_in (0 ∷ 1 ∷ 2 ∷ 3 ∷ []) (cube_reply desk d radius m).0 refl (desk_keeps.cube_numbers d radius m))
+  pub cube_refused_short : length (text (refused_line (reply_number (cube_reply desk d radius m).0))) ≤ line_room
+  cube_refused_short = refused_short (reply_number (cube_reply desk d radius m).0) (low_in (0 ∷ 1 ∷ 2 ∷ 3 ∷ []) (reply_number (cube_reply desk d radius m).0) refl (desk_keeps.cube_numbers d radius m))
 
 desk_reads : Readable desk
 desk_reads = record { planes = lit≤ tt; boundary = lit≤ tt }
@@ -129,7 +129,7 @@ module _ (p : CutParams) (root : ℕ) (m : Memory) where
 
       go : (r : Reply ElementAnswer) (m' : Memory) → cut_reply desk p root m ≡ (r, m') → length (text (cut_text r (table_counts m'))) ≤ line_room
       go (Err n) m' e =
-          refused_short n (low_in (0 ∷ 3 ∷ 4 ∷ 5 ∷ 7 ∷ 8 ∷ 9 ∷ 10 ∷ 11 ∷ []) n refl
+          refused_short (refusal_number n) (low_in (0 ∷ 3 ∷ 4 ∷ 5 ∷ 7 ∷ 8 ∷ 9 ∷ 10 ∷ 11 ∷ []) (refusal_number n) refl
           (subst (λ (x : Reply ElementAnswer × Memory). member (reply_number x.0) (0 ∷ 3 ∷ 4 ∷ 5 ∷ 7 ∷ 8 ∷ 9 ∷ 10 ∷ 11 ∷ []) ≡ true) e (desk_keeps.cut_numbers p root m).number))
       go (Ok a) m' e =
-          answer_short a m' (memory_sound desk desk_reads p root m (record { output = a; warning = w }) m' e) (names_in_use desk desk_reads p root m (record { output = a; warning = w }) m' e)
+          answer_short a.output m' (memory_sound desk desk_reads p root m a m' e) (names_in_use desk desk_reads p root m a m' e)

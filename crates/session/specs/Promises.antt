@@ -1,8 +1,7 @@
 -- What is promised of a record's turn, through its number and its values. Definitions only; proofs/Promises.antt proves the record at the end.
 use Rattle.std.specs.Prelude.{ℕ, ◌<◌, ◌≤◌, ◌≡◌, Bool, true, List, length, drop, Some, None}
 use Rattle.rules.specs.Memory.{Memory}
-use Rattle.session.specs.declared.TurnReply.{TurnReply}
-use Rattle.session.specs.Written.{line_room, turn_number, turn_values, turn_reply}
+use Rattle.session.specs.Written.{line_room, TurnReply, turn_number, turn_values, turn_reply}
 
 -- 12 exactly where the room is too short for a line, 0 exactly with values, and no number for a bad record
 pub record TurnNumbered (room : List ℕ) (r : TurnReply) : Type 0 where

@@ -23,8 +23,8 @@ returns-then-file-file_size c =
     sym c.memory_sound.ensures ∙ c.if-not-memory_sound.false in
     save_twelve c.args.counts.now c.args.points.now c.args.planes.now c.args.elements.now c.args.file.now is_sound c.file_size.ensures c.if-file-file_size.true
 
-pub table-size-requires : goal.table-size-requires
-table-size-requires c =
+pub table-requires : goal.table-requires
+table-requires c =
     let is_sound : sound_memory desk (memory_of c.args.counts.now c.args.points.now c.args.planes.now c.args.elements.now) ≡ true =
     sym c.memory_sound.ensures ∙ c.if-not-memory_sound.false in
     record { is_sound = is_sound; fits_room = save_fits c.args.counts.now c.args.points.now c.args.planes.now c.args.elements.now c.args.file.now is_sound c.file_size.ensures (search rules) }
@@ -34,4 +34,4 @@ returns c =
     let is_sound : sound_memory desk (memory_of c.args.counts.now c.args.points.now c.args.planes.now c.args.elements.now) ≡ true =
     sym c.memory_sound.ensures ∙ c.if-not-memory_sound.false in
     save_done c.args.counts.now c.args.points.now c.args.planes.now c.args.elements.now c.args.file.now is_sound
-    (save_fits c.args.counts.now c.args.points.now c.args.planes.now c.args.elements.now c.args.file.now is_sound c.file_size.ensures (search rules)) c.table-size.ensures
+    (save_fits c.args.counts.now c.args.points.now c.args.planes.now c.args.elements.now c.args.file.now is_sound c.file_size.ensures (search rules)) c.table.ensures

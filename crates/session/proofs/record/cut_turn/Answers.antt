@@ -20,9 +20,9 @@ two-requires c = let l = cut_long c.args.input.now _ c.requires.asked in
     omega (arith, l)
 
 pub cut_line-line-requires : goal.cut_line-line-requires
-cut_line-line-requires c = let params = cut_by c.divider_at-divider.result c.fate-inside.result c.fate-outside.result in
+cut_line-line-requires c = let params = cut_by c.divider_at-divider.result c.from-inside.result c.from-outside.result in
     record { fits = line_fits params _ _ _ _ c.cut-reply.ensures; room = c.requires.room }
 
 pub returns : goal.returns
 returns c = cut_taken _ _ _ _ _ _ _ _ _ _ _ _ _ c.cut-reply.ensures c.dimension_of-d.ensures.value c.divider_at-divider.ensures c.one-kept.ensures.value
-    c.fate-inside.ensures c.fate-outside.ensures c.two.ensures.value c.cut_line-line.ensures
+    c.from-inside.ensures c.from-outside.ensures c.two.ensures.value c.cut_line-line.ensures
