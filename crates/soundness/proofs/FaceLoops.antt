@@ -14,6 +14,7 @@ use Rattle.rules.specs.Lists.{all, rises}
 use Rattle.rules.proofs.Growing.{all_get}
 use Rattle.rules.proofs.Laws.{and_left, and_right}
 use Rattle.space.specs.Closed.{met_twice, both_met, seconds, ring_raw, joining, joined, Unmet, Stamped, EndsLow}
+use Rattle.space.specs.declared.closed.Joined.TheVariants.{Met, Closes, Thrice}
 use Rattle.space.proofs.EndsCounted.{Round, round_met, round_end}
 use Rattle.space.proofs.PathsJoined.{Paths, paths_go}
 use Rattle.space.proofs.Rings.{no_edges, answers_thrice, answers_early, answers_last}
@@ -40,10 +41,10 @@ module _ (es ws : List ℕ) (from to e : ℕ) (fit : to ≤ length ws) where
   edge_left i l h = let n = edges_long in omega (arith, n, l, h)
 
   pub face_go : (met met' : List ℕ) (twice i x r s : ℕ) → Paths es edges s met twice (i - from) → from ≤ i → i < to → x ≡ get_or ws i 0 → EndsLow es x
-      → r ≡ joining s es met x → r < 3 → met' ≡ joined s es met x → Paths es edges s met' (twice + r) (i + 1 - from)
-  face_go met met' twice i x r s P l h p E c small m =
+      → Met r ≡ joining s es met x → met' ≡ joined s es met x → Paths es edges s met' (twice + r) (i + 1 - from)
+  face_go met met' twice i x r s P l h p E c m =
       subst (λ (k : ℕ). Paths es edges s met' (twice + r) k) (let z : i - from + 1 ≡ i + 1 - from = omega (arith, l) in z)
-      (paths_go es edges s met twice (i - from) P x (edge_left i l h) (edge_at i x l h p) E r met' c small m)
+      (paths_go es edges s met twice (i - from) P x (edge_left i l h) (edge_at i x l h p) E r met' c m)
 
   -- few edges
 
@@ -83,18 +84,18 @@ module _ (es ws : List ℕ) (from to e : ℕ) (fit : to ≤ length ws) where
         go false q = refl
 
     module _ (met : List ℕ) (twice i s : ℕ) (P : Paths es edges s met twice (i - from)) (l : from ≤ i) where
-      module _ (h : i < to) (x r : ℕ) (p : x ≡ get_or ws i 0) (c : r ≡ joining s es met x) where
-        pub face_thrice : r ≡ 4 → false ≡ face_words desk es e edges
-        face_thrice four = neither_way (λ f. answers_thrice es edges (up f) (fine f) s met twice (i - from) P x (edge_left i l h) (edge_at i x l h p) r c four)
+      module _ (h : i < to) (x : ℕ) (p : x ≡ get_or ws i 0) where
+        pub face_thrice : Thrice ≡ joining s es met x → false ≡ face_words desk es e edges
+        face_thrice c = neither_way (λ f. answers_thrice es edges (up f) (fine f) s met twice (i - from) P x (edge_left i l h) (edge_at i x l h p) c)
 
-        pub face_early : r ≡ 3 → i + 1 < to → false ≡ face_words desk es e edges
-        face_early three more =
-            neither_way (λ f. answers_early es edges (up f) (fine f) s met twice (i - from) P x (edge_left i l h) (edge_at i x l h p) r c three (let n = edges_long in omega (arith, n, l, more)))
+        pub face_early : Closes ≡ joining s es met x → i + 1 < to → false ≡ face_words desk es e edges
+        face_early c more =
+            neither_way (λ f. answers_early es edges (up f) (fine f) s met twice (i - from) P x (edge_left i l h) (edge_at i x l h p) c (let n = edges_long in omega (arith, n, l, more)))
 
-        pub face_last : r ≡ 3 → to ≤ i + 1 → true ≡ numbers_fit desk es e 2 edges → eqb (twice + 2) (to - from) ≡ face_words desk es e edges
-        face_last three last f =
+        pub face_last : Closes ≡ joining s es met x → to ≤ i + 1 → true ≡ numbers_fit desk es e 2 edges → eqb (twice + 2) (to - from) ≡ face_words desk es e edges
+        face_last c last f =
             ap (eqb (twice + 2)) (sym edges_long)
-            ∙ answers_last es edges (up (sym f)) (fine (sym f)) s met twice (i - from) P x (edge_left i l h) (edge_at i x l h p) r c three (let n = edges_long in omega (arith, n, l, h, last))
+            ∙ answers_last es edges (up (sym f)) (fine (sym f)) s met twice (i - from) P x (edge_left i l h) (edge_at i x l h p) c (let n = edges_long in omega (arith, n, l, h, last))
             ∙ ap (λ (b : Bool). b && ring_raw es edges) f
 
       pub face_none : i ≡ to → true ≡ numbers_fit desk es e 2 edges → eqb (to - from) 0 ≡ face_words desk es e edges

@@ -10,7 +10,7 @@ ghost use Rattle.soundness.specs.Tests.{NumberReady, NumbersReady, EdgesReady, N
 use crate::known::{join_ends, meet_ends, rank_known};
 use crate::row::Spacing;
 use rules::ElementId;
-use space::closed::{CLOSES, INSIDE, THRICE, few_edges};
+use space::closed::{INSIDE, Joined, few_edges};
 use space::words::{ELEMENTS, wide};
 
 // An element's stamp is above every word that was written for the elements before it: a word of a face is at most INSIDE above the face's own.
@@ -114,17 +114,16 @@ fn face_fits(
         if !number_fits(earlier, spacing, x, low, e, 2) {
             return false;
         }
-        let joins = join_ends(earlier, spacing, ElementId(x), met, stamp);
-        if joins == THRICE {
-            return false;
-        }
-        if joins == CLOSES {
-            if i + 1 < to {
-                return false;
+        match join_ends(earlier, spacing, ElementId(x), met, stamp) {
+            Joined::Thrice => return false,
+            Joined::Closes => {
+                if i + 1 < to {
+                    return false;
+                }
+                return twice + 2 == to - from;
             }
-            return twice + 2 == to - from;
+            Joined::Met(before) => twice = twice + before,
         }
-        twice = twice + joins;
         low = x + 1;
     }
     to - from == 0
