@@ -180,10 +180,6 @@ module _ (es edges : List ℕ) (s : ℕ) (paths : List ℕ) (twice k : ℕ) (P :
     abbrev pub times' : ℕ → ℕ
     times' = more v₂ (more v₁ P.times)
 
-    pub fewer : (t : Bool) → cond t 0 1 ≤ 1
-    fewer true = omega arith
-    fewer false = omega arith
-
     half : (v : ℕ) → P.times v < 2 → 2 * cond (eqb (P.far v) v) 0 1 + spare (suc (P.times v)) ≡ spare (P.times v) + 1
     half v o = go (P.times v) refl
       where

@@ -16,7 +16,7 @@ pub const INSIDE: usize = ELEMENTS;
 // What an edge does to the paths that end where it does.
 #[derive(Clone, Copy, Debug, PartialEq, Eq)]
 pub enum Joined {
-    // It joins them, and so many of its ends were met before.
+    // It joins them; so many of its ends were met before.
     Met(usize),
     // Both ends are those of one path.
     Closes,
@@ -70,9 +70,8 @@ fn each_twice(elements: &[u16], list: &[u16], n: usize) -> bool
 {
     let mut met = [0u8; ELEMENTS];
     let mut twice = 0usize;
-    for k in 0..n {
-        let e = ElementId(wide(list[k]));
-        twice = twice + meet_ends_in_face(elements, e, &mut met);
+    for &x in &list[..n] {
+        twice = twice + meet_ends_in_face(elements, ElementId(wide(x)), &mut met);
     }
     twice == n
 }
@@ -141,9 +140,8 @@ fn is_ring(elements: &[u16], list: &[u16], n: usize) -> bool
 {
     let mut paths = [0u16; ELEMENTS];
     let mut twice = 0usize;
-    for k in 0..n {
-        let e = ElementId(wide(list[k]));
-        match join_ends_in_face(elements, e, &mut paths) {
+    for (k, &x) in list[..n].iter().enumerate() {
+        match join_ends_in_face(elements, ElementId(wide(x)), &mut paths) {
             Joined::Thrice => return false,
             Joined::Closes => {
                 if k + 1 < n {

@@ -10,7 +10,7 @@ use borrow.Author.Rules.{rules}
 use Rattle.rules.specs.Limits.{desk}
 use Rattle.space.specs.declared.closed.Joined.TheVariants.{Met, Closes, Thrice}
 use Rattle.space.specs.Closed.{EndsLow, FaceReady, Stamped, joining, joined, ring_raw}
-use Rattle.space.proofs.TwiceMet.{edges_long, edges_fine, TakenUp, taken_there, taken_here, taken_ends, taken_ready}
+use Rattle.space.proofs.TwiceMet.{edges_long, edges_fine, TakenUp, taken_ends, taken_ready}
 use Rattle.space.proofs.PathsJoined.{paths_start, paths_stamped, paths_few, paths_go}
 use Rattle.space.proofs.Meetings.{unmet_new}
 use Rattle.space.proofs.Rings.{no_edges, answers_thrice, answers_early, answers_last}
@@ -24,7 +24,7 @@ record Taken (es list : List ℕ) (n : ℕ) (paths : List ℕ) (twice k x : ℕ)
   edge : TakenUp es list n k x
   so : SoFar es list n paths twice k
 
-taken : {es list : List ℕ} {n : ℕ} {paths : List ℕ} {twice k x : ℕ} → FaceReady es list n → k < n → x ≡ get_or list k 0 → SoFar es list n paths twice k
+taken : {es list : List ℕ} {n : ℕ} {paths : List ℕ} {twice k x : ℕ} → FaceReady es list n → k < length (take n list) → x ≡ get_or (take n list) k 0 → SoFar es list n paths twice k
     → Taken es list n paths twice k x
 taken ready more read so = record { edge = record { ready = ready; more = more; read = read }; so = so }
 
@@ -48,23 +48,23 @@ module _ {es list : List ℕ} {n : ℕ} {paths : List ℕ} {twice k x : ℕ} (T 
   fine = edges_fine list n ready.long es ready.low ready.ends
 
   thrice : Thrice ≡ joining 1 es paths x → false ≡ ring_raw es edges
-  thrice c = sym (answers_thrice es edges ready.ends.rising fine 1 paths twice k T.so.paths_so x (taken_there T.edge) (taken_here T.edge) c)
+  thrice c = sym (answers_thrice es edges ready.ends.rising fine 1 paths twice k T.so.paths_so x T.edge.more T.edge.read c)
 
   early : Closes ≡ joining 1 es paths x → k + 1 < n → false ≡ ring_raw es edges
   early c h =
-      sym (answers_early es edges ready.ends.rising fine 1 paths twice k T.so.paths_so x (taken_there T.edge) (taken_here T.edge) c
+      sym (answers_early es edges ready.ends.rising fine 1 paths twice k T.so.paths_so x T.edge.more T.edge.read c
       (let l = long in omega (arith, l, h)))
 
   last : Closes ≡ joining 1 es paths x → n ≤ k + 1 → eqb (twice + 2) n ≡ ring_raw es edges
   last c h =
       ap (eqb (twice + 2)) (sym long)
-      ∙ answers_last es edges ready.ends.rising fine 1 paths twice k T.so.paths_so x (taken_there T.edge) (taken_here T.edge) c
+      ∙ answers_last es edges ready.ends.rising fine 1 paths twice k T.so.paths_so x T.edge.more T.edge.read c
       (let l = long in let m = T.edge.more in omega (arith, l, h, m))
 
   goes_on : (r : ℕ) → Met r ≡ joining 1 es paths x → (paths' : List ℕ) → paths' ≡ joined 1 es paths x → SoFar es list n paths' (twice + r) (k + 1)
   goes_on r c paths' q = record {
     bound = let m = T.edge.more in omega (arith, m);
-    paths_so = paths_go es edges 1 paths twice k T.so.paths_so x (taken_there T.edge) (taken_here T.edge) (taken_ends T.edge) r paths' c q;
+    paths_so = paths_go es edges 1 paths twice k T.so.paths_so x T.edge.more T.edge.read (taken_ends T.edge) r paths' c q;
   }
 
 -- ---- the places of the function
@@ -87,7 +87,7 @@ returns-then-k-n c = let T = taken c.requires c.loop-k-test.true c.wide.ensures.
 pub overflow_add-result : goal.overflow_add-result
 overflow_add-result c = let T = taken c.requires c.loop-k-test.true c.wide.ensures.value c.loop-k.invariant in
     let most = few T in
-    omega (arith, most, T.edge.ready.size, T.so.bound)
+    omega (arith, most, long T, T.edge.ready.size, T.so.bound)
 
 pub returns-in-Closes : goal.returns-in-Closes
 returns-in-Closes c = let T = taken c.requires c.loop-k-test.true c.wide.ensures.value c.loop-k.invariant in
@@ -96,7 +96,7 @@ returns-in-Closes c = let T = taken c.requires c.loop-k-test.true c.wide.ensures
 pub overflow_add-twice : goal.overflow_add-twice
 overflow_add-twice c = let T = taken c.requires c.loop-k-test.true c.wide.ensures.value c.loop-k.invariant in
     let most = few T in
-    omega (arith, most, c.in-Met.ensures.most, T.edge.ready.size, T.so.bound)
+    omega (arith, most, long T, c.in-Met.ensures.most, T.edge.ready.size, T.so.bound)
 
 pub loop-k-preserved : goal.loop-k-preserved
 loop-k-preserved c = let T = taken c.requires c.loop-k-test.true c.wide.ensures.value c.loop-k.invariant in
