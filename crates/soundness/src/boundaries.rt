@@ -85,7 +85,7 @@ fn few_fits(
         if !number_fits(earlier, spacing, x, low, e, 2) {
             return false;
         }
-        twice = twice + meet_ends(earlier, spacing, ElementId(x), met, stamp);
+        twice += meet_ends(earlier, spacing, ElementId(x), met, stamp);
         low = x + 1;
     }
     twice == edges.len()
@@ -118,7 +118,7 @@ fn face_fits(
                 }
                 return twice + 2 == edges.len();
             }
-            Joined::Met(before) => twice = twice + before,
+            Joined::Met(before) => twice += before,
         }
         low = x + 1;
     }

@@ -71,7 +71,7 @@ fn each_twice(elements: &[u16], list: &[u16], n: usize) -> bool
     let mut met = [0u8; ELEMENTS];
     let mut twice = 0usize;
     for &x in &list[..n] {
-        twice = twice + meet_ends_in_face(elements, ElementId(wide(x)), &mut met);
+        twice += meet_ends_in_face(elements, ElementId(wide(x)), &mut met);
     }
     twice == n
 }
@@ -92,10 +92,7 @@ fn far_end<W: CornerWords>(paths: &W, v: usize, stamp: u32) -> usize
 fn joins(a: usize, b: usize, x: usize, y: usize) -> Joined
     ensures { result ≡ join_code a b x y }
 {
-    if x == INSIDE {
-        return Joined::Thrice;
-    }
-    if y == INSIDE {
+    if x == INSIDE || y == INSIDE {
         return Joined::Thrice;
     }
     if x == b {
@@ -149,7 +146,7 @@ fn is_ring(elements: &[u16], list: &[u16], n: usize) -> bool
                 }
                 return twice + 2 == n;
             }
-            Joined::Met(met) => twice = twice + met,
+            Joined::Met(met) => twice += met,
         }
     }
     n == 0
