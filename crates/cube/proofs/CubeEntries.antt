@@ -9,8 +9,8 @@ use native.Mathlib.Nat.{pow-le-pow_right, le_of_eq}
 use native.Mathlib.Numerals.{add-one}
 use native.Mathlib.Omega.{arith}
 use lib.Dec.{eqb}
-use lib.ListN.{length, get_or, set, take, drop, replicate, length-replicate, length-map, length-append, get_or-append}
-use lib.Seq.{sets, sets-eq, drop-length, take-suc, take-length, length-take-le, take-append_seam}
+use lib.ListN.{length, get_or, set, take, replicate, length-map, length-append, get_or-append}
+use lib.Seq.{sets, take-suc, take-length, length-take-le, take-append_seam}
 use lib.Ieee.{Float, neg}
 use Rattle.rules.specs.Limits.{desk, no_plane}
 use Rattle.rules.specs.Lists.{pad, up_to, keep}
@@ -274,14 +274,8 @@ chosen_few p d (suc e) = subst (λ (n : ℕ). length (chosen p d n) ≤ n) (add-
 -- ---- the whole memory
 
 -- cleared room is that of no entries
-pub cleared : {A B : Type 0} (z : B) (f : A → List B) (l : List B) (n room : ℕ) → length l ≡ n → n ≡ room → sets l 0 (replicate n z) ≡ laid z room f []
-cleared {A} {B} z f l n room q s =
-    let r = length-replicate n z in
-    sets-eq (replicate n z) l 0 (let h : 0 + length (replicate n z) ≤ length l = omega (arith, q, r) in h)
-    ∙ ap (λ (m : ℕ). replicate n z ++ drop m l) (let h : 0 + length (replicate n z) ≡ length l = omega (arith, q, r) in h)
-    ∙ ap (λ (x : List B). replicate n z ++ x) (drop-length l)
-    ∙ append-nil (replicate n z)
-    ∙ ap (λ (m : ℕ). replicate m z) (let h : n ≡ room - 0 = omega (arith, s) in h)
+pub cleared : {A B : Type 0} (z : B) (f : A → List B) (n room : ℕ) → n ≡ room → replicate n z ≡ laid z room f []
+cleared z f n room s = ap (λ (m : ℕ). replicate m z) (let h : n ≡ room - 0 = omega (arith, s) in h)
 
 pub four_put : (cs : List ℕ) (d e v h : ℕ) → length cs ≡ 4 → set (set (set (set cs 0 d) 1 e) 2 v) 3 h ≡ d ∷ e ∷ v ∷ h ∷ []
 four_put [] d e v h q = absurd (let z : ⊥ = omega (arith, q) in z)

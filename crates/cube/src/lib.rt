@@ -15,7 +15,7 @@ ghost use Rattle.rules.specs.Replies.{cube_reply};
 
 use rules::{ElementId, Hyperplane, HyperplaneId, Refusal, Reply, VertexId};
 use space::words::{AXES, NO_PLANE, PLANE_WIDTH, SET, WIDTH, right_size};
-use space::{memo, restore, rows};
+use space::{memo, rows};
 
 // Some numbers of a boundary, in the front of their room.
 #[derive(Clone, Copy)]
@@ -282,8 +282,7 @@ fn put_points(points: &mut [f64], d: usize, radius: f64) -> u16
     requires { PointsRoom d points.old }
     ensures { PointsPut d radius result points.new }
 {
-    let n = points.len();
-    restore::clear_floats(points, 0, n);
+    points.fill(0.0);
     put_corners(points, d, radius) as u16
 }
 
@@ -291,8 +290,7 @@ fn put_planes(planes: &mut [f64], d: usize, radius: f64) -> u16
     requires { PlanesRoom d planes.old }
     ensures { PlanesPut d radius result planes.new }
 {
-    let n = planes.len();
-    restore::clear_floats(planes, 0, n);
+    planes.fill(0.0);
     put_facets(planes, d, radius) as u16
 }
 
@@ -300,8 +298,7 @@ fn put_rows(elements: &mut [u16], d: usize)
     requires { ElementsRoom d elements.old }
     ensures { elements.new ≡ cube_elements d (3 ^ d) }
 {
-    let n = elements.len();
-    restore::clear_numbers(elements, 0, n);
+    elements.fill(0);
     put_elements(elements, d);
 }
 

@@ -11,8 +11,8 @@ ghost use Rattle.files.specs.Putting.{RecordsReady, RecordsPut, CountsReady, Put
 
 use crate::entries::{plane_at, point_at, row_at};
 use crate::layout::{HEADER, Laid};
-use space::words::{AXES, ELEMENT_WORDS, PLANE_FLOATS, PLANE_WIDTH, POINT_FLOATS, WIDTH, wide};
-use space::{memo, restore, rows};
+use space::words::{AXES, PLANE_WIDTH, WIDTH, wide};
+use space::{memo, rows};
 
 // A vertex's record has a mark, and 8 bytes for each coordinate.
 fn put_points(bytes: &[u8], from: usize, n: usize, d: usize, points: &mut [f64])
@@ -26,7 +26,7 @@ fn put_points(bytes: &[u8], from: usize, n: usize, d: usize, points: &mut [f64])
         memo::put_point(points, i * AXES, p);
         at = at + 2 + 8 * d;
     }
-    restore::clear_floats(points, n * AXES, POINT_FLOATS - n * AXES);
+    points[n * AXES..].fill(0.0);
 }
 
 // A hyperplane's has 8 more, its distance behind the normal.
@@ -42,7 +42,7 @@ fn put_planes(bytes: &[u8], from: usize, n: usize, d: usize, planes: &mut [f64])
         memo::put_hyperplane(planes, i * PLANE_WIDTH, row);
         at = at + 10 + 8 * d;
     }
-    restore::clear_floats(planes, n * PLANE_WIDTH, PLANE_FLOATS - n * PLANE_WIDTH);
+    planes[n * PLANE_WIDTH..].fill(0.0);
 }
 
 // An element's has 8 bytes before its boundary, whose count is the row's fourth word.
@@ -56,7 +56,7 @@ fn put_elements(bytes: &[u8], from: usize, n: usize, elements: &mut [u16])
         rows::put_row(elements, i * WIDTH, &row);
         at = at + 8 + 2 * wide(row[3]);
     }
-    restore::clear_numbers(elements, n * WIDTH, ELEMENT_WORDS - n * WIDTH);
+    elements[n * WIDTH..].fill(0);
 }
 
 fn put_counts(laid: Laid, counts: &mut [u16])

@@ -73,10 +73,9 @@ pub record NumbersReady (ws : List ℕ) (from to : ℕ) (fs : List ℕ) (sp : Sp
   pub spaced : Spaced fs sp
   pub room : e ≤ desk.elements
 
--- the edges of a face: each edge before it has its ends in order, and no corner counts as met
-pub record EdgesReady (ws : List ℕ) (from to : ℕ) (fs : List ℕ) (sp : Spacing) (e : ℕ) (met : List ℕ) : Type 0 where
-  pub part : PartOf from to (length ws)
-  pub size : to ≤ from + desk.boundary
+-- the edges of a face, ns: each edge before it has its ends in order, and no corner counts as met
+pub record EdgesReady (ns fs : List ℕ) (sp : Spacing) (e : ℕ) (met : List ℕ) : Type 0 where
+  pub size : length ns ≤ desk.boundary
   pub spaced : Spaced fs sp
   pub in_room : e < desk.elements
   pub edges : EdgesLow (known_rows fs sp) e

@@ -33,45 +33,32 @@ module _ (list : List ℕ) (n : ℕ) (fit : n ≤ length list) where
   pub edges_long : length edges ≡ n
   edges_long = length-take-le n list fit
 
-  -- the edge that is read is an entry, a place, and so are its ends
-  module _ (k x : ℕ) (h : k < n) (p : x ≡ get_or list k 0) where
-    edge_at : x ≡ get_or edges k 0
-    edge_at = p ∙ sym (get_or-take n list k 0 h)
-
-    edge_low : Low list n → x < 512
-    edge_low L = subst (λ (y : ℕ). y < 512) (sym p) (L.at k h)
-
-    ends_low : (es : List ℕ) → LowEnds es list n → EndsLow es x
-    ends_low es E = subst (λ (y : ℕ). EndsLow es y) (sym p) (E.each k h)
-
   pub edges_fine : (es : List ℕ) → Low list n → LowEnds es list n → (j : ℕ) → j < length edges → (get_or edges j 0 < 512) × EndsLow es (get_or edges j 0)
   edges_fine es L E j h =
       let l = edges_long in
       let i : j < n = omega (arith, l, h) in
-      (edge_low j (get_or edges j 0) i (get_or-take n list j 0 i) L, ends_low j (get_or edges j 0) i (get_or-take n list j 0 i) es E)
+      let here = sym (get_or-take n list j 0 i) in
+      (subst (λ (y : ℕ). y < 512) here (L.at j i), subst (λ (y : ℕ). EndsLow es y) here (E.each j i))
 
 -- ---- the edge of a face that is taken up
 
 -- the face as it was asked for, and x as edge k of it
 pub record TakenUp (es list : List ℕ) (n k x : ℕ) : Type 0 where
   pub ready : FaceReady es list n
-  pub more : k < n
-  pub read : x ≡ get_or list k 0
+  pub more : k < length (take n list)
+  pub read : x ≡ get_or (take n list) k 0
 
 module _ {es list : List ℕ} {n k x : ℕ} (T : TakenUp es list n k x) where
-  pub taken_there : k < length (take n list)
-  taken_there = let l = edges_long list n T.ready.long in let h = T.more in omega (arith, l, h)
-
-  pub taken_here : x ≡ get_or (take n list) k 0
-  taken_here = edge_at list n T.ready.long k x T.more T.read
+  fine : (get_or (take n list) k 0 < 512) × EndsLow es (get_or (take n list) k 0)
+  fine = edges_fine list n T.ready.long es T.ready.low T.ready.ends k T.more
 
   pub taken_ends : EndsLow es x
-  taken_ends = ends_low list n T.ready.long k x T.more T.read es T.ready.ends
+  taken_ends = subst (λ (y : ℕ). EndsLow es y) (sym T.read) fine.1
 
   pub taken_ready : EdgeReady es x 1
   taken_ready = record {
     elements = T.ready.elements;
-    room = edge_low list n T.ready.long k x T.more T.read T.ready.low;
+    room = subst (λ (y : ℕ). y < 512) (sym T.read) fine.0;
     ends = taken_ends;
     stamp = omega arith;
   }

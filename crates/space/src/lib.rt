@@ -4,6 +4,7 @@
 mod adding;
 pub mod chains;
 pub mod closed;
+pub mod corner_words;
 pub mod memo;
 pub mod restore;
 pub mod rows;

@@ -3,7 +3,6 @@ ghost use Rattle.std.specs.Prelude.{◌+◌, ◌≤◌, length};
 
 use crate::read;
 use hypermath::patterns::float_of;
-use space::restore;
 
 // How many words a run has: its place, and its value.
 const RUN: usize = 2;
@@ -104,14 +103,10 @@ fn put_runs(
 }
 
 fn clear(counts: &mut [u16], points: &mut [f64], planes: &mut [f64], elements: &mut [u16]) {
-    let c = counts.len();
-    restore::clear_numbers(counts, 0, c);
-    let p = points.len();
-    restore::clear_floats(points, 0, p);
-    let h = planes.len();
-    restore::clear_floats(planes, 0, h);
-    let e = elements.len();
-    restore::clear_numbers(elements, 0, e);
+    counts.fill(0);
+    points.fill(0.0);
+    planes.fill(0.0);
+    elements.fill(0);
 }
 
 // The reply of the cube on slices of these lengths, whose digits are: counts, points (4), planes (3), elements (5).
