@@ -54,7 +54,7 @@ pub fn is_cut(counts: &[u16], input: &[u8]) -> bool
     if input.len() < 13 + 8 * d {
         return false;
     }
-    if 3 < read::one(input, 2) {
+    if 3 < read::number::<1>(input, 2) {
         return false;
     }
     is_marked(input, 0x54)
@@ -108,7 +108,7 @@ pub fn cube_turn(
         ≡ reply_of (memory_of counts.old points.old planes.old elements.old) room.old
         (cube_turn stands (cube_asked desk (memory_of counts.old points.old planes.old elements.old) input.now)) }
 {
-    let d = read::one(input, 2);
+    let d = read::number::<1>(input, 2);
     let radius = read::float(input, 3);
     let no = cube::with_primordial_cube_radius(d, radius, counts, points, planes, elements);
     if no == 0 {
@@ -167,10 +167,10 @@ pub fn cut_turn(
 {
     let d = dimension_of(counts);
     let divider = divider_at(input, d);
-    let kept = read::one(input, 2);
+    let kept = read::number::<1>(input, 2);
     let inside = fate(kept % 2 == 1);
     let outside = fate(kept / 2 == 1);
-    let root = ElementId(read::two(input, 3) as usize);
+    let root = ElementId(read::number::<2>(input, 3) as usize);
     let params = CutParams {
         divider,
         inside,

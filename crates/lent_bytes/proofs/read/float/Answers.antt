@@ -4,4 +4,4 @@ use lib.Ieee.{binary64, of_bits}
 use Rattle.lent_bytes.proofs.read.float.Goals as goal
 
 pub returns : goal.returns
-returns c = c.float_of.ensures ∙ ap (of_bits binary64) c.eight.ensures.value
+returns c = c.float_of.ensures ∙ ap (of_bits binary64) c.number.ensures.value
