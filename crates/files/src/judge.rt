@@ -18,7 +18,7 @@ fn widths_fit(bytes: &[u8], laid: Laid) -> bool
 {
     let mut at = laid.elements_at;
     for e in 0..laid.elements {
-        let n = read::two(bytes, at + 6) as usize;
+        let n = read::number::<2>(bytes, at + 6) as usize;
         if BOUNDARY < n {
             return false;
         }

@@ -12,15 +12,15 @@ use Rattle.files.proofs.entries.row_at.Goals as goal
 pub loop-j-init : goal.loop-j-init
 loop-j-init c = record {
   most = omega arith;
-  count = c.two-n.ensures.value;
-  words = row_head c.args.bytes.now c.args.at c.one.ensures.value c.one-2.ensures.value c.two.ensures.value c.two-n.ensures.value;
+  count = c.number-n.ensures.value;
+  words = row_head c.args.bytes.now c.args.at c.number.ensures.value c.number-2.ensures.value c.number-3.ensures.value c.number-n.ensures.value;
 }
 
 pub loop-j-preserved : goal.loop-j-preserved
 loop-j-preserved c = record {
   most = search rules;
   count = c.loop-j.invariant.count;
-  words = row_next c.args.bytes.now c.args.at c.loop-j.j c.loop-j.invariant.words c.two-in-loop-j.ensures.value (omega (arith, c.requires.boundary, c.loop-j.invariant.count));
+  words = row_next c.args.bytes.now c.args.at c.loop-j.j c.loop-j.invariant.words c.number-in-loop-j.ensures.value (omega (arith, c.requires.boundary, c.loop-j.invariant.count));
 }
 
 pub returns : goal.returns

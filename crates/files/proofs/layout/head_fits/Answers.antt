@@ -1,6 +1,6 @@
 -- One test after another: each that fails, or that needs no more, gives the answer.
 use mathlib.Core.Bool.{true, false}
-use mathlib.Core.Path.{refl}
+use mathlib.Core.Path.{refl, sym, ◌∙◌}
 use native.Mathlib.Omega.{arith}
 use lib.Dec.{eqb}
 use Rattle.rules.specs.Limits.{no_plane}
@@ -20,10 +20,10 @@ pub returns-then-mark-ne0 : goal.returns-then-mark-ne0
 returns-then-mark-ne0 c = fits_by c.args.rank c.args.mark c.args.plane c.args.n true true false (eqb c.args.plane no_plane)
     (test_le c.args.mark 1 (omega arith)) (test_eq c.args.rank 0 c.if-rank-ne0.false) (not_eq c.args.mark 0 c.if-mark-ne0.true) refl
 
-pub returns-then-plane : goal.returns-then-plane
-returns-then-plane c = fits_by c.args.rank c.args.mark c.args.plane c.args.n true true true false
-    (test_le c.args.mark 1 (omega arith)) (test_eq c.args.rank 0 c.if-rank-ne0.false) (test_eq c.args.mark 0 c.if-mark-ne0.false) (not_eq c.args.plane no_plane c.if-plane.true)
+pub returns-then-plane-from : goal.returns-then-plane-from
+returns-then-plane-from c = fits_by c.args.rank c.args.mark c.args.plane c.args.n true true true false
+    (test_le c.args.mark 1 (omega arith)) (test_eq c.args.rank 0 c.if-rank-ne0.false) (test_eq c.args.mark 0 c.if-mark-ne0.false) (not_eq c.args.plane no_plane (λ e. c.if-plane-from.true (e ∙ sym c.from.ensures)))
 
 pub returns : goal.returns
 returns c = fits_by c.args.rank c.args.mark c.args.plane c.args.n true true true true
-    (test_le c.args.mark 1 (omega arith)) (test_eq c.args.rank 0 c.if-rank-ne0.false) (test_eq c.args.mark 0 c.if-mark-ne0.false) (test_eq c.args.plane no_plane c.if-plane.false)
+    (test_le c.args.mark 1 (omega arith)) (test_eq c.args.rank 0 c.if-rank-ne0.false) (test_eq c.args.mark 0 c.if-mark-ne0.false) (test_eq c.args.plane no_plane (c.if-plane-from.false ∙ c.from.ensures))
