@@ -106,11 +106,7 @@ module _ (bs : List ℕ) (at d : ℕ) where
   unfolding plane_in
   plane_ends h = ends_sized bs at 0x48 0x50 (8 * d + 8) (plane_after d) (plane_takes d) h
 
--- ---- the head of an element's record, by its tests
-
-pub fits_by : (r m h n : ℕ) (a b c d : Bool) → leb m 1 ≡ a → eqb r 0 ≡ b → eqb m 0 ≡ c → eqb h no_plane ≡ d
-    → (a && (if b then (c && d && eqb n 1) else true)) ≡ element_fits r m h n
-fits_by r m h n a b c d p q s t = λ i. sym p i && (if sym q i then (sym s i && sym t i && eqb n 1) else true)
+-- ---- an element's record
 
 -- rank, mark, hyperplane and count are there
 pub element_wants : Wants 6 element_after

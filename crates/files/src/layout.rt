@@ -1,5 +1,5 @@
 // The layout of a file, record by record: that it is broken, or where each kind of record begins. Nothing is kept of what is read.
-ghost use Rattle.std.specs.Prelude.{ℕ, ◌≤◌, ◌≡◌, length, drop};
+ghost use Rattle.std.specs.Prelude.{ℕ, ◌≤◌, ◌≡◌, length, drop, slice_index};
 ghost use Rattle.rules.specs.Files.{point_in, plane_in, element_fits, element_in};
 ghost use Rattle.files.specs.Passed.{begins, Place, Ends, Repeats};
 ghost use Rattle.files.specs.Laid.{LayoutTold};
@@ -26,20 +26,12 @@ pub struct Laid {
 }
 
 // Whether a mark is there, with so many bytes behind it.
-fn begins_with(bytes: &[u8], at: usize, first: u8, second: u8, rest: usize) -> bool
+fn begins_with(bytes: &[u8], at: usize, mark: &[u8; 2], rest: usize) -> bool
     requires { at ≤ length bytes.now }
-    ensures { result ≡ begins first second rest (drop at bytes.now) }
+    ensures { result ≡ begins (slice_index mark.now 0) (slice_index mark.now 1) rest (drop at bytes.now) }
 {
-    if bytes.len() - at < 2 {
-        return false;
-    }
-    if bytes.len() - at - 2 < rest {
-        return false;
-    }
-    if bytes[at] != first {
-        return false;
-    }
-    bytes[at + 1] == second
+    let here = &bytes[at..];
+    here.starts_with(mark) && rest <= here.len() - 2
 }
 
 fn point(bytes: &[u8], at: usize, d: usize) -> Option<usize>
@@ -47,7 +39,7 @@ fn point(bytes: &[u8], at: usize, d: usize) -> Option<usize>
     ensures { Ends (point_in d) bytes.now at result }
 {
     let rest = 8 * d;
-    if !begins_with(bytes, at, b'V', b'X', rest) {
+    if !begins_with(bytes, at, b"VX", rest) {
         return None;
     }
     Some(at + 2 + rest)
@@ -58,7 +50,7 @@ fn plane(bytes: &[u8], at: usize, d: usize) -> Option<usize>
     ensures { Ends (plane_in d) bytes.now at result }
 {
     let rest = 8 * d + 8;
-    if !begins_with(bytes, at, b'H', b'P', rest) {
+    if !begins_with(bytes, at, b"HP", rest) {
         return None;
     }
     Some(at + 2 + rest)
@@ -68,26 +60,15 @@ fn plane(bytes: &[u8], at: usize, d: usize) -> Option<usize>
 fn head_fits(rank: u64, mark: u64, plane: u64, n: u64) -> bool
     ensures { result ≡ element_fits rank mark plane n }
 {
-    if 1 < mark {
-        return false;
-    }
-    if rank != 0 {
-        return true;
-    }
-    if mark != 0 {
-        return false;
-    }
-    if plane != u64::from(NO_PLANE) {
-        return false;
-    }
-    n == 1
+    let as_corner = mark == 0 && plane == u64::from(NO_PLANE) && n == 1;
+    mark <= 1 && (rank != 0 || as_corner)
 }
 
 fn element(bytes: &[u8], at: usize) -> Option<usize>
     requires { at ≤ length bytes.now }
     ensures { Ends element_in bytes.now at result }
 {
-    if !begins_with(bytes, at, b'E', b'L', ELEMENT_NUMBERS) {
+    if !begins_with(bytes, at, b"EL", ELEMENT_NUMBERS) {
         return None;
     }
     let rank = read::number::<1>(bytes, at + 2);
@@ -111,7 +92,7 @@ fn many_of<F: Fn(usize) -> Option<usize>>(step: F, at: usize, n: usize) -> Optio
     ensures { Repeats (λ place p. F.post step place p) at n result }
 {
     let mut end = at;
-    for i in 0..n {
+    for _passed in 0..n {
         end = step(end)?;
     }
     Some(end)
@@ -121,7 +102,7 @@ fn many_of<F: Fn(usize) -> Option<usize>>(step: F, at: usize, n: usize) -> Optio
 pub fn laid_out(bytes: &[u8]) -> Option<Laid>
     ensures { LayoutTold bytes.now result }
 {
-    if !begins_with(bytes, 0, b'H', b'D', HEADER_NUMBERS) {
+    if !begins_with(bytes, 0, b"HD", HEADER_NUMBERS) {
         return None;
     }
     let dimension = read::number::<2>(bytes, 2) as usize;

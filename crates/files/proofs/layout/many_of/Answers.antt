@@ -10,11 +10,11 @@ module _ (step : ℕ → Option ℕ → Type 0) (at n i : ℕ) (h : i < n) where
   one_less p r = subst (λ (k : ℕ). Repeats step at k p) (let q : suc (n - (i + 1)) ≡ n - i = omega (arith, h) in q) r
 
 pub returns-in_err-end : goal.returns-in_err-end
-returns-in_err-end g c = c.loop-i.invariant.rest _ (one_less _ c.loop-i.end c.args.n c.loop-i.i (search rules) _ (None, c.in_err-end.ensures, c.from_residual.ensures))
+returns-in_err-end g c = c.loop-passed.invariant.rest _ (one_less _ c.loop-passed.end c.args.n c.loop-passed._passed (search rules) _ (None, c.in_err-end.ensures, c.from_residual.ensures))
 
-pub loop-i-preserved : goal.loop-i-preserved
-loop-i-preserved g c = record {
+pub loop-passed-preserved : goal.loop-passed-preserved
+loop-passed-preserved g c = record {
   bound = search rules;
-  ready = c.requires.again c.loop-i.end c.in_ok-end.end c.loop-i.invariant.ready c.in_ok-end.ensures;
-  rest = λ p r. c.loop-i.invariant.rest p (one_less _ c.loop-i.end c.args.n c.loop-i.i (search rules) p (Some c.in_ok-end.end, c.in_ok-end.ensures, r));
+  ready = c.requires.again c.loop-passed.end c.in_ok-end.end c.loop-passed.invariant.ready c.in_ok-end.ensures;
+  rest = λ p r. c.loop-passed.invariant.rest p (one_less _ c.loop-passed.end c.args.n c.loop-passed._passed (search rules) p (Some c.in_ok-end.end, c.in_ok-end.ensures, r));
 }
