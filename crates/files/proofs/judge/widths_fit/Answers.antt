@@ -16,9 +16,6 @@ here : (bytes : List ℕ) (laid : Laid) {at e : ℕ} (s : Left element_in width_
     → ElementHere bytes s.list s.end at e
 here bytes laid s h = element_here bytes s.list s.end s.stands (inside element_in width_fits bytes s h)
 
-pub loop-e-init : goal.loop-e-init
-loop-e-init c = all_left element_in width_fits c.args.bytes.now _ _ (length c.args.bytes.now) c.requires.table.elements c.requires.whole.element_counted c.requires.whole.elements
-
 pub overflow_add-at : goal.overflow_add-at
 overflow_add-at c = let w = (here c.args.bytes.now c.args.laid c.loop-e.invariant (search rules)).within in search rules
 

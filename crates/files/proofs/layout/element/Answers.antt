@@ -24,25 +24,10 @@ headed bytes at told so rank mark plane count = record { begun = sym told ∙ so
 pub returns-then-not-begins_with : goal.returns-then-not-begins_with
 returns-then-not-begins_with c = no_element c.args.bytes.now c.args.at (sym c.begins_with.ensures ∙ c.if-not-begins_with.true)
 
-pub number-rank-requires : goal.number-rank-requires
-number-rank-requires c = let w = within c.args.bytes.now c.args.at c.begins_with.ensures c.if-not-begins_with.false in search rules
-
-pub number-mark-requires : goal.number-mark-requires
-number-mark-requires c = let w = within c.args.bytes.now c.args.at c.begins_with.ensures c.if-not-begins_with.false in search rules
-
-pub number-plane-requires : goal.number-plane-requires
-number-plane-requires c = let w = within c.args.bytes.now c.args.at c.begins_with.ensures c.if-not-begins_with.false in search rules
-
-pub number-n-requires : goal.number-n-requires
-number-n-requires c = let w = within c.args.bytes.now c.args.at c.begins_with.ensures c.if-not-begins_with.false in search rules
-
 pub returns-then-not-head_fits : goal.returns-then-not-head_fits
 returns-then-not-head_fits c = let head = headed c.args.bytes.now c.args.at c.begins_with.ensures c.if-not-begins_with.false c.number-rank.ensures.value c.number-mark.ensures.value
     c.number-plane.ensures.value c.number-n.ensures.value in
     element_unfit _ _ _ _ _ _ head (sym c.head_fits.ensures ∙ c.if-not-head_fits.true)
-
-pub overflow_sub-bytes-2 : goal.overflow_sub-bytes-2
-overflow_sub-bytes-2 c = let w = within c.args.bytes.now c.args.at c.begins_with.ensures c.if-not-begins_with.false in search rules
 
 pub returns-then-bytes-at : goal.returns-then-bytes-at
 returns-then-bytes-at c = let w = within c.args.bytes.now c.args.at c.begins_with.ensures c.if-not-begins_with.false in

@@ -10,14 +10,6 @@ use Rattle.lent_bytes.proofs.write.entries.Goals as goal
 entry_fits : (i n k at size : ℕ) → i < n → at + n * k ≤ size → at + i * k + k ≤ size
 entry_fits i n k at size h l = let m = mul-le-mul_right k h in let s = suc-mul i k in omega (arith, l, m, s)
 
-pub loop-x-init : goal.loop-x-init
-loop-x-init g c = record { within = search rules; place = search rules; long = refl; rest = λ f h. all_left _ _ _ }
-
-pub number-end-requires : goal.number-end-requires
-number-end-requires g c =
-    let r = entry_fits c.loop-x.x-index (length c.args.list.now) c.args.k c.args.at (length c.args.room.now) (search rules) c.requires.fits_room in
-    omega (arith, r)
-
 pub loop-x-preserved : goal.loop-x-preserved
 loop-x-preserved g c = record {
   within = search rules;
@@ -26,6 +18,3 @@ loop-x-preserved g c = record {
   rest = λ f h. next_entry f c.args.list.now c.loop-x.x-index (c.loop-x.invariant.rest f h) c.x-item.result (search rules)
       (h _ _ c.bits.ensures ∙ ap f c.x-item.is) c.number-end.ensures;
 }
-
-pub returns : goal.returns
-returns g c = λ f h. no_entry f c.args.list.now c.loop-x.x-index (c.loop-x.invariant.rest f h) (search rules)
