@@ -24,7 +24,6 @@ use Rattle.hypermath.proofs.Filling.{fill_next}
 use Rattle.files.specs.Runs.{Read}
 use Rattle.files.specs.Passed.{begins}
 use Rattle.files.specs.Entries.{plane_at, numbers_at, count_at, row_front, row_at}
-use Rattle.files.specs.declared.layout.Pass.TheVariants.{Broken}
 use Rattle.files.proofs.Runs.{same_end}
 use Rattle.files.proofs.Sizes.{Wants, floats_take, plane_takes, then_number, not_begun, begun_within, begun}
 use Rattle.files.proofs.Passes.{one_broken, element_wants, Head, head_read, element_cut_off}
@@ -158,7 +157,7 @@ module _ (bs : List ℕ) (at : ℕ) (x : Element) (end : ℕ) (r : Read element_
       go true e = le_test (at + 8 + 2 * count) (length bs) e
       go false e =
           never x (drop end bs)
-          (sym (one_broken element_in bs at Broken (element_cut_off bs at rank mark plane count headed (not_le (at + 8 + 2 * count) (length bs) e)) refl) ∙ r.says)
+          (sym (one_broken element_in bs at (element_cut_off bs at rank mark plane count headed (not_le (at + 8 + 2 * count) (length bs) e))) ∙ r.says)
 
   pub element_read : ElementRead bs at x end
   element_read =

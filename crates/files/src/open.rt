@@ -21,10 +21,9 @@ pub fn open(
     ensures { (result, memory_of counts.new points.new planes.new elements.new) ≡
         open_reply desk file.now (memory_of counts.old points.old planes.old elements.old) }
 {
-    let laid = laid_out(file);
-    if !laid.whole {
+    let Some(laid) = laid_out(file) else {
         return Err(Refusal::Layout);
-    }
+    };
     if !right_size(counts, points, planes, elements) {
         return Err(Refusal::NotSound);
     }

@@ -8,6 +8,7 @@ ghost use Rattle.space.specs.Numbers.{row_width, NumberBelow};
 ghost use Rattle.lent_bytes.specs.Lent.{Put};
 ghost use Rattle.files.specs.Saved.{row_saved, saved, file_size, RowsUsed, SizeReady};
 
+use crate::layout::HEADER;
 use crate::records;
 use rules::{Refusal, Reply};
 use soundness::sound::memory_sound;
@@ -35,7 +36,7 @@ fn file_size(counts: &[u16], elements: &[u16]) -> usize
     let v = wide(counts[2]);
     let h = wide(counts[3]);
     let records = elements_size(elements, n);
-    10 + v * (2 + 8 * d) + h * (10 + 8 * d) + records
+    HEADER + v * (2 + 8 * d) + h * (10 + 8 * d) + records
 }
 
 // All of it, where the room is long enough.

@@ -53,7 +53,7 @@ pub fn is_cut(counts: &[u16], input: &[u8]) -> bool
     if input.len() < 13 + 8 * d {
         return false;
     }
-    if 3 < read::one(input, 2) {
+    if 3 < read::number::<1>(input, 2) {
         return false;
     }
     is_marked(input, 0x54)
@@ -98,7 +98,7 @@ pub fn cube_turn(
         ≡ reply_of (memory_of counts.old points.old planes.old elements.old) room.old
         (cube_turn stands (cube_asked desk (memory_of counts.old points.old planes.old elements.old) input.now)) }
 {
-    let d = read::one(input, 2);
+    let d = read::number::<1>(input, 2);
     let radius = read::float(input, 3);
     match cube::with_primordial_cube_radius(d, radius, counts, points, planes, elements) {
         Ok(()) => Taken {
@@ -154,10 +154,10 @@ pub fn cut_turn(
 {
     let d = dimension_of(counts);
     let divider = divider_at(input, d);
-    let kept = read::one(input, 2);
+    let kept = read::number::<1>(input, 2);
     let inside = PolytopeFate::from(kept % 2 == 1);
     let outside = PolytopeFate::from(kept / 2 == 1);
-    let root = ElementId(read::two(input, 3) as usize);
+    let root = ElementId(read::number::<2>(input, 3) as usize);
     let params = CutParams {
         divider,
         inside,

@@ -14,13 +14,6 @@ use Rattle.files.specs.Kept.{kept_row}
 use Rattle.files.proofs.KeptRows.{read_long}
 use Rattle.files.proofs.rows.same_as_kept.Goals as goal
 
-pub returns-then-row-kept : goal.returns-then-row-kept
-returns-then-row-kept c = let old = kept_row c.args.bytes.now c.args.laid c.args.kept.now c.args.x in
-    sym (refute (alike eqb c.args.row.now old) (λ e. c.if-row-kept.true (ap (λ (r : List ℕ). get_or r 4 0) (alike_eq c.args.row.now old e) ∙ sym c.requires.first)))
-
-pub row_at-old-requires : goal.row_at-old-requires
-row_at-old-requires c = subst (λ (k : ℕ). RowReady c.args.bytes.now (c.args.laid.elements_at + k)) (sym c.wide.ensures.value) c.requires.ready
-
 pub returns : goal.returns
 returns c = let read = c.row_at-old.ensures ∙ ap (λ (k : ℕ). pad 0 36 (row_at (c.args.laid.elements_at + k) c.args.bytes.now)) c.wide.ensures.value in
     c.same_row.ensures
