@@ -119,44 +119,33 @@ impl Memory {
             planes,
             elements,
         } = self;
-        put_cube_in(lengths, dimension, radius, counts, points, planes, elements)
+        cube::with_primordial_cube_radius(
+            dimension,
+            radius,
+            lent_mut(counts, lengths.counts),
+            lent_mut(points, lengths.points),
+            lent_mut(planes, lengths.planes),
+            lent_mut(elements, lengths.elements),
+        )
     }
 
     // The soundness test of slices of these lengths.
     pub fn soundness(&self, lengths: Lengths) -> u8 {
-        let counts = lengths.counts.min(self.counts.len());
-        let points = lengths.points.min(self.points.len());
-        let planes = lengths.planes.min(self.planes.len());
-        let elements = lengths.elements.min(self.elements.len());
         soundness::sound::is_sound(
-            &self.counts[..counts],
-            &self.points[..points],
-            &self.planes[..planes],
-            &self.elements[..elements],
+            lent(&self.counts, lengths.counts),
+            lent(&self.points, lengths.points),
+            lent(&self.planes, lengths.planes),
+            lent(&self.elements, lengths.elements),
         )
     }
 }
 
-// The borrow checker covers no ranges lent of several fields at once, so the slices are here by themselves.
-fn put_cube_in(
-    lengths: Lengths,
-    dimension: u64,
-    radius: f64,
-    counts: &mut [u16],
-    points: &mut [f64],
-    planes: &mut [f64],
-    elements: &mut [u16],
-) -> u8 {
-    let count_words = lengths.counts.min(counts.len());
-    let point_floats = lengths.points.min(points.len());
-    let plane_floats = lengths.planes.min(planes.len());
-    let element_words = lengths.elements.min(elements.len());
-    cube::with_primordial_cube_radius(
-        dimension,
-        radius,
-        &mut counts[..count_words],
-        &mut points[..point_floats],
-        &mut planes[..plane_floats],
-        &mut elements[..element_words],
-    )
+// As many words of a slice as are wanted, where there are so many.
+fn lent<W>(list: &[W], wanted: usize) -> &[W] {
+    &list[..wanted.min(list.len())]
+}
+
+fn lent_mut<W>(list: &mut [W], wanted: usize) -> &mut [W] {
+    let end = wanted.min(list.len());
+    &mut list[..end]
 }
