@@ -2,7 +2,7 @@
 ghost use Rattle.std.specs.Prelude.{◌≤◌, length};
 
 use rules::{CutReply, ElementCutOutput, ElementOrNone, ListReply, Side, SideTest};
-use space::words::wide;
+use space::words::COUNTS;
 use std::io::{self, Write};
 
 pub fn text(rt: &HostRuntime, words: &[u8]) -> io::Result<()> {
@@ -10,9 +10,7 @@ pub fn text(rt: &HostRuntime, words: &[u8]) -> io::Result<()> {
 }
 
 pub fn number(rt: &HostRuntime, n: u64) -> io::Result<()> {
-    text(rt, b" ")?;
-    print!(rt; "{}", n)?;
-    Ok(())
+    print!(rt; " {n}")
 }
 
 pub fn line_end(rt: &HostRuntime) -> io::Result<()> {
@@ -20,13 +18,9 @@ pub fn line_end(rt: &HostRuntime) -> io::Result<()> {
 }
 
 // How many elements, vertices and hyperplanes are in use.
-pub fn counts(rt: &HostRuntime, words: &[u16]) -> io::Result<()> {
-    if words.len() == 4 {
-        number(rt, wide(words[1]) as u64)?;
-        number(rt, wide(words[2]) as u64)?;
-        number(rt, wide(words[3]) as u64)?;
-    }
-    line_end(rt)
+pub fn counts(rt: &HostRuntime, counts: [u16; COUNTS]) -> io::Result<()> {
+    let [_, elements, vertices, planes] = counts;
+    println!(rt; " {elements} {vertices} {planes}")
 }
 
 fn element(rt: &HostRuntime, e: ElementOrNone) -> io::Result<()> {
@@ -84,8 +78,8 @@ pub fn side(rt: &HostRuntime, t: SideTest) -> io::Result<()> {
 fn list(rt: &HostRuntime, words: &[u16], n: usize) -> io::Result<()>
     requires { n ≤ length words.now }
 {
-    for i in 0..n {
-        number(rt, wide(words[i]) as u64)?;
+    for word in &words[..n] {
+        number(rt, u64::from(*word))?;
     }
     Ok(())
 }
