@@ -202,10 +202,6 @@ point_is bs d from {a} {b} {c} {e} p q r s h = (λ i. p i ∷ q i ∷ r i ∷ s 
     by_axes (suc (suc (suc (suc zero)))) h = λ i. first i ∷ second i ∷ third i ∷ fourth i ∷ []
     by_axes (suc (suc (suc (suc (suc d))))) h = absurd (omega (arith, h))
 
-pub plane_is : (bs : List ℕ) (at d : ℕ) {n : List Float} {x : Float} → n ≡ pad plus_zero 4 (floats_at d (at + 2) bs) → x ≡ float_at (at + 2 + 8 * d) bs
-    → ◌≡◌ {A = Hyperplane} (record { normal = n; distance = x }) (plane_at at d bs)
-plane_is bs at d p q = λ i. record { normal = p i; distance = q i }
-
 pub row_head : (bs : List ℕ) (at : ℕ) {r m h n : ℕ} → r ≡ number_at 1 (at + 2) bs → m ≡ number_at 1 (at + 3) bs → h ≡ number_at 2 (at + 4) bs → n ≡ count_at at bs
     → set (set (set (set (replicate 36 0) 0 r) 1 m) 2 h) 3 n ≡ pad 0 36 (row_front 0 at bs)
 row_head bs at p q r s = λ i. set (set (set (set (replicate 36 0) 0 (p i)) 1 (q i)) 2 (r i)) 3 (s i)

@@ -65,6 +65,3 @@ module _ {A : Type 0} (f : A → List ℕ) {before after whole : List ℕ} {at e
       ∙ ap (λ (j : ℕ). f (get_or xs i z) ++ joined (map f (drop j xs))) (let q : suc i ≡ i + 1 = omega arith in q))
       l)
       (put_as e p)
-
-  pub no_entry : length xs ≤ i → Put before at whole end after
-  no_entry h = none_left (left_as (ap (λ (ys : List A). joined (map f ys)) (drop_of_length-le xs {i = i} h)) l)
