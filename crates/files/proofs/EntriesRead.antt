@@ -16,14 +16,13 @@ use Rattle.rules.specs.Bytes.{number_at, float_at, floats_at}
 use Rattle.rules.specs.Table.{Element, Plane}
 use Rattle.rules.specs.Memory.{element_row, read_element}
 use Rattle.rules.specs.Files.{Reading, got, after_mark, many, number, float, point_in, plane_after, plane_in, element_fits, element_in}
-use Rattle.rules.specs.declared.Hyperplane.{Hyperplane}
 use Rattle.rules.proofs.ByteLaws.{got_value, got_rest, never, and_then_lem, chosen}
 use Rattle.rules.proofs.FileRecords.{row_only}
 use Rattle.rules.proofs.Laws.{le_test, not_le}
 use Rattle.hypermath.proofs.Filling.{fill_next}
 use Rattle.files.specs.Runs.{Read}
 use Rattle.files.specs.Passed.{begins}
-use Rattle.files.specs.Entries.{plane_at, numbers_at, count_at, row_front, row_at}
+use Rattle.files.specs.Entries.{numbers_at, count_at, row_front, row_at}
 use Rattle.files.proofs.Runs.{same_end}
 use Rattle.files.proofs.Sizes.{Wants, floats_take, plane_takes, then_number, not_begun, begun_within, begun}
 use Rattle.files.proofs.Passes.{one_broken, element_wants, Head, head_read, element_cut_off}

@@ -4,7 +4,7 @@ use mathlib.Core.List.{List, [], ◌∷◌, ◌++◌, map}
 use mathlib.Core.Path.{◌≡◌, refl, sym, ap, ap₂, subst, ◌∙◌}
 use native.Mathlib.Nat.{zero-mul, suc-mul}
 use native.Mathlib.Omega.{arith}
-use lib.ListN.{length, get_or, set, take, drop, length-append, drop_of_length-le}
+use lib.ListN.{length, get_or, set, take, drop, length-append}
 use lib.Seq.{sets, drop-cons, length-slice}
 use Rattle.rules.specs.Lists.{joined}
 use Rattle.rules.specs.Bytes.{bytes_of}

@@ -1,6 +1,6 @@
 -- The entries that are left, put behind those that stand there, make all of them.
-use Rattle.std.proofs.Common.{ℕ, ◌+◌, ◌*◌, ◌≤◌, ◌<◌, ap, ◌∙◌, arith, rules}
-use Rattle.std.proofs.Math.Nat.{mul-le-mul_right, suc-mul}
+use Rattle.std.proofs.Common.{ap, ◌∙◌, arith, rules}
+use Rattle.std.proofs.Math.Nat.{suc-mul}
 use Rattle.rules.proofs.ByteLaws.{bytes_long}
 use Rattle.lent_bytes.proofs.Puts.{put_length}
 use Rattle.lent_bytes.proofs.Rests.{next_entry}
