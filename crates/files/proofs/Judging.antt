@@ -17,7 +17,7 @@ use Rattle.rules.specs.Bytes.{floats_at}
 use Rattle.rules.specs.Table.{Table, Element, corner, polytope, Plane}
 use Rattle.rules.specs.Sound.{sound_point, sound_plane}
 use Rattle.rules.specs.Memory.{element_row}
-use Rattle.rules.specs.Files.{Reading, many, point_in, plane_in, element_in}
+use Rattle.rules.specs.Files.{Reading, many, element_in}
 use Rattle.rules.specs.declared.Hyperplane.{Hyperplane}
 use Rattle.rules.proofs.ByteLaws.{got_value}
 use Rattle.rules.proofs.Indexed.{all_go, all_no, all_end}
@@ -29,7 +29,7 @@ use Rattle.soundness.proofs.SoundWhole.{fit_counts}
 use Rattle.files.specs.Runs.{Run}
 use Rattle.files.specs.Laid.{header_size, Whole}
 use Rattle.files.specs.Entries.{plane_at, count_at}
-use Rattle.files.specs.Judged.{SaysFitting, Judged, no_plane_there, width_fits, widths_fit, vertices_sound, hyperplanes_sound}
+use Rattle.files.specs.Judged.{SaysFitting, Judged, no_plane_there, width_fits, widths_fit}
 use Rattle.files.specs.declared.layout.Laid.{Laid}
 use Rattle.files.proofs.Runs.{run_many}
 use Rattle.files.proofs.EntriesRead.{floats_long}

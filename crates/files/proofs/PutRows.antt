@@ -60,13 +60,6 @@ rows_filled {A} {B} z w room g xs ys f v p l =
     ∙ append-nil (take n ys ++ replicate (room - n) z)
     ∙ ap₂ (λ (q : List B) (m : ℕ). q ++ replicate (room - m) z) f (sym (rows_size w g xs v))
 
--- a list that is stored over another of its length
-pub stored_whole : {A : Type 0} (vs l : List A) → length l ≡ length vs → sets l 0 vs ≡ vs
-stored_whole {A} vs l e =
-    sets-eq vs l 0 (omega (arith, e))
-    ∙ ap (λ (q : List A). vs ++ q) (drop_of_length-le l (let q : length l ≤ 0 + length vs = omega (arith, e) in q))
-    ∙ append-nil vs
-
 module _ {A B : Type 0} (f : List ℕ → Reading A) (g : A → List B) (w room : ℕ) (bs : List ℕ) (from n : ℕ) where
   pub record RowsSoFar (at i : ℕ) (xs : List B) : Type 0 where
     pub ready : RecordsReady f g w room bs from n xs

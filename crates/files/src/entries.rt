@@ -45,7 +45,7 @@ pub fn plane_at(bytes: &[u8], at: usize, d: usize) -> Hyperplane
     Hyperplane { normal, distance }
 }
 
-// Rank and mark have a byte each, all else two.
+// Rank and mark have a byte each, all else two. The index of a boundary number is its place in the row and in the bytes.
 pub fn row_at(bytes: &[u8], at: usize) -> [u16; WIDTH]
     requires { RowReady bytes.now at }
     ensures { result ≡ pad 0 row_width (row_at at bytes.now) }

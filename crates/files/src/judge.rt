@@ -12,7 +12,7 @@ use soundness::floats::{coordinates_fit, hyperplane_sound};
 use soundness::sound::counts_fit;
 use space::words::BOUNDARY;
 
-// Every boundary has place in a row of the room.
+// Every boundary has place in a row of the room. A loop: where an element's record stands only those before it tell.
 fn widths_fit(bytes: &[u8], laid: Laid) -> bool
     requires { Says bytes.now laid }
     ensures { Judged bytes.now laid widths_fit result }

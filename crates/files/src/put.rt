@@ -14,6 +14,7 @@ use crate::layout::{HEADER, Laid};
 use space::words::{AXES, PLANE_WIDTH, WIDTH, wide};
 use space::{memo, rows};
 
+// Three loops of one shape: one over a step that writes would say what each step leaves of the slice, in clauses longer than the loops.
 // A vertex's record has a mark, and 8 bytes for each coordinate.
 fn put_points(bytes: &[u8], from: usize, n: usize, d: usize, points: &mut [f64])
     requires d_le_dimensions { d ≤ desk.dimensions }

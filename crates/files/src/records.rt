@@ -28,6 +28,7 @@ fn vertex_record(points: &[f64], i: usize, d: usize, room: &mut [u8], at: usize)
     write::floats(points, from, from + d, room, end)
 }
 
+// Three loops of one shape: one over a step that writes would say what each step finds in the room and puts there, in clauses longer than the loops.
 pub fn vertices(points: &[f64], n: usize, d: usize, room: &mut [u8], at: usize) -> usize
     requires d_le_dimensions { d ≤ desk.dimensions }
     requires rows_ready { RowsReady (point_clear d) (point_saved d) desk.dimensions n points.now room.old at }

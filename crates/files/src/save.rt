@@ -14,7 +14,7 @@ use rules::{Refusal, Reply};
 use soundness::sound::memory_sound;
 use space::words::{WIDTH, wide};
 
-// How many bytes the records of the first n rows of elements have: 8 each, and 2 for each number of a boundary.
+// How many bytes the records of the first n rows of elements have: 8 each, and 2 for each number of a boundary. A loop: that the `sum` of a chain fits was not proved.
 fn elements_size(elements: &[u16], n: usize) -> usize
     requires { RowsUsed elements.now n }
     ensures { NumberBelow result (length (saved row_saved row_width n elements.now)) 65536 }

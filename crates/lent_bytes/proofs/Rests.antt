@@ -4,7 +4,7 @@ use mathlib.Core.List.{List, [], ◌∷◌, ◌++◌, map}
 use mathlib.Core.Path.{◌≡◌, refl, sym, ap, ap₂, subst, ◌∙◌}
 use native.Mathlib.Nat.{zero-mul, suc-mul}
 use native.Mathlib.Omega.{arith}
-use lib.ListN.{length, get_or, set, take, drop, length-append, drop_of_length-le}
+use lib.ListN.{length, get_or, set, take, drop, length-append}
 use lib.Seq.{sets, drop-cons, length-slice}
 use Rattle.rules.specs.Lists.{joined}
 use Rattle.rules.specs.Bytes.{bytes_of}
@@ -65,6 +65,3 @@ module _ {A : Type 0} (f : A → List ℕ) {before after whole : List ℕ} {at e
       ∙ ap (λ (j : ℕ). f (get_or xs i z) ++ joined (map f (drop j xs))) (let q : suc i ≡ i + 1 = omega arith in q))
       l)
       (put_as e p)
-
-  pub no_entry : length xs ≤ i → Put before at whole end after
-  no_entry h = none_left (left_as (ap (λ (ys : List A). joined (map f ys)) (drop_of_length-le xs {i = i} h)) l)

@@ -1,5 +1,5 @@
 -- All of them, by their numbers.
-use Rattle.std.proofs.Common.{◌≡◌, ◌∙◌, refl, [], get_or, arith}
+use Rattle.std.proofs.Common.{◌∙◌, refl, get_or, arith}
 use Rattle.std.proofs.lemmas.Iterator.{YieldsList-from_range}
 use Rattle.std.proofs.lemmas.Iterator.Search.{all_from_yields_List}
 use borrow.Author.Rules.{rules}

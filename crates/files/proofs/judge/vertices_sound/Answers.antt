@@ -1,10 +1,10 @@
 -- All of them, by their numbers.
-use Rattle.std.proofs.Common.{◌≡◌, ◌∙◌, refl, [], get_or, arith}
+use Rattle.std.proofs.Common.{◌∙◌, refl, [], get_or, arith}
 use Rattle.std.proofs.lemmas.Iterator.{YieldsList-from_range}
 use Rattle.std.proofs.lemmas.Iterator.Search.{all_from_yields_List}
 use borrow.Author.Rules.{rules}
 use Rattle.rules.specs.Sound.{sound_point}
-use Rattle.files.specs.Judged.{VertexJudged, no_plane_there}
+use Rattle.files.specs.Judged.{VertexJudged}
 use Rattle.files.proofs.Judging.{by_numbers}
 use Rattle.files.proofs.judge.vertices_sound.Goals as goal
 

@@ -1,14 +1,13 @@
 -- The elements whose boundaries are left fit exactly where all do, up to the first that does not.
 use Prim.Native.Nat.{ℕ, ◌<◌}
 use mathlib.Core.List.{List}
-use lib.ListN.{length}
 use Rattle.rules.specs.Files.{element_in}
 use Rattle.rules.specs.Table.{corner}
 use borrow.Author.Rules.{rules}
 use Rattle.files.specs.Judged.{width_fits}
 use Rattle.files.specs.declared.layout.Laid.{Laid}
 use Rattle.files.proofs.Standing.{ElementHere, element_here}
-use Rattle.files.proofs.Judging.{Left, all_left, inside, left_on, left_no, left_none, widths_told, width_fits_lem, too_wide, stands_next}
+use Rattle.files.proofs.Judging.{Left, inside, left_on, left_no, left_none, widths_told, width_fits_lem, too_wide, stands_next}
 use Rattle.files.proofs.judge.widths_fit.Goals as goal
 
 -- the record of this turn

@@ -9,7 +9,6 @@ use Rattle.rules.specs.Bytes.{number_at}
 use Rattle.files.specs.Passed.{begins}
 use Rattle.files.proofs.Sizes.{begun_within}
 use Rattle.files.proofs.Passes.{no_element, Head, element_unfit, element_cut_off, element_ends}
-use borrow.Author.Rules.{rules}
 use Rattle.files.proofs.layout.element.Goals as goal
 
 -- a record that has begun has its first eight bytes

@@ -14,9 +14,6 @@ returns-then-not-right_size c =
     let says = told_says c.in-Some.ensures in
     open_other_size c.args.file.now lent says (sym c.right_size.ensures ∙ c.if-not-right_size.true)
 
-pub table_sound-requires : goal.table_sound-requires
-table_sound-requires c = told_says c.in-Some.ensures
-
 pub returns-then-not-table_sound : goal.returns-then-not-table_sound
 returns-then-not-table_sound c =
     let lent = memory_of c.args.counts.now c.args.points.now c.args.planes.now c.args.elements.now in

@@ -12,7 +12,7 @@ use Rattle.rules.specs.Held.{Fits, elements_of}
 use Rattle.rules.specs.Limits.{desk}
 use Rattle.rules.specs.Lists.{alike}
 use Rattle.rules.specs.Table.{Table, element_count}
-use Rattle.space.proofs.Indexing.{Met, met_start, met_less, met_on, met_end}
+use Rattle.space.proofs.Indexing.{Met, met_start, met_on, met_end}
 use Rattle.space.specs.Chains.{key_of}
 use Rattle.files.proofs.KeptRows.{link_of, link_named, one_table, says_fits, says_few, says_room, kept_ready, kept_own}
 use Rattle.files.proofs.rows.last_kept.Goals as goal
@@ -55,13 +55,6 @@ bounds-index-x c =
     let m = met.room in
     let n = says_room c.requires.says c.requires.few in
     omega (arith, m, n, c.loop-x-test.true)
-
-pub loop-x-smaller : goal.loop-x-smaller
-loop-x-smaller c =
-    let met : Met (elements_of desk c.requires.says.table) c.args.n c.args.row.now (link_of c.loop-x.met) c.loop-x.x =
-    c.loop-x.invariant c.requires.says.table c.requires.says.whole in
-    met_less (elements_of desk c.requires.says.table) c.args.n c.args.row.now c.args.index.now (link_of c.loop-x.met) c.loop-x.x c.wide-x-in-loop-x.result (c.requires.earlier c.requires.says.table c.requires.says.whole) met c.loop-x-test.true
-    c.wide-x-in-loop-x.ensures.value
 
 pub returns : goal.returns
 returns c = record { found = λ t w. link_named c.loop-x.met ∙ met_end (elements_of desk t) c.args.n c.args.row.now (link_of c.loop-x.met) c.loop-x.x (c.loop-x.invariant t w) (omega (arith, c.loop-x-test.false)) }

@@ -1,16 +1,12 @@
 -- Rows that differ in the first number of a boundary are not equal; otherwise the record is read again, and its row compared.
 use Prim.Native.Nat.{ℕ, ◌+◌}
-use mathlib.Core.List.{List}
-use mathlib.Core.Path.{sym, ap, ap₂, subst, ◌∙◌}
+use mathlib.Core.Path.{ap, ap₂, ◌∙◌}
 use native.Mathlib.Nat.{le_of_eq}
 use lib.Dec.{eqb}
-use lib.ListN.{length, get_or}
+use lib.ListN.{length}
 use lib.Seq.{take_all}
 use Rattle.rules.specs.Lists.{alike, pad}
-use Rattle.rules.proofs.Laws.{refute}
-use Rattle.rules.proofs.Selves.{alike_eq}
-use Rattle.files.specs.Entries.{row_at, RowReady}
-use Rattle.files.specs.Kept.{kept_row}
+use Rattle.files.specs.Entries.{row_at}
 use Rattle.files.proofs.KeptRows.{read_long}
 use Rattle.files.proofs.rows.same_as_kept.Goals as goal
 

@@ -1,9 +1,5 @@
 -- The counts are low, so no product and no sum is too great.
-use Prim.Native.Nat.{ℕ, ◌≤◌}
-use mathlib.Core.Path.{sym, subst}
-use native.Mathlib.Omega.{arith}
-use Rattle.files.specs.Saved.{RowsUsed}
-use Rattle.files.proofs.SavedSizes.{points_few, planes_few, size_told}
+use Rattle.files.proofs.SavedSizes.{size_told}
 use Rattle.files.proofs.save.file_size.Goals as goal
 
 pub returns : goal.returns

@@ -1,14 +1,10 @@
 -- The entries that are left, put behind those that stand there, make all of them.
-use Rattle.std.proofs.Common.{ℕ, ◌+◌, ◌*◌, ◌≤◌, ◌<◌, refl, ap, ◌∙◌, arith, length, rules}
-use Rattle.std.proofs.Math.Nat.{mul-le-mul_right, suc-mul}
+use Rattle.std.proofs.Common.{ap, ◌∙◌, arith, rules}
+use Rattle.std.proofs.Math.Nat.{suc-mul}
 use Rattle.rules.proofs.ByteLaws.{bytes_long}
 use Rattle.lent_bytes.proofs.Puts.{put_length}
-use Rattle.lent_bytes.proofs.Rests.{all_left, next_entry, no_entry}
+use Rattle.lent_bytes.proofs.Rests.{next_entry}
 use Rattle.lent_bytes.proofs.write.entries.Goals as goal
-
--- there is room for entry i
-entry_fits : (i n k at size : ℕ) → i < n → at + n * k ≤ size → at + i * k + k ≤ size
-entry_fits i n k at size h l = let m = mul-le-mul_right k h in let s = suc-mul i k in omega (arith, l, m, s)
 
 pub loop-x-preserved : goal.loop-x-preserved
 loop-x-preserved g c = record {
