@@ -4,7 +4,6 @@ use Rattle.std.specs.Prelude.{Option, Some, None, is_some}
 use Prim.Native.Nat.{ℕ, zero, suc, ◌+◌, ◌*◌, ◌-◌, ◌≤◌, ◌<◌}
 use mathlib.Core.Bool.{Bool, true, false, false≢true}
 use mathlib.Core.List.{List, []}
-use mathlib.Core.Option.{some, none}
 use mathlib.Core.Path.{◌≡◌, refl, sym, ap, subst, ◌∙◌}
 use native.Mathlib.Nat.{not-suc-le-zero}
 use native.Mathlib.Omega.{arith}
@@ -26,7 +25,7 @@ use Rattle.soundness.specs.Words.{blank_words, past_blank}
 use Rattle.soundness.proofs.KnownRows.{rank_is, first_is, second_is}
 use Rattle.soundness.proofs.RowLoops.{row_first, row_word}
 use Rattle.files.specs.Entries.{count_at, numbers_at, row_at, RowReady}
-use Rattle.files.specs.Kept.{number_met, kept_row, kept_with, KeptTo, RowKept}
+use Rattle.files.specs.Kept.{kept_row, kept_with, KeptTo, RowKept}
 use Rattle.files.specs.Judged.{SaysFitting}
 use Rattle.files.specs.Laid.{Whole}
 use Rattle.files.specs.Runs.{Run}
@@ -39,7 +38,7 @@ abbrev pub link_of : Option ℕ → ℕ
 link_of None = 0
 link_of (Some i) = suc i
 
-pub link_named : (p : Option ℕ) → number_met p ≡ number_of (link_of p)
+pub link_named : (p : Option ℕ) → p ≡ number_of (link_of p)
 link_named None = refl
 link_named (Some i) = refl
 
@@ -48,11 +47,11 @@ abbrev pub row_of : Option ℕ → ℕ
 row_of None = 0
 row_of (Some i) = i
 
-pub met_some : (p : Option ℕ) → true ≡ is_some p → some (row_of p) ≡ number_met p
+pub met_some : (p : Option ℕ) → true ≡ is_some p → Some (row_of p) ≡ p
 met_some None h = absurd (false≢true (sym h))
 met_some (Some i) h = refl
 
-pub met_none : (p : Option ℕ) → false ≡ is_some p → number_met p ≡ none
+pub met_none : (p : Option ℕ) → false ≡ is_some p → p ≡ None
 met_none None h = refl
 met_none (Some i) h = absurd (false≢true h)
 

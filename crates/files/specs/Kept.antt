@@ -1,6 +1,5 @@
 -- What is kept of the elements that were judged, so that the next row can be: four words for each. Definitions only.
 use Rattle.std.specs.Prelude.{ℕ, ◌+◌, ◌*◌, ◌<◌, ◌≤◌, Bool, ◌≡◌, List, eqb, length, get_or, set, drop, Option, Some, None}
-use mathlib.Core.Option.{Option as MaybeNumber, none, some}
 use Rattle.rules.specs.Held.{elements_of}
 use Rattle.rules.specs.Limits.{desk}
 use Rattle.rules.specs.Lists.{alike, find, pad, rows}
@@ -58,14 +57,9 @@ pub record SearchKept (bs : List ℕ) (l : Laid) (kept : List ℕ) (n : ℕ) (ro
   pub keeps : (t : Table) → Whole bs l t → KeptTo bs l t n kept
   pub earlier : (t : Table) → Whole bs l t → Indexed (elements_of desk t) n index
 
--- the number that a search gives
-abbrev pub number_met : Option ℕ → MaybeNumber ℕ
-number_met None = none
-number_met (Some i) = some i
-
 -- the lowest of them that has a row
 pub record LastKept (bs : List ℕ) (l : Laid) (n : ℕ) (row : List ℕ) (reply : Option ℕ) : Type 0 where
-  pub found : (t : Table) → Whole bs l t → number_met reply ≡ find (alike eqb row) (rows n row_width (elements_of desk t))
+  pub found : (t : Table) → Whole bs l t → reply ≡ find (alike eqb row) (rows n row_width (elements_of desk t))
 
 -- and the row is that of element n
 pub record RowReadyToKeep (bs : List ℕ) (l : Laid) (kept : List ℕ) (n : ℕ) (row index : List ℕ) : Type 0 where
