@@ -51,7 +51,8 @@ returns-then-n-few_edges c =
     known_rows c.args.earlier.now c.args.spacing in
     record {
       told = boundary_few known c.args.words.now c.args.at c.args.n c.args.d c.args.e.0 c.args.rank c.requires.end c.if-rank-ne2.false (lt-ltb _ _ c.if-n-rank.false)
-          (let z : c.args.n ≤ few c.args.d = omega (arith, c.if-n-few_edges.true, c.few_edges.ensures) in z) (c.few_fits.ensures.told ∙ ap (few_words desk known c.args.e.0) (between_is c.args.words.now c.args.at (c.args.at + c.args.n)));
+          (let z : c.args.n ≤ few c.args.d = omega (arith, c.if-n-few_edges.true, c.few_edges.ensures) in z)
+          (c.few_fits.ensures.told ∙ ap (few_words desk known c.args.e.0) (between_is c.args.words.now c.args.at (c.args.at + c.args.n)));
       unmet = c.few_fits.ensures.unmet;
     }
 
@@ -70,6 +71,7 @@ returns c =
     known_rows c.args.earlier.now c.args.spacing in
     record {
       told = boundary_face known c.args.words.now c.args.at c.args.n c.args.d c.args.e.0 c.args.rank c.requires.end c.if-rank-ne2.false (lt-ltb _ _ c.if-n-rank.false)
-          (let z : few c.args.d < c.args.n = omega (arith, c.if-n-few_edges.false, c.few_edges.ensures) in z) (c.face_fits.ensures.told ∙ ap (face_words desk known c.args.e.0) (between_is c.args.words.now c.args.at (c.args.at + c.args.n)));
+          (let z : few c.args.d < c.args.n = omega (arith, c.if-n-few_edges.false, c.few_edges.ensures) in z)
+          (c.face_fits.ensures.told ∙ ap (face_words desk known c.args.e.0) (between_is c.args.words.now c.args.at (c.args.at + c.args.n)));
       unmet = c.face_fits.ensures.unmet;
     }
