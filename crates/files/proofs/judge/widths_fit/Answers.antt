@@ -36,7 +36,8 @@ overflow_add-at-in-loop-e-2 c = let w = (here c.args.bytes.now c.args.laid c.loo
 pub loop-e-preserved : goal.loop-e-preserved
 loop-e-preserved c = let s = c.loop-e.invariant in
     let this = here c.args.bytes.now c.args.laid s (search rules) in
-    left_on element_in width_fits c.args.bytes.now s _ (corner 0) (search rules) (width_fits_lem c.args.bytes.now s.list s.end this c.number-n.ensures.value (search rules)) (stands_next c.args.bytes.now s.list s.end this c.number-n.ensures.value)
+    left_on element_in width_fits c.args.bytes.now s _ (corner 0) (search rules) (width_fits_lem c.args.bytes.now s.list s.end this c.number-n.ensures.value (search rules))
+    (stands_next c.args.bytes.now s.list s.end this c.number-n.ensures.value)
 
 pub returns : goal.returns
 returns c = let s = c.loop-e.invariant in

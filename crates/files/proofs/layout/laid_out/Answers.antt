@@ -7,8 +7,8 @@ use borrow.Author.Rules.{rules}
 use Rattle.std.specs.Prelude.{Option, None}
 use Rattle.rules.specs.Bytes.{number_at}
 use Rattle.rules.specs.Files.{point_in, plane_in, element_in}
-use Rattle.files.specs.Passed.{begins, Together}
-use Rattle.files.specs.Laid.{header_size, LayoutTold}
+use Rattle.files.specs.Passed.{begins}
+use Rattle.files.specs.Laid.{LayoutTold}
 use Rattle.files.specs.declared.layout.Laid.{Laid}
 use Rattle.files.proofs.Passes.{stopped, ran, together_within}
 use Rattle.files.proofs.LaidOut.{no_header, Header, no_points, no_planes, no_elements, bytes_more, all_told}
@@ -29,50 +29,45 @@ returns-then-not-begins_with c = no_header c.args.bytes.now (sym c.begins_with.e
 
 pub returns-in_err-planes_at : goal.returns-in_err-planes_at
 returns-in_err-planes_at c =
-    let header : Header c.args.bytes.now c.number.result c.number-elements.result c.number-vertices.result c.number-hyperplanes.result =
-    headed c.begins_with.ensures c.if-not-begins_with.false c.number.ensures.value c.number-elements.ensures.value c.number-vertices.ensures.value c.number-hyperplanes.ensures.value in
+    let header = headed {bytes = c.args.bytes.now} c.begins_with.ensures c.if-not-begins_with.false c.number.ensures.value c.number-elements.ensures.value c.number-vertices.ensures.value c.number-hyperplanes.ensures.value in
     none_told c.from_residual.ensures (no_points c.args.bytes.now _ _ _ _ header (stopped _ _ _ (λ at p w e. e) _ _ (search rules) c.in_err-planes_at.ensures))
 
 pub many_of-requires-2-clause-first : goal.many_of-requires-2-clause-first
 many_of-requires-2-clause-first c =
-    let points : Together (point_in c.number.result) c.args.bytes.now header_size c.number-vertices.result c.in_ok-planes_at.planes_at = ran _ _ _ (λ at p w e. e) _ _ _ (search rules) c.in_ok-planes_at.ensures in
+    let points = ran (point_in c.number.result) c.args.bytes.now _ (λ at p w e. e) _ _ _ (search rules) c.in_ok-planes_at.ensures in
     record { within = together_within _ _ _ _ _ points; dimension = c.number.ensures.below }
 
 pub returns-in_err-elements_at : goal.returns-in_err-elements_at
 returns-in_err-elements_at c =
-    let header : Header c.args.bytes.now c.number.result c.number-elements.result c.number-vertices.result c.number-hyperplanes.result =
-    headed c.begins_with.ensures c.if-not-begins_with.false c.number.ensures.value c.number-elements.ensures.value c.number-vertices.ensures.value c.number-hyperplanes.ensures.value in
-    let points : Together (point_in c.number.result) c.args.bytes.now header_size c.number-vertices.result c.in_ok-planes_at.planes_at = ran _ _ _ (λ at p w e. e) _ _ _ (search rules) c.in_ok-planes_at.ensures in
+    let header = headed {bytes = c.args.bytes.now} c.begins_with.ensures c.if-not-begins_with.false c.number.ensures.value c.number-elements.ensures.value c.number-vertices.ensures.value c.number-hyperplanes.ensures.value in
+    let points = ran (point_in c.number.result) c.args.bytes.now _ (λ at p w e. e) _ _ _ (search rules) c.in_ok-planes_at.ensures in
     none_told c.from_residual-in_err-elements_at.ensures (no_planes c.args.bytes.now _ _ _ _ header _ points (stopped _ _ _ (λ at p w e. e) _ _ (together_within _ _ _ _ _ points) c.in_err-elements_at.ensures))
 
 pub many_of-requires-3-clause-first : goal.many_of-requires-3-clause-first
 many_of-requires-3-clause-first c =
-    let points : Together (point_in c.number.result) c.args.bytes.now header_size c.number-vertices.result c.in_ok-planes_at.planes_at = ran _ _ _ (λ at p w e. e) _ _ _ (search rules) c.in_ok-planes_at.ensures in
-    let planes : Together (plane_in c.number.result) c.args.bytes.now c.in_ok-planes_at.planes_at c.number-hyperplanes.result c.in_ok-elements_at.elements_at = ran _ _ _ (λ at p w e. e) _ _ _ (together_within _ _ _ _ _ points) c.in_ok-elements_at.ensures in
+    let points = ran (point_in c.number.result) c.args.bytes.now _ (λ at p w e. e) _ _ _ (search rules) c.in_ok-planes_at.ensures in
+    let planes = ran (plane_in c.number.result) c.args.bytes.now _ (λ at p w e. e) _ _ _ (together_within _ _ _ _ _ points) c.in_ok-elements_at.ensures in
     together_within _ _ _ _ _ planes
 
 pub returns-in_err-end : goal.returns-in_err-end
 returns-in_err-end c =
-    let header : Header c.args.bytes.now c.number.result c.number-elements.result c.number-vertices.result c.number-hyperplanes.result =
-    headed c.begins_with.ensures c.if-not-begins_with.false c.number.ensures.value c.number-elements.ensures.value c.number-vertices.ensures.value c.number-hyperplanes.ensures.value in
-    let points : Together (point_in c.number.result) c.args.bytes.now header_size c.number-vertices.result c.in_ok-planes_at.planes_at = ran _ _ _ (λ at p w e. e) _ _ _ (search rules) c.in_ok-planes_at.ensures in
-    let planes : Together (plane_in c.number.result) c.args.bytes.now c.in_ok-planes_at.planes_at c.number-hyperplanes.result c.in_ok-elements_at.elements_at = ran _ _ _ (λ at p w e. e) _ _ _ (together_within _ _ _ _ _ points) c.in_ok-elements_at.ensures in
+    let header = headed {bytes = c.args.bytes.now} c.begins_with.ensures c.if-not-begins_with.false c.number.ensures.value c.number-elements.ensures.value c.number-vertices.ensures.value c.number-hyperplanes.ensures.value in
+    let points = ran (point_in c.number.result) c.args.bytes.now _ (λ at p w e. e) _ _ _ (search rules) c.in_ok-planes_at.ensures in
+    let planes = ran (plane_in c.number.result) c.args.bytes.now _ (λ at p w e. e) _ _ _ (together_within _ _ _ _ _ points) c.in_ok-elements_at.ensures in
     none_told c.from_residual-in_err-end.ensures (no_elements c.args.bytes.now _ _ _ _ header _ points _ planes (stopped _ _ _ (λ at p w e. e) _ _ (together_within _ _ _ _ _ planes) c.in_err-end.ensures))
 
 pub returns-then-end-bytes : goal.returns-then-end-bytes
 returns-then-end-bytes c =
-    let header : Header c.args.bytes.now c.number.result c.number-elements.result c.number-vertices.result c.number-hyperplanes.result =
-    headed c.begins_with.ensures c.if-not-begins_with.false c.number.ensures.value c.number-elements.ensures.value c.number-vertices.ensures.value c.number-hyperplanes.ensures.value in
-    let points : Together (point_in c.number.result) c.args.bytes.now header_size c.number-vertices.result c.in_ok-planes_at.planes_at = ran _ _ _ (λ at p w e. e) _ _ _ (search rules) c.in_ok-planes_at.ensures in
-    let planes : Together (plane_in c.number.result) c.args.bytes.now c.in_ok-planes_at.planes_at c.number-hyperplanes.result c.in_ok-elements_at.elements_at = ran _ _ _ (λ at p w e. e) _ _ _ (together_within _ _ _ _ _ points) c.in_ok-elements_at.ensures in
-    let elements : Together element_in c.args.bytes.now c.in_ok-elements_at.elements_at c.number-elements.result c.in_ok-end.end = ran _ _ _ (λ at p w e. e) _ _ _ (together_within _ _ _ _ _ planes) c.in_ok-end.ensures in
+    let header = headed {bytes = c.args.bytes.now} c.begins_with.ensures c.if-not-begins_with.false c.number.ensures.value c.number-elements.ensures.value c.number-vertices.ensures.value c.number-hyperplanes.ensures.value in
+    let points = ran (point_in c.number.result) c.args.bytes.now _ (λ at p w e. e) _ _ _ (search rules) c.in_ok-planes_at.ensures in
+    let planes = ran (plane_in c.number.result) c.args.bytes.now _ (λ at p w e. e) _ _ _ (together_within _ _ _ _ _ points) c.in_ok-elements_at.ensures in
+    let elements = ran element_in c.args.bytes.now _ (λ at p w e. e) _ _ _ (together_within _ _ _ _ _ planes) c.in_ok-end.ensures in
     bytes_more c.args.bytes.now _ _ _ _ header _ points _ planes _ elements c.if-end-bytes.true
 
 pub returns : goal.returns
 returns c =
-    let header : Header c.args.bytes.now c.number.result c.number-elements.result c.number-vertices.result c.number-hyperplanes.result =
-    headed c.begins_with.ensures c.if-not-begins_with.false c.number.ensures.value c.number-elements.ensures.value c.number-vertices.ensures.value c.number-hyperplanes.ensures.value in
-    let points : Together (point_in c.number.result) c.args.bytes.now header_size c.number-vertices.result c.in_ok-planes_at.planes_at = ran _ _ _ (λ at p w e. e) _ _ _ (search rules) c.in_ok-planes_at.ensures in
-    let planes : Together (plane_in c.number.result) c.args.bytes.now c.in_ok-planes_at.planes_at c.number-hyperplanes.result c.in_ok-elements_at.elements_at = ran _ _ _ (λ at p w e. e) _ _ _ (together_within _ _ _ _ _ points) c.in_ok-elements_at.ensures in
-    let elements : Together element_in c.args.bytes.now c.in_ok-elements_at.elements_at c.number-elements.result c.in_ok-end.end = ran _ _ _ (λ at p w e. e) _ _ _ (together_within _ _ _ _ _ planes) c.in_ok-end.ensures in
+    let header = headed {bytes = c.args.bytes.now} c.begins_with.ensures c.if-not-begins_with.false c.number.ensures.value c.number-elements.ensures.value c.number-vertices.ensures.value c.number-hyperplanes.ensures.value in
+    let points = ran (point_in c.number.result) c.args.bytes.now _ (λ at p w e. e) _ _ _ (search rules) c.in_ok-planes_at.ensures in
+    let planes = ran (plane_in c.number.result) c.args.bytes.now _ (λ at p w e. e) _ _ _ (together_within _ _ _ _ _ points) c.in_ok-elements_at.ensures in
+    let elements = ran element_in c.args.bytes.now _ (λ at p w e. e) _ _ _ (together_within _ _ _ _ _ planes) c.in_ok-end.ensures in
     all_told c.args.bytes.now _ _ _ _ header _ points _ planes _ elements c.if-end-bytes.false
