@@ -35,7 +35,10 @@ pub fn number(reply: Reply<()>) -> u32
 pub fn rank_byte(rank: u32) -> u8
     ensures { result ≡ rank_byte rank }
 {
-    u8::try_from(rank).unwrap_or(255)
+    if rank > 255 {
+        return 255;
+    }
+    rank as u8
 }
 
 // The reply's number, and how many answers were written above its eight bits.
