@@ -60,6 +60,7 @@ fn put_elements(bytes: &[u8], from: usize, n: usize, elements: &mut [u16])
     elements[n * WIDTH..].fill(0);
 }
 
+// By `as`, as wherever a count that fits becomes a word: the library has no `From` here, and `try_from` would need a case that never comes.
 fn put_counts(laid: Laid, counts: &mut [u16])
     requires { CountsReady laid counts.old }
     ensures { counts.new ≡ laid.dimension ∷ laid.elements ∷ laid.vertices ∷ laid.hyperplanes ∷ [] }

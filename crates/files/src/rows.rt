@@ -35,7 +35,7 @@ fn same_as_kept(
     same_row(&old, 0, row, 0)
 }
 
-// Along the chain of the row's key down to its end: the lowest of the first n elements that has the row.
+// Along the chain of the row's key down to its end: the lowest of the first n elements that has the row. A loop: the next place is read off the index, not counted.
 fn last_kept(
     bytes: &[u8],
     laid: Laid,

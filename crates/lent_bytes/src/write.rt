@@ -82,7 +82,7 @@ pub fn floats(list: &[f64], from: usize, to: usize, room: &mut [u8], at: usize) 
     entries(8, &list[from..to], bits, room, at)
 }
 
-// The same in 4 bytes, narrowed to the nearest float of 32 bits.
+// The same in 4 bytes, narrowed to the nearest float of 32 bits. Beside `corner`, for who writes one coordinate alone.
 pub fn narrowed(x: f64, room: &mut [u8], at: usize) -> usize
     requires is_number { is_nan x ≡ false }
     requires fits_room { at + 4 ≤ length room.old }
