@@ -1,7 +1,7 @@
 // The primordial cube, entry by entry.
 #![tactic(auto)]
 
-ghost use Rattle.std.specs.Prelude.{◌+◌, ◌^◌, ◌<◌, ◌≤◌, cond, ◌≡◌, [], ◌∷◌, map, length};
+ghost use Rattle.std.specs.Prelude.{◌+◌, ◌^◌, ◌<◌, ◌≤◌, ◌≡◌, [], ◌∷◌, map, length};
 ghost use Rattle.rules.specs.Limits.{desk};
 ghost use Rattle.rules.specs.Lists.{pad};
 ghost use Rattle.rules.specs.Floats.{plus_zero};
@@ -31,7 +31,7 @@ fn cube_size(d: usize) -> u16
 {
     let mut size = 1u16;
     for axis in 0..d {
-        size = size * 3;
+        size *= 3;
     }
     size
 }
@@ -45,7 +45,7 @@ fn digits_of(d: usize, e: u16) -> [u16; 4]
     let mut rest = e;
     for axis in 0..d {
         ks[axis] = rest % 3;
-        rest = rest / 3;
+        rest /= 3;
     }
     ks
 }
@@ -78,10 +78,8 @@ fn faces_of(d: usize, e: u16) -> Faces
         n: 0,
     };
     let mut step = cube_size(d);
-    let mut axis = d;
-    while 0 < axis {
-        axis -= 1;
-        step = step / 3;
+    for axis in (0..d).rev() {
+        step /= 3;
         f = faces_across(f, ks[axis], e, step);
     }
     f
@@ -109,10 +107,7 @@ fn is_facet(d: usize, e: u16) -> bool
     ensures { result ≡ is_facet (digits d e) }
 {
     let rank = cube_rank(d, e);
-    if rank == 0 {
-        return false;
-    }
-    rank + 1 == d
+    rank != 0 && rank + 1 == d
 }
 
 // The row of an element; its vertex, or its hyperplane, has as number how many come before.
@@ -242,16 +237,6 @@ fn put_facets(planes: &mut [f64], d: usize, radius: f64) -> usize
     h.0
 }
 
-fn one_more_if(n: usize, b: bool) -> usize
-    requires { n < 65536 }
-    ensures { result ≡ n + cond b 1 0 }
-{
-    if b {
-        return n + 1;
-    }
-    n
-}
-
 // How many vertices and hyperplanes there are so far are the numbers of the next.
 fn put_elements(elements: &mut [u16], d: usize)
     requires { ElementsReady d elements.old }
@@ -263,8 +248,8 @@ fn put_elements(elements: &mut [u16], d: usize)
     for e in 0..size {
         let row = cube_row(d, ElementId(e as usize), VertexId(v), HyperplaneId(h));
         rows::put_row(elements, e as usize * WIDTH, &row);
-        v = one_more_if(v, is_corner(d, e));
-        h = one_more_if(h, is_facet(d, e));
+        v += usize::from(is_corner(d, e));
+        h += usize::from(is_facet(d, e));
     }
 }
 
@@ -272,10 +257,7 @@ fn put_counts(counts: &mut [u16], d: u16, e: u16, v: u16, h: u16)
     requires { length counts.old ≡ 4 }
     ensures { counts.new ≡ d ∷ e ∷ v ∷ h ∷ [] }
 {
-    counts[0] = d;
-    counts[1] = e;
-    counts[2] = v;
-    counts[3] = h;
+    counts.copy_from_slice(&[d, e, v, h]);
 }
 
 fn put_points(points: &mut [f64], d: usize, radius: f64) -> u16
@@ -324,10 +306,7 @@ fn put_cube(
 fn radius_fits(radius: f64) -> bool
     ensures { result ≡ radius_fits radius }
 {
-    if !(1.0 <= radius) {
-        return false;
-    }
-    radius <= 65536.0
+    1.0 <= radius && radius <= 65536.0
 }
 
 // A cube of 1 to 4 dimensions and radius 1 to 65,536, in place of all that the memory had; or 1, 2 or 3, and nothing is written.
@@ -342,10 +321,7 @@ pub fn with_primordial_cube_radius(
     ensures { (result, memory_of counts.new points.new planes.new elements.new)
         ≡ cube_reply desk dimension radius (memory_of counts.old points.old planes.old elements.old) }
 {
-    if dimension < 1 {
-        return Err(Refusal::Dimension);
-    }
-    if 4 < dimension {
+    if dimension < 1 || 4 < dimension {
         return Err(Refusal::Dimension);
     }
     if !radius_fits(radius) {

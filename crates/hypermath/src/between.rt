@@ -7,20 +7,14 @@ ghost use Rattle.rules.specs.Floats as floats;
 pub fn above_both(a: f64, b: f64, x: f64) -> bool
     ensures { result ≡ (lt a x && lt b x) }
 {
-    if a < x {
-        return b < x;
-    }
-    false
+    a < x && b < x
 }
 
 // Whether x is below both ends.
 pub fn below_both(a: f64, b: f64, x: f64) -> bool
     ensures { result ≡ (lt x a && lt x b) }
 {
-    if x < a {
-        return x < b;
-    }
-    false
+    x < a && x < b
 }
 
 // The greater of two ends, of two that are equal the first.

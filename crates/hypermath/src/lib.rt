@@ -16,7 +16,7 @@ ghost use Rattle.hypermath.specs.Answers.{distance_to, unit_normal, distance_kin
 
 use between::{above_both, below_both, greater, lesser};
 use rules::{EdgeTest, Hyperplane, HyperplaneId, Side, SideTest, VertexId};
-use sides::{either, opposed};
+use sides::opposed;
 
 // How many floats a point has.
 const AXES: usize = 4;
@@ -48,17 +48,14 @@ pub enum DistanceKind {
 fn axes_of(d: usize) -> usize
     ensures { AxesOf d result }
 {
-    if d < AXES { d } else { AXES }
+    d.min(AXES)
 }
 
 // Whether x lies from -bound to bound.
 pub fn is_within(bound: f64, x: f64) -> bool
     ensures { result ≡ floats.within bound x }
 {
-    if -bound <= x {
-        return x <= bound;
-    }
-    false
+    -bound <= x && x <= bound
 }
 
 // The products, each rounded, added in axis order.
@@ -109,12 +106,7 @@ fn components_fit(d: usize, normal: [f64; 4]) -> bool
     ensures { result ≡ all (floats.within floats.one) (take d normal) }
 {
     let n = axes_of(d);
-    for axis in 0..n {
-        if !is_within(1.0, normal[axis]) {
-            return false;
-        }
-    }
-    true
+    normal[..n].iter().all(|&x| is_within(1.0, x))
 }
 
 // Every component past the dimension is zero bits.
@@ -122,12 +114,7 @@ fn zero_past(d: usize, normal: [f64; 4]) -> bool
     ensures { result ≡ all (floats.same_bits floats.plus_zero) (drop d normal) }
 {
     let n = axes_of(d);
-    for axis in n..AXES {
-        if !is_zero_bits(normal[axis]) {
-            return false;
-        }
-    }
-    true
+    normal[n..].iter().all(|&x| is_zero_bits(x))
 }
 
 // Whether a normal is unit over the dimension and zero past it.
@@ -138,13 +125,7 @@ pub fn is_unit(d: usize, normal: [f64; 4]) -> bool
         return false;
     }
     let squares = dot(d, normal, normal);
-    if !(UNIT_LOW <= squares) {
-        return false;
-    }
-    if !(squares <= UNIT_HIGH) {
-        return false;
-    }
-    zero_past(d, normal)
+    UNIT_LOW <= squares && squares <= UNIT_HIGH && zero_past(d, normal)
 }
 
 // What a distance is good for.
@@ -188,7 +169,7 @@ pub fn edge_test(d: usize, h: Hyperplane, ends: [[f64; 4]; 2]) -> EdgeTest
     let side_a = first.side;
     let side_b = second.side;
     let crossing = crossing_of(sa, side_a, sb, side_b);
-    let warning = either(first.warning, second.warning);
+    let warning = first.warning || second.warning;
     EdgeTest { crossing, warning }
 }
 
@@ -271,12 +252,10 @@ pub fn points_match(d: usize, earlier: [f64; 4], later: [f64; 4]) -> bool
     ensures { result ≡ floats.point_matches (take d earlier) (take d later) }
 {
     let n = axes_of(d);
-    for axis in 0..n {
-        if !coordinates_match(earlier[axis], later[axis]) {
-            return false;
-        }
-    }
-    true
+    earlier[..n]
+        .iter()
+        .zip(later[..n].iter())
+        .all(|(&a, &b)| coordinates_match(a, b))
 }
 
 // Whether two hyperplanes match, field by field.
@@ -298,11 +277,9 @@ pub fn hyperplane_at(planes: &[f64], k: HyperplaneId) -> Hyperplane
 {
     let at = k.0 * (1 + AXES);
     let mut normal = [0.0; 4];
-    for axis in 0..AXES {
-        normal[axis] = planes[at + axis];
-    }
+    normal.copy_from_slice(&planes[at..at + AXES]);
     Hyperplane {
-        normal: normal,
+        normal,
         distance: planes[at + AXES],
     }
 }
@@ -354,13 +331,11 @@ pub fn find_hyperplane(
     requires { n * (1 + axes) ≤ length planes.now }
     ensures { hyperplane_number result ≡ find_from first.0 (λ g. plane_matches g (divider_of d h)) (drop first.0 (planes_in d n planes.now)) }
 {
-    let mut k = first.0;
-    while k < n {
+    for k in first.0..n {
         let g = hyperplane_at(planes, HyperplaneId(k));
         if hyperplanes_match(d, g, h) {
             return Some(HyperplaneId(k));
         }
-        k += 1;
     }
     None
 }

@@ -55,7 +55,7 @@ five_stores l at a b c d e =
     let e₄ : at + 4 ≡ suc (suc (suc (suc at))) = omega arith in
     λ i. set (set (set (set (set l at a) (e₁ i) b) (e₂ i) c) (e₃ i) d) (e₄ i) e
 
-five_is : (p : List Float) → length p ≡ 5 → five p ≡ p
+pub five_is : (p : List Float) → length p ≡ 5 → five p ≡ p
 five_is [] h = absurd (let z : ⊥ = omega (arith, h) in z)
 five_is (a ∷ []) h = absurd (let z : ⊥ = omega (arith, h) in z)
 five_is (a ∷ b ∷ []) h = absurd (let z : ⊥ = omega (arith, h) in z)

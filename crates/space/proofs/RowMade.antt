@@ -10,12 +10,18 @@ use lib.Dec.{eqb}
 use lib.ListN.{length, take, set, replicate}
 use lib.Seq.{sets, sets-eq, length-take-le}
 use borrow.Author.Tests.{eqb-true}
+use mir.Val.{bool_byte}
 use Rattle.rules.specs.Limits.{desk, no_plane}
 use Rattle.rules.specs.Lists.{pad}
 use Rattle.rules.specs.Table.{polytope}
 use Rattle.rules.specs.Memory.{element_row, plane_number, plane_named}
 use Rattle.rules.specs.Held.{element_words}
 use Rattle.space.proofs.Laid.{drop_replicate}
+
+-- a mark as a word
+pub bit_is : (b : Bool) → bool_byte b ≡ cond b 1 0
+bit_is true = refl
+bit_is false = refl
 
 -- the front of a list of 34
 module _ (list : List ℕ) (n : ℕ) (long : length list ≡ 34) (fit : n ≤ 33) where

@@ -41,10 +41,7 @@ pub fn put_point(points: &mut [f64], at: usize, p: [f64; AXES])
     requires { at + desk.dimensions ≤ length points.old }
     ensures { points.new ≡ sets points.old at (four p) }
 {
-    points[at] = p[0];
-    points[at + 1] = p[1];
-    points[at + 2] = p[2];
-    points[at + 3] = p[3];
+    points[at..at + AXES].copy_from_slice(&p);
 }
 
 // The element of a vertex that was found, or a new vertex (8) and its element (9).
@@ -121,11 +118,7 @@ pub fn put_hyperplane(planes: &mut [f64], at: usize, p: [f64; PLANE_WIDTH])
     requires { at + plane_width desk ≤ length planes.old }
     ensures { planes.new ≡ sets planes.old at (five p) }
 {
-    planes[at] = p[0];
-    planes[at + 1] = p[1];
-    planes[at + 2] = p[2];
-    planes[at + 3] = p[3];
-    planes[at + 4] = p[4];
+    planes[at..at + PLANE_WIDTH].copy_from_slice(&p);
 }
 
 // The hyperplane that was found, or a new one (10).
@@ -151,11 +144,7 @@ fn share_hyperplane(
 }
 
 // The lowest hyperplane that matches, or a new one; the cube's own are never matched.
-pub fn add_hyperplane(
-    counts: &mut [u16],
-    planes: &mut [f64],
-    h: Hyperplane,
-) -> Reply<HyperplaneId>
+pub fn add_hyperplane(counts: &mut [u16], planes: &mut [f64], h: Hyperplane) -> Reply<HyperplaneId>
     requires { HyperplaneReady counts.old planes.old }
     ensures { HyperplaneAdded counts.old planes.old h result counts.new planes.new }
 {

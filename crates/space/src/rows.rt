@@ -1,5 +1,5 @@
 // Rows of elements in the lent memory: read, written, and made.
-ghost use Rattle.std.specs.Prelude.{◌+◌, ◌*◌, cond, ◌≡◌, eqb, get_or, take};
+ghost use Rattle.std.specs.Prelude.{◌+◌, ◌*◌, ◌≡◌, eqb, get_or, take};
 ghost use Rattle.std.proofs.lemmas.List.Edits.{sets};
 ghost use Rattle.rules.specs.Limits.{desk};
 ghost use Rattle.rules.specs.Table.{polytope};
@@ -57,15 +57,7 @@ pub fn put_row(elements: &mut [u16], at: usize, row: &[u16])
     requires { PutRowReady elements.old at row.now }
     ensures { elements.new ≡ sets elements.old at row.now }
 {
-    for j in 0..WIDTH {
-        elements[at + j] = row[j];
-    }
-}
-
-fn bit(mark: bool) -> u16
-    ensures { result ≡ cond mark 1 0 }
-{
-    if mark { 1 } else { 0 }
+    elements[at..at + WIDTH].copy_from_slice(row);
 }
 
 // The boundary is the front of a set's words, which have place for one more than a row: rule 8 refuses a full set before.
@@ -81,11 +73,9 @@ pub fn polytope_row(
 {
     let mut row = [0u16; WIDTH];
     row[0] = rank as u16;
-    row[1] = bit(mark);
+    row[1] = u16::from(mark);
     row[2] = plane;
     row[3] = n as u16;
-    for j in 0..n {
-        row[4 + j] = list[j];
-    }
+    row[4..4 + n].copy_from_slice(&list[..n]);
     row
 }

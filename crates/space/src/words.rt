@@ -52,14 +52,8 @@ pub fn wide(x: u16) -> usize
 pub fn right_size(counts: &[u16], points: &[f64], planes: &[f64], elements: &[u16]) -> bool
     ensures { result ≡ right_size desk (memory_of counts.now points.now planes.now elements.now) }
 {
-    if counts.len() != COUNTS {
-        return false;
-    }
-    if points.len() != POINT_FLOATS {
-        return false;
-    }
-    if planes.len() != PLANE_FLOATS {
-        return false;
-    }
-    elements.len() == ELEMENT_WORDS
+    counts.len() == COUNTS
+        && points.len() == POINT_FLOATS
+        && planes.len() == PLANE_FLOATS
+        && elements.len() == ELEMENT_WORDS
 }
