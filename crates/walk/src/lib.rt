@@ -11,7 +11,6 @@ ghost use Rattle.rules.specs.Questions.{answer};
 ghost use Rattle.rules.specs.Replies.{listed, edges_in_order_reply};
 ghost use Rattle.space.specs.Ready.{ElementReady};
 ghost use Rattle.walk.specs.Boundaries.{row_boundary, BoundaryFits};
-ghost use Rattle.walk.specs.Walks as words;
 ghost use Rattle.walk.specs.Walks.{has_end, end_across, edge_beside, lowest_end, no_edge, first_way, numbers_round, words_in_order, EndReady, VertexOf, FaceFits, ListFits, WalkFits};
 
 use rules::{ElementId, Refusal, Reply, VertexId};
@@ -42,12 +41,7 @@ fn has_end(elements: &[u16], v: ElementId, e: ElementId) -> bool
     requires { ElementReady elements.now e.0 }
     ensures { result ≡ has_end elements.now v.0 e.0 }
 {
-    let a = end_at(elements, e, 0);
-    if v.0 == a.0 {
-        return true;
-    }
-    let b = end_at(elements, e, 1);
-    v.0 == b.0
+    v == end_at(elements, e, 0) || v == end_at(elements, e, 1)
 }
 
 fn end_across(elements: &[u16], v: ElementId, e: ElementId) -> ElementId
@@ -55,7 +49,7 @@ fn end_across(elements: &[u16], v: ElementId, e: ElementId) -> ElementId
     ensures { result.0 ≡ end_across elements.now v.0 e.0 }
 {
     let a = end_at(elements, e, 0);
-    if a.0 == v.0 {
+    if a == v {
         return end_at(elements, e, 1);
     }
     a
@@ -66,10 +60,7 @@ fn is_beside(elements: &[u16], e: ElementId, v: ElementId, x: ElementId) -> bool
     requires { ElementReady elements.now x.0 }
     ensures { result ≡ (not (eqb x.0 e.0) && has_end elements.now v.0 x.0) }
 {
-    if x.0 == e.0 {
-        return false;
-    }
-    has_end(elements, v, x)
+    x != e && has_end(elements, v, x)
 }
 
 // By number and not by the corner it leads to: two edges may share both ends.
@@ -87,15 +78,6 @@ fn edge_beside(elements: &[u16], f: ElementId, e: ElementId, v: ElementId) -> El
     ElementId(0)
 }
 
-fn lower(a: ElementId, b: ElementId) -> ElementId
-    ensures { result.0 ≡ words.lower a.0 b.0 }
-{
-    if b.0 < a.0 {
-        return b;
-    }
-    a
-}
-
 // An edge's first end is its lower one.
 fn lowest_end(elements: &[u16], f: ElementId) -> ElementId
     requires { BoundaryFits elements.now f.0 }
@@ -105,7 +87,7 @@ fn lowest_end(elements: &[u16], f: ElementId) -> ElementId
     let mut m = ElementId(NO_EDGE);
     for i in 0..n {
         let x = ElementId(wide(rows::boundary_at(elements, f, i)));
-        m = lower(m, end_at(elements, x, 0));
+        m = m.min(end_at(elements, x, 0));
     }
     m
 }
@@ -118,7 +100,7 @@ fn first_way(elements: &[u16], f: ElementId, v: ElementId) -> ElementId
     let b = edge_beside(elements, f, a, v);
     let p = end_across(elements, v, a);
     let q = end_across(elements, v, b);
-    if q.0 < p.0 {
+    if q < p {
         return b;
     }
     a

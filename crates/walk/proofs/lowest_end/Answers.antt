@@ -17,7 +17,7 @@ loop-i-preserved c = record {
   low = search rules;
   size = c.loop-i.invariant.size;
   same = edge.lowest_go c.args.elements.now c.args.f.0 _ c.requires c.loop-i.invariant.size c.loop-i.m.0 _ c.loop-i.i _ _ _
-      (c.wide.ensures.value ∙ c.boundary_at.ensures) (search rules) c.end_at.ensures c.lower-m.ensures c.loop-i.invariant.same;
+      (c.wide.ensures.value ∙ c.boundary_at.ensures) (search rules) c.end_at.ensures (edge.min_lower c.loop-i.m c.end_at.result c.min-m.ensures) c.loop-i.invariant.same;
 }
 
 pub returns : goal.returns
