@@ -16,10 +16,22 @@ ghost use Rattle.walk.specs.Walks.{has_end, end_across, edge_beside, lowest_end,
 use rules::{ElementId, Refusal, Reply, VertexId};
 use soundness::asked::root_asked;
 use space::rows;
-use space::words::wide;
+use space::words::{WIDTH, wide};
+
+// How many words stand before a boundary: rank, mark, hyperplane, count.
+const HEAD: usize = 4;
 
 // No element has this number.
 const NO_EDGE: usize = 65535;
+
+// The numbers of an element's boundary.
+fn boundary(elements: &[u16], e: ElementId) -> &[u16]
+    requires { BoundaryFits elements.now e.0 }
+    ensures { result.now ≡ row_boundary elements.now e.0 }
+{
+    let at = e.0 * WIDTH + HEAD;
+    &elements[at..at + rows::size_of(elements, e)]
+}
 
 // One of an edge's two ends, which are vertex elements.
 fn end_at(elements: &[u16], e: ElementId, i: usize) -> ElementId
@@ -68,9 +80,8 @@ fn edge_beside(elements: &[u16], f: ElementId, e: ElementId, v: ElementId) -> El
     requires { BoundaryFits elements.now f.0 }
     ensures { result.0 ≡ edge_beside elements.now e.0 v.0 (row_boundary elements.now f.0) }
 {
-    let n = rows::size_of(elements, f);
-    for i in 0..n {
-        let x = ElementId(wide(rows::boundary_at(elements, f, i)));
+    for &number in boundary(elements, f) {
+        let x = ElementId(wide(number));
         if is_beside(elements, e, v, x) {
             return x;
         }
@@ -83,10 +94,9 @@ fn lowest_end(elements: &[u16], f: ElementId) -> ElementId
     requires { BoundaryFits elements.now f.0 }
     ensures { result.0 ≡ lowest_end elements.now no_edge (row_boundary elements.now f.0) }
 {
-    let n = rows::size_of(elements, f);
     let mut m = ElementId(NO_EDGE);
-    for i in 0..n {
-        let x = ElementId(wide(rows::boundary_at(elements, f, i)));
+    for &number in boundary(elements, f) {
+        let x = ElementId(wide(number));
         m = m.min(end_at(elements, x, 0));
     }
     m
