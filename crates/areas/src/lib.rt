@@ -4,7 +4,7 @@
 pub mod grid;
 pub mod piece;
 
-ghost use Rattle.std.specs.Prelude.{◌≡◌, map, pos, nat_lt, unsigned_abs};
+ghost use Rattle.std.specs.Prelude.{◌≡◌, map, pos, unsigned_abs};
 ghost use Rattle.std.proofs.lemmas.List.Edits.{sets};
 ghost use Rattle.rules.specs.Limits.{desk};
 ghost use Rattle.rules.specs.Lists.{all};
@@ -15,45 +15,25 @@ ghost use Rattle.areas.specs.Words.{word_area, words_on_grid, word_sheet, sheet_
 
 use crate::piece::{is_piece_on_grid, twice_area};
 use rules::{ElementId, Refusal, Reply};
+use soundness::asked::all_used;
 use soundness::sound::memory_sound;
 use space::rows;
 use space::words::wide;
 
 const MOST_PIECES: usize = 16;
 
-fn are_in_use(n: usize, pieces: &[u16]) -> bool
-    ensures { result ≡ all (λ f. nat_lt f n) pieces.now }
-{
-    for i in 0..pieces.len() {
-        if n <= wide(pieces[i]) {
-            return false;
-        }
-    }
-    true
-}
-
 fn are_faces(elements: &[u16], pieces: &[u16]) -> bool
     requires { PiecesUsed elements.now pieces.now }
     ensures { result ≡ all (row_is_face elements.now) pieces.now }
 {
-    for i in 0..pieces.len() {
-        if rows::rank_of(elements, ElementId(wide(pieces[i]))) != 2 {
-            return false;
-        }
-    }
-    true
+    pieces.iter().all(|&f| rows::rank_of(elements, ElementId(wide(f))) == 2)
 }
 
 fn are_on_grid(points: &[f64], elements: &[u16], pieces: &[u16]) -> bool
     requires { PiecesFit points.now elements.now pieces.now }
     ensures { result ≡ all (words_on_grid points.now elements.now) pieces.now }
 {
-    for i in 0..pieces.len() {
-        if !is_piece_on_grid(points, elements, ElementId(wide(pieces[i]))) {
-            return false;
-        }
-    }
-    true
+    pieces.iter().all(|&f| is_piece_on_grid(points, elements, ElementId(wide(f))))
 }
 
 // An area without its sign.
@@ -61,10 +41,7 @@ fn size_of(area: i64) -> i64
     requires { Sized area }
     ensures { result ≡ pos (unsigned_abs area) }
 {
-    if area < 0 {
-        return 0 - area;
-    }
-    area
+    area.abs()
 }
 
 // The areas, and the sum of their sizes.
@@ -73,8 +50,8 @@ fn write_areas(points: &[f64], elements: &[u16], pieces: &[u16], areas: &mut [i6
     ensures { AreasWritten (map (word_area points.now elements.now) pieces.now) areas.old areas.new result }
 {
     let mut sum = 0i64;
-    for i in 0..pieces.len() {
-        let area = twice_area(points, elements, ElementId(wide(pieces[i])));
+    for (i, &f) in pieces.iter().enumerate() {
+        let area = twice_area(points, elements, ElementId(wide(f)));
         areas[i] = area;
         sum = sum + size_of(area);
     }
@@ -124,7 +101,7 @@ pub fn areas(
     if MOST_PIECES < pieces.len() {
         return Err(Refusal::ListLong);
     }
-    if !are_in_use(wide(counts[1]), pieces) {
+    if !all_used(pieces, counts[1]) {
         return Err(Refusal::NotInUse);
     }
     if counts[0] != 2 {

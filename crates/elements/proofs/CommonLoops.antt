@@ -8,8 +8,8 @@ use native.Mathlib.Numerals.{add-one}
 use native.Mathlib.Omega.{arith}
 use lib.Bits.{bit_and, and_shr, and_mod}
 use lib.Dec.{eqb, ltb}
-use lib.ListN.{length, get_or, drop, set, length-set, drop_of_length-le}
-use lib.Seq.{get_or-set_same, get_or-set_other, drop-cons}
+use lib.ListN.{length, get_or, take, drop, set, length-set, drop_of_length-le}
+use lib.Seq.{get_or-set_same, get_or-set_other, drop-cons, get_or-drop, get_or-take}
 use Rattle.rules.specs.Lists.{all}
 use Rattle.rules.specs.Table.{Table, element_count, rank}
 use Rattle.rules.specs.Questions.{no_answer, answer, is_below, common_with_rank, some_or, greatest_from, greatest_common}
@@ -98,6 +98,9 @@ used_in_room es e w = in_room_lem es w.table w.lent e w.used
 -- the marks, and the roots from i on, are all roots
 pub record Narrowing (es roots : List ℕ) (i : ℕ) (ws : List ℕ) : Type 0 where
   pub of : (t : Table) → Lent es t → all (λ e. ltb e (element_count t)) roots ≡ true → (x : ℕ) → (is_marked ws x && all (λ e. is_below t e x) (drop i roots)) ≡ all (λ e. is_below t e x) roots
+
+pub root_behind : (roots : List ℕ) (i x : ℕ) → i + 1 < length roots → x ≡ get_or (take (length roots - 1) (drop 1 roots)) i 0 → x ≡ get_or roots (i + 1) 0
+root_behind roots i x h e = e ∙ get_or-take (length roots - 1) (drop 1 roots) i 0 (omega (arith, h)) ∙ get_or-drop 1 roots i 0 ∙ ap (λ (k : ℕ). get_or roots k 0) (let z : 1 + i ≡ i + 1 = omega arith in z)
 
 pub narrowing_start : (es roots : List ℕ) (r : ℕ) (ws : List ℕ) → 0 < length roots → r ≡ get_or roots 0 0 → Below es r ws → Narrowing es roots 1 ws
 narrowing_start es roots r ws h q b = record {

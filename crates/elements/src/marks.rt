@@ -83,10 +83,9 @@ pub fn down_to(words: &[u64; 8], i: usize) -> usize
 pub fn size(s: Marks) -> usize
     ensures { result ≡ length (marked_numbers s.words) }
 {
-    let words = s.words;
     let mut n = 0usize;
-    for w in 0..WORDS {
-        n = n + ones_of(words[w]);
+    for &word in &s.words {
+        n = n + ones_of(word);
     }
     n
 }

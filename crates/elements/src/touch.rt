@@ -39,10 +39,7 @@ fn corner_side(points: &[f64], elements: &[u16], e: ElementId, d: usize, h: Hype
 fn both_met(s: Tested) -> bool
     ensures { result ≡ (s.inside && s.outside) }
 {
-    if s.inside {
-        return s.outside;
-    }
-    false
+    s.inside && s.outside
 }
 
 // One corner more.
@@ -52,21 +49,9 @@ fn with_side(s: Tested, side: Side) -> Tested
 {
     let corners = s.corners + 1;
     match side {
-        Side::Inside => Tested {
-            inside: true,
-            outside: s.outside,
-            corners,
-        },
-        Side::On => Tested {
-            inside: s.inside,
-            outside: s.outside,
-            corners,
-        },
-        Side::Outside => Tested {
-            inside: s.inside,
-            outside: true,
-            corners,
-        },
+        Side::Inside => Tested { inside: true, corners, ..s },
+        Side::On => Tested { corners, ..s },
+        Side::Outside => Tested { outside: true, corners, ..s },
     }
 }
 

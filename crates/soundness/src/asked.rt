@@ -85,15 +85,11 @@ pub fn root_asked(
     Ok(())
 }
 
-fn all_used(roots: &[u16], n: u16) -> bool
+// Whether every number is an element's, of n elements.
+pub fn all_used(roots: &[u16], n: u16) -> bool
     ensures { result ≡ all (λ e. ltb e n) roots.now }
 {
-    for i in 0..roots.len() {
-        if n <= roots[i] {
-            return false;
-        }
-    }
-    true
+    roots.iter().all(|&root| root < n)
 }
 
 // The same for any number of roots.

@@ -22,25 +22,10 @@ use space::words::{
 pub fn counts_fit(d: usize, n: usize, v: usize, h: usize) -> bool
     ensures { result ≡ counts_fit desk d n v h }
 {
-    if d < 1 {
+    if d < 1 || AXES < d || VERTICES < v || ELEMENTS < n || HYPERPLANES < h {
         return false;
     }
-    if AXES < d {
-        return false;
-    }
-    if VERTICES < v {
-        return false;
-    }
-    if ELEMENTS < n {
-        return false;
-    }
-    if HYPERPLANES < h {
-        return false;
-    }
-    if d == 1 {
-        return true;
-    }
-    2 * d <= h
+    d == 1 || 2 * d <= h
 }
 
 // Unused words are zero. Their bits are gathered to the end whatever is met, so that many words are read at once.
@@ -49,8 +34,8 @@ fn blank_words(list: &[u16], from: usize, to: usize) -> bool
     ensures { result ≡ blank_words (drop from (take to list.now)) }
 {
     let mut seen = 0u16;
-    for i in from..to {
-        seen = seen | list[i];
+    for &word in &list[from..to] {
+        seen = seen | word;
     }
     seen == 0
 }

@@ -7,6 +7,7 @@ ghost use Rattle.rules.specs.Replies.{primordial_facet_reply};
 ghost use Rattle.walk.specs.Boundaries.{row_boundary, BoundaryFits};
 ghost use Rattle.walk.specs.Facets.{row_primordial};
 
+use crate::boundary;
 use rules::{ElementId, Refusal, Reply};
 use soundness::asked::root_asked;
 use space::rows;
@@ -17,14 +18,7 @@ fn any_primordial(elements: &[u16], e: ElementId) -> bool
     requires { BoundaryFits elements.now e.0 }
     ensures { result ≡ any (row_primordial elements.now) (row_boundary elements.now e.0) }
 {
-    let n = rows::size_of(elements, e);
-    for i in 0..n {
-        let b = ElementId(wide(rows::boundary_at(elements, e, i)));
-        if rows::is_primordial(elements, b) {
-            return true;
-        }
-    }
-    false
+    boundary(elements, e).iter().any(|&b| rows::is_primordial(elements, ElementId(wide(b))))
 }
 
 // 3, 4, and 6 unless the rank is the dimension.

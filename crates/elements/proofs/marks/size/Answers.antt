@@ -4,11 +4,11 @@ use Rattle.elements.proofs.ListLoops.{counting_start, counting_next, counting_en
 use borrow.Author.Rules.{rules}
 use Rattle.elements.proofs.marks.size.Goals as goal
 
-pub loop-w-init : goal.loop-w-init
-loop-w-init c = record { so_far = search rules; long = search rules; counting = counting_start _ }
+pub loop-word-init : goal.loop-word-init
+loop-word-init c = record { so_far = search rules; long = search rules; counting = counting_start _ }
 
-pub loop-w-preserved : goal.loop-w-preserved
-loop-w-preserved c = record { so_far = search rules; long = search rules; counting = counting_next _ _ _ _ (search rules) c.ones_of-n.ensures c.loop-w.invariant.counting }
+pub loop-word-preserved : goal.loop-word-preserved
+loop-word-preserved c = record { so_far = search rules; long = search rules; counting = counting_next _ _ _ _ (search rules) c.ones_of-n.ensures c.loop-word.invariant.counting }
 
 pub returns : goal.returns
-returns c = counting_end _ _ _ (omega arith) c.loop-w.invariant.counting
+returns c = counting_end _ _ _ (omega arith) c.loop-word.invariant.counting

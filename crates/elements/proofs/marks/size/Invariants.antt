@@ -11,8 +11,8 @@ pub record Counted (ws : List ℕ) (n w : ℕ) : Type 0 where
   pub long : length ws ≡ 8
   pub counting : Counting ws n w
 
-abbrev pub invariant-loop-w : goal.invariant-loop-w
-invariant-loop-w l = Counted l.words l.n l.w
+abbrev pub invariant-loop-word : goal.invariant-loop-word
+invariant-loop-word l = Counted l.word-items l.n l.word-index
 
-abbrev pub decreases-loop-w : goal.decreases-loop-w
-decreases-loop-w l = 8 - l.w
+abbrev pub decreases-loop-word : goal.decreases-loop-word
+decreases-loop-word l = 8 - l.word-index
