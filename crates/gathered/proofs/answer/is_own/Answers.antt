@@ -12,14 +12,14 @@ returns-then-size_of-n c = record { only = λ h. absurd (false≢true h); wherev
 pub loop-j-init : goal.loop-j-init
 loop-j-init c = record { within = search rules; same = below_none _ }
 
-pub returns-then-boundary_at-set : goal.returns-then-boundary_at-set
-returns-then-boundary_at-set c = record {
+pub returns-then-boundary_at-list : goal.returns-then-boundary_at-list
+returns-then-boundary_at-list c = record {
   only = λ h. absurd (false≢true h);
-  wherever = λ own. absurd (c.if-boundary_at-set.true (c.boundary_at.ensures ∙ sym (own.same c.loop-j.j c.loop-j-test.true)));
+  wherever = λ own. absurd (c.if-boundary_at-list.true (c.boundary_at.ensures ∙ sym (own.same c.loop-j.j c.loop-j-test.true)));
 }
 
 pub loop-j-preserved : goal.loop-j-preserved
-loop-j-preserved c = record { within = search rules; same = below_more _ c.loop-j.j c.loop-j.invariant.same (sym c.if-boundary_at-set.false ∙ c.boundary_at.ensures) }
+loop-j-preserved c = record { within = search rules; same = below_more _ c.loop-j.j c.loop-j.invariant.same (sym c.if-boundary_at-list.false ∙ c.boundary_at.ensures) }
 
 pub returns : goal.returns
 returns c = record {
