@@ -31,7 +31,7 @@ use Rattle.space.specs.Shared.{VertexAdded}
 use Rattle.space.proofs.Room.{list_of, list_bound, list_word_lem}
 use Rattle.space.proofs.VertexMemo.{dimension_is}
 use Rattle.space.proofs.Slices.{slices}
-use Rattle.gathered.specs.Sets.{warning_in, Shaped, Noted}
+use Rattle.gathered.specs.Sets.{warning_in, Noted}
 use Rattle.gathered.specs.declared.sets.Room.{Room}
 use Rattle.gathered.specs.Cutting.{Fit, cut_of, answered_by, Rule6Fit, Rule6Ready, Rule6Done}
 use Rattle.rules.specs.declared.Cutter.{Cutter}
@@ -144,7 +144,7 @@ module _ {cs : List ℕ} {ps : List Float} {es : List ℕ} {e : ℕ} {k : Cutter
   crossed_refused R indexed n h = record {
     cut = record { of = λ hs t p q f g X. not_added X n h (added X) };
     indexed = indexed;
-    used = record { shaped = R.fit.sized.shaped; warning = refl };
+    used = record { warning = refl };
   }
 
   module _ (v : ElementId) (h : w ≡ Ok v) where
@@ -164,7 +164,7 @@ module _ {cs : List ℕ} {ps : List Float} {es : List ℕ} {e : ℕ} {k : Cutter
           of = λ hs t p q f g X. (let Q = left X v.0 h in after_left X v.0 Q (D.of ps' hs Q.table (crossed_of v.0 g) (left_ready X v.0 Q C)));
         };
         indexed = D.indexed;
-        used = record { shaped = D.used.shaped; warning = D.used.warning ∙ C.warning };
+        used = record { warning = D.used.warning ∙ C.warning };
       }
 
 -- ---- what is read of an edge
@@ -211,8 +211,8 @@ module _ {ps : List Float} {es : List ℕ} {e : ℕ} (R : EndsReady ps es e) whe
   end_asked i x l h = vertex.point_asked (end_fit R.fit i x l h)
 
   -- both numbers are within the room
-  pub ends_asked : {r : EdgeEnds} {s : Room} → EndsRead ps es e r → Shaped s → EndsAsked r.a.0 r.b.0 s
-  ends_asked E S = record { first = (end_asked 0 _ (lit≤ tt) E.first).low; second = (end_asked 1 _ (lit≤ tt) E.second).low; shaped = S }
+  pub ends_asked : {r : EdgeEnds} {s : Room} → EndsRead ps es e r → EndsAsked r.a.0 r.b.0 s
+  ends_asked E = record { first = (end_asked 0 _ (lit≤ tt) E.first).low; second = (end_asked 1 _ (lit≤ tt) E.second).low }
 
 -- ---- the edge
 
@@ -311,7 +311,6 @@ module _ (k : Cutter) (d : ℕ) (r : EdgeEnds) (sa sb : Float) where
               (D.of ps hs t answered (missed_fit F)));
         };
         indexed = D.indexed;
-        shaped = D.used.shaped;
       }
 
       -- a crossing at parameter f
@@ -349,7 +348,6 @@ module _ (k : Cutter) (d : ℕ) (r : EdgeEnds) (sa sb : Float) where
                 (D.cut.of hs t (point_at t a) (point_at t b) f answered (crossing_fit F)));
           };
           indexed = D.indexed;
-          shaped = D.used.shaped;
         }
 
 -- ---- an element of rank 1

@@ -96,7 +96,6 @@ pub corner_cut : {cs : List ℕ} {ps : List Float} {es : List ℕ} {e : ℕ} {k 
 corner_cut {cs} {ps} {es} {e} {k} {s₀} d p s test hd hp hs ht N hr = record {
   of = λ planes t F. hr ∙ ap (λ (x : SideTest). corner_output e x.side) (tested F);
   warning = λ planes t F. N.warning ∙ ap (λ (x : SideTest). warning_in s₀ || x.warning) (tested F);
-  shaped = N.shaped;
 }
   where
     tested : {planes : List Float} {t : Table} → Fit cs ps planes es 0 e k t → test ≡ side_test (distance_of (cut_of t.dimension k) (point_at t e))
@@ -108,7 +107,7 @@ pub low_at : {cs : List ℕ} {ps : List Float} {es ix : List ℕ} {r e : ℕ} {k
 low_at {cs} {ps} {es} {ix} {r} {e} {k} {s} n q A = subst (λ (i : ℕ). LowAsked cs ps es ix i e k s) q A
 
 pub corner_ready : {cs : List ℕ} {ps : List Float} {es ix : List ℕ} {e : ℕ} {k : Cutter} {s : Room} → LowAsked cs ps es ix 0 e k s → CornerReady cs ps es e k s
-corner_ready A = record { ready = A.ready; shaped = A.shaped }
+corner_ready A = record { ready = A.ready }
 
 pub corner_left : {cs : List ℕ} {ps : List Float} {es ix : List ℕ} {r e : ℕ} {k : Cutter} {s s' : Room} {y : ElementCutOutput} → r ≡ 0 → CornerCut cs ps es e k s y s'
     → Indexed es (get_or cs 1 0) ix → LowLeft cs ps es r e k s (Ok y) cs ps es ix s'
@@ -120,5 +119,4 @@ corner_left {cs} {ps} {es} {ix} {r} {e} {k} q C I = record {
         went (corner_at k t e) t (ap (λ (n : ℕ). cut_element desk (cut_of t.dimension k) n e t) q) (ap Ok (C.of hs t G)) (C.warning hs t G) F.holds);
   };
   indexed = I;
-  shaped = C.shaped;
 }
