@@ -5,13 +5,13 @@ use mathlib.Core.Bool.{Bool}
 use mathlib.Core.List.{List, [], ◌∷◌}
 use native.Mathlib.Nat.{le_trans, le_of_eq}
 use native.Mathlib.Omega.{arith}
-use lib.ListN.{length, get_or, set}
+use lib.ListN.{length, get_or}
 use lib.Ieee.{Float}
 use Rattle.rules.specs.Limits.{desk}
 use Rattle.rules.specs.Table.{Element, Table, rank_of, element}
 use Rattle.rules.specs.Held.{Extends, Holds, Came, went, Ranked, AllOf, SetOf, SomeOf}
 use Rattle.rules.specs.Replies.{is_kept}
-use Rattle.rules.specs.Cut.{Outcome, done, next, give, Gathered, Cutting, given, new_intersection, side_of_cut, rule7, rule6, refused}
+use Rattle.rules.specs.Cut.{Outcome, done, next, give, Gathered, Cutting, new_intersection, side_of_cut, rule7, rule6}
 use Rattle.rules.specs.declared.ElementAnswer.{ElementAnswer}
 use Rattle.rules.specs.declared.ElementCutOutput.TheVariants.{Flush, NonFlush}
 use Rattle.rules.proofs.Extends.{extends_refl, begins_length, count_more, element_same}

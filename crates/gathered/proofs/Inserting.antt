@@ -1,6 +1,6 @@
 -- A number put into a set. A search passes the numbers below x; at its place x stands already, or the rest moves up by one.
 use Rattle.std.specs.Prelude.{if◌then◌else◌, Option, Some, None}
-use Prim.Native.Nat.{ℕ, suc, ◌+◌, ◌-◌, ◌≤◌, ◌<◌}
+use Prim.Native.Nat.{ℕ, zero, suc, ◌+◌, ◌-◌, ◌≤◌, ◌<◌}
 use mathlib.Core.Path.{◌≡◌, refl, sym, ap, ap₂, ◌∙◌, subst}
 use mathlib.Core.Bool.{Bool}
 use mathlib.Core.List.{List, [], ◌∷◌, ◌++◌}
@@ -10,12 +10,13 @@ use native.Mathlib.Numerals.{add-one}
 use native.Mathlib.Omega.{arith}
 use borrow.Author.Tests.{lt-ltb, le-ltb, eq-eqb, ne_eqb}
 use lib.Dec.{eqb}
-use lib.ListN.{length, get_or, take, drop, set, length-append, length-drop, length-set, take-append-drop}
+use lib.ListN.{length, get_or, take, drop, set, length-drop, length-set, take-append-drop}
 use lib.Seq.{drop-cons, take-suc, get_or-take, length-take-le, take-take, append_snoc, take-set-lt, take-paste, length-paste}
 use Rattle.rules.specs.Lists.{with_member}
 use Rattle.gathered.specs.Sets.{size_in, numbers_in, SizedSet, Included, Passed, Place, shifted}
 use Rattle.gathered.specs.declared.sets.Set.{Set}
-use Rattle.std.specs.List.{copy_within}
+use Rattle.std.specs.List.{AllWithin, HoldsAt, copy_within}
+use Rattle.std.specs.Option.{MatchOption, unwrap_or}
 use Rattle.std.proofs.lemmas.List.{drop-take}
 use Rattle.rules.specs.declared.ElementId.{ElementId}
 
@@ -85,8 +86,30 @@ module _ (s : Set) (x : ℕ) (Z : SizedSet s 32) (long : length s.numbers ≡ 34
   inside_xs : (at : ℕ) → at < size_in s → at < length xs
   inside_xs at h = le_trans h (le_of_eq (sym xs_long))
 
-  pub passed_next : (at : ℕ) → Passed x xs at → at < size_in s → get_or s.numbers at 0 < x → Passed x xs (at + 1)
-  passed_next at P h k = passed_more P (inside_xs at h) (subst (λ (y : ℕ). y < x) (sym (entry at h)) k)
+  -- a search passes all numbers below x
+  passed_all : (i : ℕ) → i ≤ size_in s → ((k : ℕ) → k < i → get_or xs k 0 < x) → Passed x xs i
+  passed_all zero l f = passed_none x xs
+  passed_all (suc i) l f = subst (Passed x xs) (add-one i) (passed_more (passed_all i (omega (arith, l)) (λ k h. f k (omega (arith, h)))) (inside_xs i l) (f i (omega arith)))
+
+  -- and ends at the first other, or at the end
+  pub placed : (all : List ℕ) → all ≡ xs → (r : Option ℕ)
+      → MatchOption r (AllWithin (λ y. y < x) all 0 (length all)) (λ i. (i < length all) × HoldsAt (λ y. x ≤ y) all i × AllWithin (λ y. y < x) all 0 i) → Place s x (unwrap_or r s.size)
+  placed all e r m =
+      go r (subst (λ (l : List ℕ). MatchOption r (AllWithin (λ y. y < x) l 0 (length l)) (λ i. (i < length l) × HoldsAt (λ y. x ≤ y) l i × AllWithin (λ y. y < x) l 0 i)) e m)
+    where
+      go : (r : Option ℕ) → MatchOption r (AllWithin (λ y. y < x) xs 0 (length xs)) (λ i. (i < length xs) × HoldsAt (λ y. x ≤ y) xs i × AllWithin (λ y. y < x) xs 0 i) → Place s x (unwrap_or r s.size)
+      go None f = record {
+        passed = passed_all s.size (omega arith) (λ k h. f k 0 (omega arith) (inside_xs k h));
+        within = omega arith;
+        stop = λ h. absurd (omega (arith, h));
+      }
+      go (Some i) f =
+          let low : i < size_in s = le_trans f.0 (le_of_eq xs_long) in
+          record {
+            passed = passed_all i (omega (arith, low)) (λ k h. f.2 k 0 (omega arith) h);
+            within = omega (arith, low);
+            stop = λ h. subst (λ (y : ℕ). x ≤ y) (entry i low) (f.1 0);
+          }
 
   -- the numbers from the place on have moved up, and x stands there
   put_numbers : (at : ℕ) → at ≤ size_in s → take (size_in s + 1) (shifted s x at) ≡ take at xs ++ x ∷ drop at xs

@@ -8,7 +8,7 @@ use native.Mathlib.Nat.{le_trans}
 use native.Mathlib.Omega.{arith}
 use lib.Dec.{leb, eqb, lit≤}
 use lib.ListN.{length, get_or, take}
-use lib.Seq.{get_or-take, length-take-le, ext_get_or}
+use lib.Seq.{ext_get_or}
 use lib.Ieee.{Float}
 use Rattle.rules.specs.Limits.{desk, no_plane}
 use Rattle.rules.specs.Lists.{rises}

@@ -6,7 +6,7 @@ ghost use Rattle.gathered.specs.Cutting.{PlaneReady, IntersectionReady, Intersec
 
 use crate::sets::{Room, Set};
 use rules::{Cutter, ElementCutOutput, ElementId, HyperplaneId, PolytopeFate, Reply};
-use space::words::{NO_PLANE, wide};
+use space::words::{NO_PLANE, WIDTH, wide};
 use space::{memo, rows};
 
 fn is_kept(fate: PolytopeFate) -> bool
@@ -42,7 +42,16 @@ fn new_intersection(
 {
     let number = k.number;
     let plane = plane_of_intersection(counts, rank, number);
-    memo::add_polytope(counts, elements, index, rank - 1, set.words(), set.len(), plane, false)
+    memo::add_polytope(
+        counts,
+        elements,
+        index,
+        rank - 1,
+        set.words(),
+        set.len(),
+        plane,
+        false,
+    )
 }
 
 // Whether a list is the boundary that element e has already.
@@ -50,16 +59,9 @@ fn is_own(elements: &[u16], e: ElementId, list: &[u16]) -> bool
     requires { RowReadable elements.now e.0 }
     ensures { OwnTold elements.now e.0 list.now (length list.now) result }
 {
-    let n = list.len();
-    if rows::size_of(elements, e) != n {
-        return false;
-    }
-    for j in 0..n {
-        if rows::boundary_at(elements, e, j) != list[j] {
-            return false;
-        }
-    }
-    true
+    let from = e.0 * WIDTH + 4;
+    let size = rows::size_of(elements, e);
+    &elements[from..from + size] == list
 }
 
 // A side's set and the intersection, with the old rank, hyperplane and mark; a removed side is none.
@@ -87,7 +89,16 @@ fn side_of_cut(
     if is_own(elements, e, set.as_slice()) {
         return Ok(Some(e));
     }
-    memo::add_polytope(counts, elements, index, rank, set.words(), set.len(), plane, mark)
+    memo::add_polytope(
+        counts,
+        elements,
+        index,
+        rank,
+        set.words(),
+        set.len(),
+        plane,
+        mark,
+    )
 }
 
 // The intersection is known: then inside, then outside.

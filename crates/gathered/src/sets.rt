@@ -64,12 +64,10 @@ impl Set {
         requires { SizedSet self.now 32 }
         ensures { Place self.now x result }
     {
-        for at in 0..self.size {
-            if x <= self.numbers[at] {
-                return at;
-            }
-        }
-        self.size
+        self.as_slice()
+            .iter()
+            .position(|y| x <= *y)
+            .unwrap_or(self.size)
     }
 
     // A number that is there already is not put in again; those above it move up by one.

@@ -1,7 +1,6 @@
 -- A removed side is none; a kept one that is the element's own boundary is the element, and any other is a call of rule 8.
 use Rattle.gathered.proofs.SideAdded.{reads_ask, including_asks, side_asks, own_asks, side_removed, side_own, side_kept}
 use mathlib.Core.Path.{sym, ◌∙◌}
-use native.Mathlib.Omega.{arith}
 use Rattle.gathered.proofs.answer.side_of_cut.Goals as goal
 
 pub returns-then-not-is_kept : goal.returns-then-not-is_kept

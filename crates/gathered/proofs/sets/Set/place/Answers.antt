@@ -1,26 +1,14 @@
--- The invariant: the search has passed all numbers so far.
-use native.Mathlib.Omega.{arith}
-use mathlib.Core.Path.{subst}
-use Rattle.gathered.specs.Sets.{numbers_in, Passed}
-use Rattle.gathered.proofs.Inserting.{passed_none, passed_next}
-use borrow.Author.Rules.{rules}
+-- All numbers before the first that is not below x are.
+use Prim.Native.Nat.{◌≤◌, ◌<◌}
+use mathlib.Core.Path.{sym, subst}
+use Rattle.std.proofs.Common.{rules, tests}
+use Rattle.std.proofs.lemmas.Iterator.{IsFirst-from_position, YieldsList-from_slice}
+use Rattle.gathered.specs.Sets.{Place}
+use Rattle.gathered.proofs.Inserting.{placed}
 use Rattle.gathered.proofs.sets.Set.place.Goals as goal
 
-pub loop-at-init : goal.loop-at-init
-loop-at-init c = record { within = search rules; passed = passed_none _ _ }
-
-pub returns-then-x-self : goal.returns-then-x-self
-returns-then-x-self c = record { passed = c.loop-at.invariant.passed; within = search rules; stop = λ h. c.if-x-self.true }
-
-pub loop-at-preserved : goal.loop-at-preserved
-loop-at-preserved c = record {
-  within = search rules;
-  passed = passed_next c.args.self.now c.args.x c.requires (search rules) c.loop-at.at c.loop-at.invariant.passed (search rules) (search rules);
-}
-
 pub returns : goal.returns
-returns c = record {
-  passed = subst (Passed c.args.x (numbers_in c.args.self.now)) (search rules) c.loop-at.invariant.passed;
-  within = search rules;
-  stop = λ h. absurd (omega arith);
-}
+returns c =
+    let x = c.args.x in
+    let first = IsFirst-from_position _ _ _ (λ y. x ≤ y) (λ y. y < x) c.position.ensures.ran (YieldsList-from_slice _ c.iter.ensures.rest) (λ y q k. search (rules, tests)) (λ y q k. search (rules, tests)) in
+    subst (Place c.args.self.now x) (sym c.unwrap_or.ensures) (placed c.args.self.now x c.requires (search rules) _ c.as_slice.ensures _ first)
