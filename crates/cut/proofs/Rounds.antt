@@ -29,7 +29,8 @@ use Rattle.rules.proofs.Warned.{gathering_warns}
 use Rattle.space.specs.Chains.{Indexed}
 use Rattle.space.proofs.Room.{list_of, size_bound, list_bound, size_word_lem, list_word_lem}
 use Rattle.space.proofs.Slices.{slices}
-use Rattle.gathered.specs.Sets.{Shaped, warning_in}
+use Rattle.gathered.specs.Sets.{warning_in}
+use Rattle.gathered.specs.declared.sets.Room.{Room}
 use Rattle.gathered.specs.Cutting.{cut_of, Fit}
 use Rattle.cut.specs.Known.{known_at, Knows, KnownStill, KnownTo}
 use Rattle.cut.specs.Rounds.{AskReady, RoundReady, Ended, went, stopped, AnswerKept, ElementEnded, BoundaryEnded}
@@ -42,7 +43,7 @@ use Rattle.std.specs.Prelude.{Ok, Err}
 good_of : {cs : List ℕ} {ps hs : List Float} {es : List ℕ} {r e : ℕ} {k : Cutter} {t : Table} → Fit cs ps hs es r e k t → Good desk t
 good_of {t = t} F = sound_good desk t F.sound
 
-pub ready_words : {cs : List ℕ} {ps : List Float} {es ix ms : List ℕ} {s : List (List ℕ)} {r e : ℕ} {k : Cutter} → AskReady cs ps es ix ms s r e k → length es ≡ 18432
+pub ready_words : {cs : List ℕ} {ps : List Float} {es ix ms : List ℕ} {s : Room} {r e : ℕ} {k : Cutter} → AskReady cs ps es ix ms s r e k → length es ≡ 18432
 ready_words R = (slices R.fit.holds).elements
 
 -- ---- the rank is 2 or more
@@ -114,7 +115,7 @@ opened_at ask bs i b g t l q =
     ap (λ (m : List ℕ). cut_boundary ask m g t) (drop-cons bs i 0 l)
     ∙ ap₂ (λ (x j : ℕ). next (ask x t) (λ a. cut_boundary ask (drop j bs) (gathering x a g))) (sym q) (sym (add-one i))
 
-pub round_most : {cs : List ℕ} {ps : List Float} {es ix ms : List ℕ} {s : List (List ℕ)} {r e : ℕ} {k : Cutter} → RoundReady cs ps es ix ms s r e k → (n : ℕ) → n ≡ get_or es (e * 36 + 3) 0 → n ≤ 32
+pub round_most : {cs : List ℕ} {ps : List Float} {es ix ms : List ℕ} {s : Room} {r e : ℕ} {k : Cutter} → RoundReady cs ps es ix ms s r e k → (n : ℕ) → n ≡ get_or es (e * 36 + 3) 0 → n ≤ 32
 round_most R n h = size_most R.more R.ready.fit n h
 
 -- one more is known
@@ -194,9 +195,9 @@ module _ {r : ℕ} (more : 1 < r) {e : ℕ} {k : Cutter} {cs₀ : List ℕ} {ps�
             A.rest ∙ opened_at (ask r more e k t.dimension) (boundary t e) i b A.gathered A.table inside number
             ∙ ap (λ (c : Outcome ElementAnswer). next c (λ a. cut_boundary (ask r more e k t.dimension) (drop (i + 1) (boundary t e)) (gathering b a A.gathered))) o
 
-    pub next_ready : {s₀ s : List (List ℕ)} {ix₀ ix : List ℕ} → v ≡ warning_in s₀ → w ≡ warning_in s → AskReady cs₀ ps₀ es₀ ix₀ ms₀ s₀ r e k → i < n → (b : ℕ) → b ≡ get_or es (e * 36 + (4 + i)) 0
-        → Indexed es (get_or cs 1 0) ix → Shaped s → AskReady cs ps es ix ms s (r - 1) b k
-    next_ready hv hw R l b read X S =
+    pub next_ready : {s₀ s : Room} {ix₀ ix : List ℕ} → v ≡ warning_in s₀ → w ≡ warning_in s → AskReady cs₀ ps₀ es₀ ix₀ ms₀ s₀ r e k → i < n → (b : ℕ) → b ≡ get_or es (e * 36 + (4 + i)) 0
+        → Indexed es (get_or cs 1 0) ix → AskReady cs ps es ix ms s (r - 1) b k
+    next_ready hv hw R l b read X =
         let K : Knows k ms₀ v R.table = subst (λ (x : Bool). Knows k ms₀ x R.table) (sym hv) R.knows in
         let N = A R.fit K in
         record {
@@ -205,7 +206,6 @@ module _ {r : ℕ} (more : 1 < r) {e : ℕ} {k : Cutter} {cs₀ : List ℕ} {ps�
           fit = fit_next R.fit K l b read;
           knows = subst (λ (x : Bool). Knows k ms x N.table) hw N.knows;
           indexed = X;
-          shaped = S;
         }
 
     -- how asking element b ended, seen from the first table

@@ -23,6 +23,7 @@ use Rattle.rules.proofs.Later.{Later, Replays, same}
 use Rattle.rules.proofs.Laws.{eq_test, test_eq, or_none}
 use Rattle.rules.proofs.Repeat.{cut_any}
 use Rattle.gathered.specs.Sets.{InRoom, OutputInRoom}
+use Rattle.gathered.specs.declared.sets.Room.{Room}
 use Rattle.gathered.specs.Cutting as told
 use Rattle.gathered.specs.Cutting.{cut_of, Fit, Told}
 use Rattle.rules.specs.declared.Cutter.{Cutter}
@@ -176,12 +177,12 @@ module _ {cs : List ℕ} {ps hs : List Float} {es : List ℕ} {r e : ℕ} {k : C
 
 -- ---- what the code needs
 
-module _ {cs : List ℕ} {ps : List Float} {es ms : List ℕ} {s : List (List ℕ)} {r e : ℕ} {k : Cutter} where
+module _ {cs : List ℕ} {ps : List Float} {es ms : List ℕ} {s : Room} {r e : ℕ} {k : Cutter} where
   pub ask_low : {ix : List ℕ} → AskReady cs ps es ix ms s r e k → e < 512
   ask_low R = low R.fit
 
   pub low_asks : {ix : List ℕ} → LowReady cs ps es ix ms s r e k → LowAsked cs ps es ix r e k s
-  low_asks A = let R = A.ready in record { ready = record { planes = R.planes; table = R.table; fit = R.fit }; low = A.low; indexed = R.indexed; shaped = R.shaped }
+  low_asks A = let R = A.ready in record { ready = record { planes = R.planes; table = R.table; fit = R.fit }; low = A.low; indexed = R.indexed }
 
   -- a known answer is the answer
   pub known_asked : {ix : List ℕ} (y : Bool) → AskReady cs ps es ix ms s r e k → y ≡ known_at ms e → y ≡ true → ElementAsked cs ps es ms s r e k (Ok tt) cs ps es ix ms s
@@ -191,12 +192,11 @@ module _ {cs : List ℕ} {ps : List Float} {es ms : List ℕ} {s : List (List �
         went (record { output = output_at ms e; warning = A.warning }) t (ap (λ (n : ℕ). cut_element desk (cut_of t.dimension k) n e t) (sym F.ranked) ∙ A.again) refl (sym A.noted)
         (record { holds = F.holds; knows = K; known = sym p ∙ q; output = refl }));
     indexed = R.indexed;
-    shaped = R.shaped;
     still = still_refl ms;
   }
 
   -- a vertex element or an edge
-  module _ {x : Reply ElementCutOutput} {cs' : List ℕ} {ps' : List Float} {es' ix' : List ℕ} {s' : List (List ℕ)} (C : LowLeft cs ps es r e k s x cs' ps' es' ix' s') where
+  module _ {x : Reply ElementCutOutput} {cs' : List ℕ} {ps' : List Float} {es' ix' : List ℕ} {s' : Room} (C : LowLeft cs ps es r e k s x cs' ps' es' ix' s') where
     pub low_keep : {ix : List ℕ} → AskReady cs ps es ix ms s r e k → KeepReady e x
     low_keep R = record { low = ask_low R; room = reply_in_room R.fit (C.cut.of R.planes R.table R.fit) }
 
@@ -204,6 +204,5 @@ module _ {cs : List ℕ} {ps : List Float} {es ms : List ℕ} {s : List (List �
     low_asked R N = record {
       of = λ hs t F K. kept_ended F (C.cut.of hs t F) K N;
       indexed = C.indexed;
-      shaped = C.shaped;
       still = kept_still R.fit R.knows N;
     }

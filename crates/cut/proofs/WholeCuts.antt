@@ -31,7 +31,8 @@ use Rattle.space.proofs.Lent.{holds_memory}
 use Rattle.space.proofs.Room.{rank_word}
 use Rattle.space.proofs.RowAdds.{readable_desk}
 use Rattle.space.proofs.Slices.{slices}
-use Rattle.gathered.specs.Sets.{Shaped, warning_in}
+use Rattle.gathered.specs.Sets.{empty_room, warning_in}
+use Rattle.gathered.specs.declared.sets.Room.{Room}
 use Rattle.gathered.specs.Cutting.{Fit, cut_of}
 use Rattle.rules.specs.declared.Cutter.{Cutter}
 use Rattle.cut.specs.Known.{output_at}
@@ -81,13 +82,6 @@ module _ {cs : List ℕ} {ps hs : List Float} {es : List ℕ} {h : Hyperplane} {
   pub rank_asked : {ix : List ℕ} → CutReady cs ps hs es ix h root → ElementReady es root
   rank_asked R = record { elements = (slices R.fit.holds).elements; room = root_low R }
 
--- the room before anything was asked
-abbrev pub blank_room : List (List ℕ)
-blank_room = replicate 4 (replicate 34 0)
-
-blank_shaped : Shaped blank_room
-blank_shaped = record { four = refl; tally = refl; inside = refl; outside = refl; intersections = refl }
-
 module _ (p : CutParams) {cs : List ℕ} {ps hs : List Float} {es : List ℕ} {root : ℕ} where
   module _ {x : Reply HyperplaneId} {cs₁ : List ℕ} {hs₁ : List Float} (P : HyperplaneAdded cs hs p.divider x cs₁ hs₁) where
     added : {t : Table} → CutFit cs ps hs es p.divider root t → Added ps es p.divider x cs₁ hs₁ t
@@ -120,7 +114,7 @@ module _ (p : CutParams) {cs : List ℕ} {ps hs : List Float} {es : List ℕ} {r
               subst (Stays desk (λ (n : ℕ) (s : Table). n < length s.planes) t) m' (plane_stays desk t (sound_good desk t F.sound) (divider_of t.dimension p.divider) F.plane) in
               record { table = u; ended = m'; extends = K.extends; good = K.good; numbered = K.value; holds = H }
 
-      module _ (r : ℕ) (read : r ≡ get_or es (root * 36) 0) where
+      module _ (r : ℕ) (read : r ≡ get_or es (root * 36) 0) {s₁ : Room} (blank : s₁ ≡ empty_room) where
         root_fit : {t : Table} → (F : CutFit cs ps hs es p.divider root t) → Fit cs₁ ps hs₁ es r root (cutter p v) (named F).table
         root_fit F =
             let A = named F in
@@ -141,20 +135,21 @@ module _ (p : CutParams) {cs : List ℕ} {ps hs : List Float} {es : List ℕ} {r
             ∙ sym (slices A.holds).element_count
 
         -- nothing is known yet
-        pub root_ready : {ix : List ℕ} → CutReady cs ps hs es ix p.divider root → AskReady cs₁ ps es ix (replicate 512 0) blank_room r root (cutter p v)
+        pub root_ready : {ix : List ℕ} → CutReady cs ps hs es ix p.divider root → AskReady cs₁ ps es ix (replicate 512 0) s₁ r root (cutter p v)
         root_ready R = record {
           planes = hs₁;
           table = (named R.fit).table;
           fit = root_fit R.fit;
-          knows = knows_nothing (cutter p v) (warning_in blank_room) (named R.fit).table;
+          knows = knows_nothing (cutter p v) (warning_in s₁) (named R.fit).table;
           indexed = index_count _ _ _ _ (count_same R) R.indexed;
-          shaped = blank_shaped;
         }
 
         -- how the cut of the root ended is the reply
-        module _ {y : Reply (Unit {0})} {cs₂ : List ℕ} {ps₂ : List Float} {es₂ ix₂ ms₂ : List ℕ} {s₂ : List (List ℕ)} (C : ElementAsked cs₁ ps es (replicate 512 0) blank_room r root (cutter p v) y cs₂ ps₂ es₂ ix₂ ms₂ s₂) where
+        module _ {y : Reply (Unit {0})} {cs₂ : List ℕ} {ps₂ : List Float} {es₂ ix₂ ms₂ : List ℕ} {s₂ : Room} (C : ElementAsked cs₁ ps es (replicate 512 0) s₁ r root (cutter p v) y cs₂ ps₂ es₂ ix₂ ms₂ s₂) where
           root_ended : {t : Table} (F : CutFit cs ps hs es p.divider root t) → ElementEnded cs₂ ps₂ hs₁ es₂ ms₂ (warning_in s₂) r root (cutter p v) y false (named F).table
-          root_ended F = C.of hs₁ (named F).table (root_fit F) (knows_nothing (cutter p v) (warning_in blank_room) (named F).table)
+          root_ended F =
+              subst (λ (b : Bool). ElementEnded cs₂ ps₂ hs₁ es₂ ms₂ (warning_in s₂) r root (cutter p v) y b (named F).table) (ap warning_in blank)
+              (C.of hs₁ (named F).table (root_fit F) (knows_nothing (cutter p v) (warning_in s₁) (named F).table))
 
           steps : {t : Table} (F : CutFit cs ps hs es p.divider root t)
               → cut_finite desk (params_of t.dimension p) root t ≡ cut_element desk (cut_of (named F).table.dimension (cutter p v)) r root (named F).table

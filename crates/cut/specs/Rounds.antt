@@ -5,7 +5,8 @@ use Rattle.rules.specs.Table.{Table, boundary}
 use Rattle.rules.specs.Held.{Extends, Holds}
 use Rattle.rules.specs.Cut.{Outcome, refused, done, Gathered, nothing_yet, cut_element, cut_boundary}
 use Rattle.space.specs.Chains.{Indexed}
-use Rattle.gathered.specs.Sets.{Shaped, warning_in}
+use Rattle.gathered.specs.Sets.{warning_in}
+use Rattle.gathered.specs.declared.sets.Room.{Room}
 use Rattle.gathered.specs.Cutting.{Fit, cut_of}
 use Rattle.rules.specs.declared.ElementAnswer.{ElementAnswer}
 use Rattle.rules.specs.declared.Cutter.{Cutter}
@@ -14,21 +15,20 @@ use Rattle.rules.specs.Refusals.{Reply}
 use Rattle.rules.specs.declared.Refusal.{Refusal}
 
 -- there is a table that may be cut, and of which all that is known is true; the index is of its rows, and the room is there
-pub record AskReady (cs : List ℕ) (ps : List Float) (es ix ms : List ℕ) (s : List (List ℕ)) (r e : ℕ) (k : Cutter) : Type 0 where
+pub record AskReady (cs : List ℕ) (ps : List Float) (es ix ms : List ℕ) (s : Room) (r e : ℕ) (k : Cutter) : Type 0 where
   pub planes : List Float
   pub table : Table
   pub fit : Fit cs ps planes es r e k table
   pub knows : Knows k ms (warning_in s) table
   pub indexed : Indexed es (get_or cs 1 0) ix
-  pub shaped : Shaped s
 
 -- the same of a vertex or an edge
-pub record LowReady (cs : List ℕ) (ps : List Float) (es ix ms : List ℕ) (s : List (List ℕ)) (r e : ℕ) (k : Cutter) : Type 0 where
+pub record LowReady (cs : List ℕ) (ps : List Float) (es ix ms : List ℕ) (s : Room) (r e : ℕ) (k : Cutter) : Type 0 where
   pub ready : AskReady cs ps es ix ms s r e k
   pub low : r < 2
 
 -- the same of an element that has a boundary to ask
-pub record RoundReady (cs : List ℕ) (ps : List Float) (es ix ms : List ℕ) (s : List (List ℕ)) (r e : ℕ) (k : Cutter) : Type 0 where
+pub record RoundReady (cs : List ℕ) (ps : List Float) (es ix ms : List ℕ) (s : Room) (r e : ℕ) (k : Cutter) : Type 0 where
   pub ready : AskReady cs ps es ix ms s r e k
   pub more : 1 < r
 
@@ -50,11 +50,10 @@ ElementEnded cs ps hs es ms w r e k x v t =
     Ended (λ a. a.warning) (AnswerKept cs ps hs es ms w e k) (Holds desk cs ps hs es) t (cut_element desk (cut_of t.dimension k) r e t) x v w
 
 -- with its answer in the words and its warning in the room; what was known still is
-pub record ElementAsked (cs : List ℕ) (ps : List Float) (es ms : List ℕ) (s : List (List ℕ)) (r e : ℕ) (k : Cutter) (x : Reply (Unit {0}))
-    (cs' : List ℕ) (ps' : List Float) (es' ix' ms' : List ℕ) (s' : List (List ℕ)) : Type 0 where
+pub record ElementAsked (cs : List ℕ) (ps : List Float) (es ms : List ℕ) (s : Room) (r e : ℕ) (k : Cutter) (x : Reply (Unit {0}))
+    (cs' : List ℕ) (ps' : List Float) (es' ix' ms' : List ℕ) (s' : Room) : Type 0 where
   pub of : (hs : List Float) (t : Table) → Fit cs ps hs es r e k t → Knows k ms (warning_in s) t → ElementEnded cs' ps' hs es' ms' (warning_in s') r e k x (warning_in s) t
   pub indexed : Indexed es' (get_or cs' 1 0) ix'
-  pub shaped : Shaped s'
   pub still : KnownStill ms ms'
 
 -- the memory holds the table, what is known is true of it, and all of a boundary is known
@@ -69,9 +68,8 @@ BoundaryEnded cs ps hs es ms w r e k x v t =
     Ended (λ g. g.warning) (BoundaryKept cs ps hs es ms w (boundary t e) k) (Holds desk cs ps hs es) t
     (cut_boundary (cut_element desk (cut_of t.dimension k) (r - 1)) (boundary t e) nothing_yet t) x v w
 
-pub record BoundaryCut (cs : List ℕ) (ps : List Float) (es ms : List ℕ) (s : List (List ℕ)) (r e : ℕ) (k : Cutter) (x : Reply (Unit {0}))
-    (cs' : List ℕ) (ps' : List Float) (es' ix' ms' : List ℕ) (s' : List (List ℕ)) : Type 0 where
+pub record BoundaryCut (cs : List ℕ) (ps : List Float) (es ms : List ℕ) (s : Room) (r e : ℕ) (k : Cutter) (x : Reply (Unit {0}))
+    (cs' : List ℕ) (ps' : List Float) (es' ix' ms' : List ℕ) (s' : Room) : Type 0 where
   pub of : (hs : List Float) (t : Table) → Fit cs ps hs es r e k t → Knows k ms (warning_in s) t → BoundaryEnded cs' ps' hs es' ms' (warning_in s') r e k x (warning_in s) t
   pub indexed : Indexed es' (get_or cs' 1 0) ix'
-  pub shaped : Shaped s'
   pub still : KnownStill ms ms'

@@ -3,11 +3,11 @@ ghost use Rattle.cut.specs.Rounds.{AskReady, RoundReady, ElementAsked, BoundaryC
 
 use crate::known::{KNOWN, is_known};
 use crate::ranks::{answer_higher, answer_low};
-use gathered::sets::ROOM;
+use gathered::sets::Room;
 use rules::{Cutter, ElementId, Reply};
 use space::chains::INDEX;
 use space::rows;
-use space::words::{COUNTS, SET, wide};
+use space::words::{COUNTS, wide};
 
 // A refusal, or the answer is known from then on.
 #[cycle(cut_boundary_cut_element)]
@@ -17,7 +17,7 @@ pub fn cut_element(
     elements: &mut [u16],
     index: &mut [u16; INDEX],
     known: &mut [u32; KNOWN],
-    room: &mut [[u16; SET]; ROOM],
+    room: &mut Room,
     e: ElementId,
     rank: usize,
     k: Cutter,
@@ -44,7 +44,7 @@ fn cut_boundary(
     elements: &mut [u16],
     index: &mut [u16; INDEX],
     known: &mut [u32; KNOWN],
-    room: &mut [[u16; SET]; ROOM],
+    room: &mut Room,
     e: ElementId,
     rank: usize,
     k: Cutter,

@@ -7,7 +7,7 @@ ghost use Rattle.cut.specs.Known.{field_size, field_of, some_of, known_at, outpu
 use rules::{ElementCutOutput, ElementId, Reply};
 use space::words::ELEMENTS;
 
-// A word for each element.
+// A word for each element: an array of answers as an enum takes 28 KB of the stack, these words take 2, and a cut has 8.
 pub const KNOWN: usize = ELEMENTS;
 
 // How many numbers a field of a word can be.

@@ -4,13 +4,13 @@ ghost use Rattle.cut.specs.Whole.{CutReady, CutTried, WholeCut};
 
 use crate::elements::cut_element;
 use crate::known::{KNOWN, output_at};
-use gathered::sets::{ROOM, has_warning};
+use gathered::sets::Room;
 use rules::{CutParams, Cutter, ElementAnswer, ElementId, Reply};
 use space::chains::INDEX;
 use space::memo::add_hyperplane;
 use space::restore::restore;
 use space::rows::rank_of;
-use space::words::{COUNTS, SET};
+use space::words::COUNTS;
 
 // The counts in an array: lent so, they cost each rank of the cut one word.
 fn counts_of(counts: &[u16]) -> [u16; COUNTS]
@@ -49,7 +49,7 @@ fn cut_named(
     let rank = rank_of(elements, root);
     let k = Cutter { params, number };
     let mut known = [0u32; KNOWN];
-    let mut room = [[0u16; SET]; ROOM];
+    let mut room = Room::new();
     let mut used = counts_of(counts);
     let asked = cut_element(
         &mut used, points, elements, index, &mut known, &mut room, root, rank, k,
@@ -57,7 +57,7 @@ fn cut_named(
     put_counts(counts, used);
     asked?;
     let output = output_at(&known, root);
-    let warning = has_warning(&room);
+    let warning = room.has_warning();
     Ok(ElementAnswer { output, warning })
 }
 

@@ -31,7 +31,8 @@ use Rattle.space.specs.Shared.{VertexAdded}
 use Rattle.space.proofs.Room.{list_of, list_bound, list_word_lem}
 use Rattle.space.proofs.VertexMemo.{dimension_is}
 use Rattle.space.proofs.Slices.{slices}
-use Rattle.gathered.specs.Sets.{warning_in, Shaped, Noted}
+use Rattle.gathered.specs.Sets.{warning_in, Noted}
+use Rattle.gathered.specs.declared.sets.Room.{Room}
 use Rattle.gathered.specs.Cutting.{Fit, cut_of, answered_by, Rule6Fit, Rule6Ready, Rule6Done}
 use Rattle.rules.specs.declared.Cutter.{Cutter}
 use Rattle.gathered.proofs.Steps.{told_by}
@@ -58,7 +59,7 @@ fit_later {e = e} {t = t} {u} F x g H = record {
   ranked = ap rank_of (element_same t u e x F.used) ∙ F.ranked;
 }
 
-pub vertex_asked : {cs : List ℕ} {ps : List Float} {es ix : List ℕ} {e : ℕ} {k : Cutter} {s : List (List ℕ)} {x : List Float} → CrossedAsked cs ps es ix e k s x → VertexReady cs ps es ix
+pub vertex_asked : {cs : List ℕ} {ps : List Float} {es ix : List ℕ} {e : ℕ} {k : Cutter} {s : Room} {x : List Float} → CrossedAsked cs ps es ix e k s x → VertexReady cs ps es ix
 vertex_asked A =
     let H = A.ready.fit.fit.holds in
     record {
@@ -74,7 +75,7 @@ abbrev number_of : Reply ElementId → ℕ
 number_of (Err n) = 0
 number_of (Ok i) = i.0
 
-module _ {cs : List ℕ} {ps : List Float} {es : List ℕ} {e : ℕ} {k : Cutter} {s : List (List ℕ)} {x : List Float} {w : Reply ElementId} {cs' : List ℕ} {ps' : List Float} {es' : List ℕ}
+module _ {cs : List ℕ} {ps : List Float} {es : List ℕ} {e : ℕ} {k : Cutter} {s : Room} {x : List Float} {w : Reply ElementId} {cs' : List ℕ} {ps' : List Float} {es' : List ℕ}
     (N : VertexAdded cs ps es x w cs' ps' es') where
   module _ {hs : List Float} {t : Table} {p q : List Float} {f : Float} {g : Gathered} (X : CrossedFit cs ps hs es e k s x t p q f g) where
     added : Came placed_at Err (Holds desk cs' ps' hs es') t (add_vertex desk (crossing_point f p q) t) w
@@ -109,7 +110,7 @@ module _ {cs : List ℕ} {ps : List Float} {es : List ℕ} {e : ℕ} {k : Cutter
       left_low = le_trans Q.kept.value.flush.0.0 Q.holds.fits.element_room
 
       -- rule 6 may go on from its table
-      left_ready : {s' : List (List ℕ)} → Crossed s i s' → Rule6Fit cs' ps' hs es' 1 e k s' Q.table (crossed_of i g)
+      left_ready : {s' : Room} → Crossed s i s' → Rule6Fit cs' ps' hs es' 1 e k s' Q.table (crossed_of i g)
       left_ready C = record {
         fit = fit_later X.fit Q.kept.extends Q.kept.good Q.holds;
         some = lit≤ tt;
@@ -143,7 +144,7 @@ module _ {cs : List ℕ} {ps : List Float} {es : List ℕ} {e : ℕ} {k : Cutter
   crossed_refused R indexed n h = record {
     cut = record { of = λ hs t p q f g X. not_added X n h (added X) };
     indexed = indexed;
-    used = record { shaped = R.fit.sized.shaped; warning = refl };
+    used = record { warning = refl };
   }
 
   module _ (v : ElementId) (h : w ≡ Ok v) where
@@ -151,19 +152,19 @@ module _ {cs : List ℕ} {ps : List Float} {es : List ℕ} {e : ℕ} {k : Cutter
     pub crossed_low : CrossedReady cs ps es e k s x → v.0 < 512
     crossed_low R = left_low R.fit v.0 (left R.fit v.0 h)
 
-    module _ {s' : List (List ℕ)} (C : Crossed s v.0 s') where
+    module _ {s' : Room} (C : Crossed s v.0 s') where
       pub crossed_ready : {ix' : List ℕ} → CrossedReady cs ps es e k s x → Indexed es' (get_or cs' 1 0) ix' → Rule6Ready cs' es' ix' 1 e k s'
       crossed_ready R indexed =
           let Q = left R.fit v.0 h in
           record { points = ps'; planes = R.planes; table = Q.table; gathered = crossed_of v.0 R.gathered; fit = left_ready R.fit v.0 Q C; indexed = indexed }
 
-      pub crossed_done : {y : Reply ElementCutOutput} {cs'' es'' ix'' : List ℕ} {s'' : List (List ℕ)} → Rule6Done cs' es' 1 e k s' y cs'' es'' ix'' s'' → CrossedLeft cs ps es e k s x y cs'' ps' es'' ix'' s''
+      pub crossed_done : {y : Reply ElementCutOutput} {cs'' es'' ix'' : List ℕ} {s'' : Room} → Rule6Done cs' es' 1 e k s' y cs'' es'' ix'' s'' → CrossedLeft cs ps es e k s x y cs'' ps' es'' ix'' s''
       crossed_done D = record {
         cut = record {
           of = λ hs t p q f g X. (let Q = left X v.0 h in after_left X v.0 Q (D.of ps' hs Q.table (crossed_of v.0 g) (left_ready X v.0 Q C)));
         };
         indexed = D.indexed;
-        used = record { shaped = D.used.shaped; warning = D.used.warning ∙ C.warning };
+        used = record { warning = D.used.warning ∙ C.warning };
       }
 
 -- ---- what is read of an edge
@@ -210,8 +211,8 @@ module _ {ps : List Float} {es : List ℕ} {e : ℕ} (R : EndsReady ps es e) whe
   end_asked i x l h = vertex.point_asked (end_fit R.fit i x l h)
 
   -- both numbers are within the room
-  pub ends_asked : {r : EdgeEnds} {s : List (List ℕ)} → EndsRead ps es e r → Shaped s → EndsAsked r.a.0 r.b.0 s
-  ends_asked E S = record { first = (end_asked 0 _ (lit≤ tt) E.first).low; second = (end_asked 1 _ (lit≤ tt) E.second).low; shaped = S }
+  pub ends_asked : {r : EdgeEnds} {s : Room} → EndsRead ps es e r → EndsAsked r.a.0 r.b.0 s
+  ends_asked E = record { first = (end_asked 0 _ (lit≤ tt) E.first).low; second = (end_asked 1 _ (lit≤ tt) E.second).low }
 
 -- ---- the edge
 
@@ -279,9 +280,9 @@ module _ (k : Cutter) (d : ℕ) (r : EdgeEnds) (sa sb : Float) where
           (sets_gathering 0 a (corner_answer a (side_test sa)) nothing_yet t ra (corner_answer_lem t a (side_of sa) ra) (sets_none 0 t))
 
     -- the room as it came, with the test's warning, and with what the ends answered; z and x are what the test says
-    module _ {s s₁ s₂ : List (List ℕ)} {z : EdgeTest} (says : z ≡ tested d k r) (N : Noted s z.warning s₁) (G : EndsGathered a b sa sb s₁ s₂) where
+    module _ {s s₁ s₂ : Room} {z : EdgeTest} (says : z ≡ tested d k r) (N : Noted s z.warning s₁) (G : EndsGathered a b sa sb s₁ s₂) where
       -- the cut's warning after it all
-      noted_by : {x : Option Float} (s₃ : List (List ℕ)) → z.crossing ≡ x → warning_in s₃ ≡ warning_in s₂ → {hs : List Float} {t : Table} → Fit cs ps hs es 1 e k t → (y : ElementAnswer) (u : Table)
+      noted_by : {x : Option Float} (s₃ : Room) → z.crossing ≡ x → warning_in s₃ ≡ warning_in s₂ → {hs : List Float} {t : Table} → Fit cs ps hs es 1 e k t → (y : ElementAnswer) (u : Table)
           → cut_element desk (cut_of t.dimension k) 1 e t ≡ done y u → warning_in s₃ ≡ (warning_in s || y.warning)
       noted_by {x} s₃ m l F y u o =
           l ∙ G.warning ∙ N.warning ∙ ap (λ (w : Bool). warning_in s || w) (ap (λ (q : EdgeTest). q.warning) says ∙ sym (warned F x (crossing_is says m) o))
@@ -300,7 +301,7 @@ module _ (k : Cutter) (d : ℕ) (r : EdgeEnds) (sa sb : Float) where
         indexed = A.indexed;
       }
 
-      pub missed_cut : {y : Reply ElementCutOutput} {cs' es' ix' : List ℕ} {s₃ : List (List ℕ)} → z.crossing ≡ None → Rule6Done cs es 1 e k s₂ y cs' es' ix' s₃
+      pub missed_cut : {y : Reply ElementCutOutput} {cs' es' ix' : List ℕ} {s₃ : Room} → z.crossing ≡ None → Rule6Done cs es 1 e k s₂ y cs' es' ix' s₃
           → LowLeft cs ps es 1 e k s y cs' ps es' ix' s₃
       missed_cut {y} {cs'} {es'} {s₃ = s₃} m D = record {
         cut = record {
@@ -310,7 +311,6 @@ module _ (k : Cutter) (d : ℕ) (r : EdgeEnds) (sa sb : Float) where
               (D.of ps hs t answered (missed_fit F)));
         };
         indexed = D.indexed;
-        shaped = D.used.shaped;
       }
 
       -- a crossing at parameter f
@@ -338,7 +338,7 @@ module _ (k : Cutter) (d : ℕ) (r : EdgeEnds) (sa sb : Float) where
           fit = crossing_fit R.fit;
         }
 
-        pub crossing_cut : {y : Reply ElementCutOutput} {cs' : List ℕ} {ps' : List Float} {es' ix' : List ℕ} {s₃ : List (List ℕ)} → z.crossing ≡ Some f → CrossedLeft cs ps es e k s₂ x y cs' ps' es' ix' s₃
+        pub crossing_cut : {y : Reply ElementCutOutput} {cs' : List ℕ} {ps' : List Float} {es' ix' : List ℕ} {s₃ : Room} → z.crossing ≡ Some f → CrossedLeft cs ps es e k s₂ x y cs' ps' es' ix' s₃
             → LowLeft cs ps es 1 e k s y cs' ps' es' ix' s₃
         crossing_cut {y} {cs'} {ps'} {es'} {s₃ = s₃} m D = record {
           cut = record {
@@ -348,11 +348,10 @@ module _ (k : Cutter) (d : ℕ) (r : EdgeEnds) (sa sb : Float) where
                 (D.cut.of hs t (point_at t a) (point_at t b) f answered (crossing_fit F)));
           };
           indexed = D.indexed;
-          shaped = D.used.shaped;
         }
 
 -- ---- an element of rank 1
 
-pub edge_left : {cs : List ℕ} {ps : List Float} {es : List ℕ} {r e : ℕ} {k : Cutter} {s : List (List ℕ)} {y : Reply ElementCutOutput} {cs' : List ℕ} {ps' : List Float} {es' ix' : List ℕ} {s' : List (List ℕ)} → r ≡ 1
+pub edge_left : {cs : List ℕ} {ps : List Float} {es : List ℕ} {r e : ℕ} {k : Cutter} {s : Room} {y : Reply ElementCutOutput} {cs' : List ℕ} {ps' : List Float} {es' ix' : List ℕ} {s' : Room} → r ≡ 1
     → LowLeft cs ps es 1 e k s y cs' ps' es' ix' s' → LowLeft cs ps es r e k s y cs' ps' es' ix' s'
 edge_left {cs} {ps} {es} {r} {e} {k} {s} {y} {cs'} {ps'} {es'} {ix'} {s'} q C = subst (λ (n : ℕ). LowLeft cs ps es n e k s y cs' ps' es' ix' s') (sym q) C

@@ -8,10 +8,10 @@ ghost use Rattle.space.specs.Shared.{stored_point};
 ghost use Rattle.ends.specs.Ends.{PointAsked, CornerReady, CornerCut, EndsReady, EndsRead, EndsAsked, EndsGathered, CrossedAsked, CrossedLeft};
 ghost use Rattle.ends.specs.Elements.{LowAsked, LowLeft};
 
-use gathered::sets::{FLUSH, FLUSHES, ROOM, TALLY};
-use gathered::{answer, sets};
+use gathered::answer;
+use gathered::sets::Room;
 use rules::{Cutter, ElementCutOutput, ElementId, Reply, Side, VertexId};
-use space::words::{SET, wide};
+use space::words::wide;
 use space::{memo, rows};
 
 // The ends a and b of an edge, a the lower-numbered, at p and q.
@@ -58,7 +58,7 @@ fn cut_corner(
     elements: &[u16],
     e: ElementId,
     k: Cutter,
-    room: &mut [[u16; SET]; ROOM],
+    room: &mut Room,
 ) -> ElementCutOutput
     requires { CornerReady counts.now points.now elements.now e.0 k room.old }
     ensures { CornerCut counts.now points.now elements.now e.0 k room.old result room.new }
@@ -69,7 +69,7 @@ fn cut_corner(
     let h = params.divider;
     let s = hypermath::signed_distance(d, h, p);
     let test = hypermath::side_of(s);
-    sets::note(room, test.warning);
+    room.note(test.warning);
     let side = test.side;
     corner_output(e, side)
 }
@@ -96,15 +96,15 @@ fn end_output(e: ElementId, s: f64) -> ElementCutOutput
 }
 
 // Ends on the plane are flush, and other ends go to their side; the lower-numbered end comes first.
-fn gather_ends(room: &mut [[u16; SET]; ROOM], a: ElementId, sa: f64, b: ElementId, sb: f64)
+fn gather_ends(room: &mut Room, a: ElementId, sa: f64, b: ElementId, sb: f64)
     requires { EndsAsked a.0 b.0 room.old }
     ensures { EndsGathered a.0 b.0 sa sb room.old room.new }
 {
-    sets::clear(room);
+    room.clear();
     let first = end_output(a, sa);
-    sets::gather_in(room, a, first);
+    room.gather_in(a, first);
     let second = end_output(b, sb);
-    sets::gather_in(room, b, second);
+    room.gather_in(b, second);
 }
 
 // The crossing is matched or appended: vertex, then its element. It counts as the flush one.
@@ -115,7 +115,7 @@ fn cut_crossed(
     index: &mut [u16],
     e: ElementId,
     k: Cutter,
-    room: &mut [[u16; SET]; ROOM],
+    room: &mut Room,
     x: [f64; 4],
 ) -> Reply<ElementCutOutput>
     requires { CrossedAsked counts.old points.old elements.old index.old e.0 k room.old x }
@@ -123,8 +123,8 @@ fn cut_crossed(
         counts.new points.new elements.new index.new room.new }
 {
     let v = memo::add_vertex(counts, points, elements, index, x)?;
-    room[TALLY][FLUSHES] = 1;
-    room[TALLY][FLUSH] = v.0 as u16;
+    room.flushes = 1;
+    room.flush = v;
     answer::rule6(counts, elements, index, e, 1, k, room)
 }
 
@@ -136,7 +136,7 @@ fn cut_edge(
     index: &mut [u16],
     e: ElementId,
     k: Cutter,
-    room: &mut [[u16; SET]; ROOM],
+    room: &mut Room,
 ) -> Reply<ElementCutOutput>
     requires { LowAsked counts.old points.old elements.old index.old 1 e.0 k room.old }
     ensures { LowLeft counts.old points.old elements.old 1 e.0 k room.old result
@@ -151,7 +151,7 @@ fn cut_edge(
     let sa = hypermath::signed_distance(d, h, p);
     let sb = hypermath::signed_distance(d, h, q);
     let test = hypermath::edge_test(d, h, [p, q]);
-    sets::note(room, test.warning);
+    room.note(test.warning);
     gather_ends(room, ends.a, sa, ends.b, sb);
     let crossing = test.crossing;
     match crossing {
@@ -172,7 +172,7 @@ pub fn cut_low(
     e: ElementId,
     rank: usize,
     k: Cutter,
-    room: &mut [[u16; SET]; ROOM],
+    room: &mut Room,
 ) -> Reply<ElementCutOutput>
     requires { LowAsked counts.old points.old elements.old index.old rank e.0 k room.old }
     ensures { LowLeft counts.old points.old elements.old rank e.0 k room.old result

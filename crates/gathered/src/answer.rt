@@ -1,22 +1,18 @@
 // Rules 6 to 8: what a cut adds for an element whose boundary has answered, and the element's own answer.
-ghost use Rattle.std.specs.Prelude.{◌≡◌, eqb, get_or, if◌then◌else◌};
+ghost use Rattle.std.specs.Prelude.{◌≡◌, eqb, get_or, length, if◌then◌else◌};
 ghost use Rattle.rules.specs.Limits.{no_plane};
 ghost use Rattle.rules.specs.Replies.{is_kept};
 ghost use Rattle.gathered.specs.Cutting.{PlaneReady, IntersectionReady, IntersectionMade, RowReadable, OwnTold, SideReady, SideMade, Rule7Ready, Rule7Done, Rule6Ready, Rule6Done};
 
-use crate::including::include;
-use crate::sets::{FLUSH, FLUSHES, INSIDE, INTERSECTIONS, OUTSIDE, ROOM, TALLY};
+use crate::sets::{Room, Set};
 use rules::{Cutter, ElementCutOutput, ElementId, HyperplaneId, PolytopeFate, Reply};
-use space::words::{NO_PLANE, SET, SIZE, wide};
+use space::words::{NO_PLANE, WIDTH, wide};
 use space::{memo, rows};
 
 fn is_kept(fate: PolytopeFate) -> bool
     ensures { result ≡ is_kept fate }
 {
-    match fate {
-        PolytopeFate::Remove => false,
-        PolytopeFate::Keep => true,
-    }
+    matches!(fate, PolytopeFate::Keep)
 }
 
 // The divider's hyperplane if the rank is the dimension.
@@ -38,7 +34,7 @@ fn new_intersection(
     index: &mut [u16],
     rank: usize,
     k: Cutter,
-    set: &[u16; SET],
+    set: &Set,
 ) -> Reply<Option<ElementId>>
     requires { IntersectionReady counts.old elements.old index.old rank k set.now }
     ensures { IntersectionMade counts.old elements.old rank k set.now result
@@ -46,24 +42,26 @@ fn new_intersection(
 {
     let number = k.number;
     let plane = plane_of_intersection(counts, rank, number);
-    let n = wide(set[SIZE]);
-    memo::add_polytope(counts, elements, index, rank - 1, set, n, plane, false)
+    memo::add_polytope(
+        counts,
+        elements,
+        index,
+        rank - 1,
+        set.words(),
+        set.len(),
+        plane,
+        false,
+    )
 }
 
-// Whether the first n numbers of a set are the boundary that element e has already.
-fn is_own(elements: &[u16], e: ElementId, set: &[u16; SET], n: usize) -> bool
+// Whether a list is the boundary that element e has already.
+fn is_own(elements: &[u16], e: ElementId, list: &[u16]) -> bool
     requires { RowReadable elements.now e.0 }
-    ensures { OwnTold elements.now e.0 set.now n result }
+    ensures { OwnTold elements.now e.0 list.now (length list.now) result }
 {
-    if rows::size_of(elements, e) != n {
-        return false;
-    }
-    for j in 0..n {
-        if rows::boundary_at(elements, e, j) != set[j] {
-            return false;
-        }
-    }
-    true
+    let from = e.0 * WIDTH + 4;
+    let size = rows::size_of(elements, e);
+    &elements[from..from + size] == list
 }
 
 // A side's set and the intersection, with the old rank, hyperplane and mark; a removed side is none.
@@ -74,7 +72,7 @@ fn side_of_cut(
     e: ElementId,
     rank: usize,
     fate: PolytopeFate,
-    set: &mut [u16; SET],
+    set: &mut Set,
     x: Option<ElementId>,
 ) -> Reply<Option<ElementId>>
     requires { SideReady counts.old elements.old index.old rank e.0 set.old x }
@@ -86,13 +84,21 @@ fn side_of_cut(
     }
     let plane = rows::plane_of(elements, e);
     let mark = rows::is_primordial(elements, e);
-    include(set, x);
-    let n = wide(set[SIZE]);
+    set.include(x);
     // a side that lost nothing is the element itself, with no search for its row
-    if is_own(elements, e, set, n) {
+    if is_own(elements, e, set.as_slice()) {
         return Ok(Some(e));
     }
-    memo::add_polytope(counts, elements, index, rank, set, n, plane, mark)
+    memo::add_polytope(
+        counts,
+        elements,
+        index,
+        rank,
+        set.words(),
+        set.len(),
+        plane,
+        mark,
+    )
 }
 
 // The intersection is known: then inside, then outside.
@@ -103,7 +109,7 @@ fn rule7(
     e: ElementId,
     rank: usize,
     k: Cutter,
-    room: &mut [[u16; SET]; ROOM],
+    room: &mut Room,
     x: Option<ElementId>,
 ) -> Reply<ElementCutOutput>
     requires { Rule7Ready counts.old elements.old index.old rank e.0 k room.old x }
@@ -120,7 +126,7 @@ fn rule7(
         e,
         rank,
         fate_inside,
-        &mut room[INSIDE],
+        &mut room.inside,
         x,
     )?;
     let outside = side_of_cut(
@@ -130,7 +136,7 @@ fn rule7(
         e,
         rank,
         fate_outside,
-        &mut room[OUTSIDE],
+        &mut room.outside,
         x,
     )?;
     Ok(ElementCutOutput::NonFlush {
@@ -148,20 +154,20 @@ pub fn rule6(
     e: ElementId,
     rank: usize,
     k: Cutter,
-    room: &mut [[u16; SET]; ROOM],
+    room: &mut Room,
 ) -> Reply<ElementCutOutput>
     requires { Rule6Ready counts.old elements.old index.old rank e.0 k room.old }
     ensures { Rule6Done counts.old elements.old rank e.0 k room.old result
         counts.new elements.new index.new room.new }
 {
-    let flushes = room[TALLY][FLUSHES];
+    let flushes = room.flushes;
     if 1 < flushes {
         return Ok(ElementCutOutput::Flush);
     }
     if flushes == 1 {
-        let x = Some(ElementId(wide(room[TALLY][FLUSH])));
+        let x = Some(room.flush);
         return rule7(counts, elements, index, e, rank, k, room, x);
     }
-    let x = new_intersection(counts, elements, index, rank, k, &room[INTERSECTIONS])?;
+    let x = new_intersection(counts, elements, index, rank, k, &room.intersections)?;
     rule7(counts, elements, index, e, rank, k, room, x)
 }

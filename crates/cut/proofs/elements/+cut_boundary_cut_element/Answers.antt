@@ -23,7 +23,6 @@ cut_boundary-loop-i-init t c =
       more = R.more;
       going = round.going_start R.more;
       indexed = R.ready.indexed;
-      shaped = R.ready.shaped;
       still = still_refl _;
     }
 
@@ -37,7 +36,7 @@ pub cut_boundary-cut_element-requires : goal.cut_boundary-cut_element-requires
 cut_boundary-cut_element-requires t c =
     let at = c.loop-i.invariant in (
       omega (arith, c.decreases),
-      round.next_ready at.more at.going _ c.size_of-n.ensures refl refl c.requires.ready c.loop-i-test.true _ (c.wide.ensures.value ∙ c.boundary_at.ensures) at.indexed at.shaped,
+      round.next_ready at.more at.going _ c.size_of-n.ensures refl refl c.requires.ready c.loop-i-test.true _ (c.wide.ensures.value ∙ c.boundary_at.ensures) at.indexed,
     )
 
 pub cut_boundary-returns-in_err-cut_element : goal.cut_boundary-returns-in_err-cut_element
@@ -49,7 +48,6 @@ cut_boundary-returns-in_err-cut_element t c =
     record {
       of = round.round_refused at.more at.going _ c.size_of-n.ensures c.loop-i-test.true _ (c.wide.ensures.value ∙ c.boundary_at.ensures) C.of _ c.in_err-cut_element.was;
       indexed = C.indexed;
-      shaped = C.shaped;
       still = still_trans at.still C.still;
     }
 
@@ -64,7 +62,6 @@ cut_boundary-loop-i-preserved t c =
       more = at.more;
       going = round.going_on_lem at.more at.going _ c.size_of-n.ensures c.loop-i-test.true _ (c.wide.ensures.value ∙ c.boundary_at.ensures) C.of c.in_ok-cut_element.was C.still;
       indexed = C.indexed;
-      shaped = C.shaped;
       still = still_trans at.still C.still;
     }
 
@@ -74,7 +71,6 @@ cut_boundary-returns t c =
     record {
       of = round.round_done at.more at.going _ c.size_of-n.ensures c.loop-i-test.false at.most;
       indexed = at.indexed;
-      shaped = at.shaped;
       still = at.still;
     }
 

@@ -14,7 +14,7 @@ pub counts_of-used-requires : goal.counts_of-used-requires
 counts_of-used-requires c = c.add_hyperplane.auto.counts ∙ counts_ready c.requires
 
 pub cut_element-asked-requires : goal.cut_element-asked-requires
-cut_element-asked-requires c = root_ready c.args.params (counts_lent c.counts_of-used.ensures c.add_hyperplane.ensures) _ c.in_ok-number.was _ c.rank_of-rank.ensures c.requires
+cut_element-asked-requires c = root_ready c.args.params (counts_lent c.counts_of-used.ensures c.add_hyperplane.ensures) _ c.in_ok-number.was _ c.rank_of-rank.ensures c.new-room.ensures c.requires
 
 pub put_counts-requires : goal.put_counts-requires
 put_counts-requires c = c.add_hyperplane.auto.counts ∙ counts_ready c.requires
@@ -22,7 +22,7 @@ put_counts-requires c = c.add_hyperplane.auto.counts ∙ counts_ready c.requires
 pub returns-in_err-asked : goal.returns-in_err-asked
 returns-in_err-asked c = let x = err_from_is_err_and c.from_residual-in_err-asked.result c.from_residual-in_err-asked.ensures.1 in
     rw (x.1, x.2) (counts_back c.put_counts.ensures
-    (root_refused c.args.params (counts_lent c.counts_of-used.ensures c.add_hyperplane.ensures) _ c.in_ok-number.was _ c.rank_of-rank.ensures c.cut_element-asked.ensures _ c.in_err-asked.was))
+    (root_refused c.args.params (counts_lent c.counts_of-used.ensures c.add_hyperplane.ensures) _ c.in_ok-number.was _ c.rank_of-rank.ensures c.new-room.ensures c.cut_element-asked.ensures _ c.in_err-asked.was))
 
 pub output_at-output-requires : goal.output_at-output-requires
 output_at-output-requires c = root_low c.requires
@@ -39,5 +39,5 @@ shape_of-planes c = c.add_hyperplane.auto.planes
 
 pub returns : goal.returns
 returns c = counts_back c.put_counts.ensures
-    (root_answered c.args.params (counts_lent c.counts_of-used.ensures c.add_hyperplane.ensures) _ c.in_ok-number.was _ c.rank_of-rank.ensures c.cut_element-asked.ensures
+    (root_answered c.args.params (counts_lent c.counts_of-used.ensures c.add_hyperplane.ensures) _ c.in_ok-number.was _ c.rank_of-rank.ensures c.new-room.ensures c.cut_element-asked.ensures
     c.in_ok-asked.was _ _ c.output_at-output.ensures c.has_warning-warning.ensures)

@@ -1,5 +1,6 @@
 -- Four ways: more than one flush answer, exactly one, and without one the intersection refused or known.
 use Rattle.std.proofs.lemmas.Result.{err_from_is_err_and}
+use mathlib.Core.Path.{refl}
 use Rattle.gathered.proofs.Answering.{rule6_flush, flush_ready, rule6_one, intersection_ready, intersection_refused, intersection_known, rule6_none}
 use Rattle.gathered.proofs.answer.rule6.Goals as goal
 
@@ -7,10 +8,10 @@ pub returns-then-flushes-gt1 : goal.returns-then-flushes-gt1
 returns-then-flushes-gt1 c = rule6_flush c.if-flushes-gt1.true c.requires
 
 pub rule7-requires : goal.rule7-requires
-rule7-requires c = flush_ready c.if-flushes-eq1.true _ c.wide.ensures.value c.requires
+rule7-requires c = flush_ready c.if-flushes-eq1.true _ refl c.requires
 
 pub returns-then-flushes-eq1 : goal.returns-then-flushes-eq1
-returns-then-flushes-eq1 c = rule6_one c.if-flushes-eq1.true _ c.wide.ensures.value c.rule7.ensures
+returns-then-flushes-eq1 c = rule6_one c.if-flushes-eq1.true _ refl c.rule7.ensures
 
 pub new_intersection-requires : goal.new_intersection-requires
 new_intersection-requires c = intersection_ready c.requires

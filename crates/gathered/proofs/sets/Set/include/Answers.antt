@@ -2,7 +2,7 @@
 use Rattle.gathered.proofs.Inserting.{included_is, include_none}
 use Rattle.gathered.proofs.Gathering.{some_room}
 use borrow.Author.Rules.{rules}
-use Rattle.gathered.proofs.including.include.Goals as goal
+use Rattle.gathered.proofs.sets.Set.include.Goals as goal
 
 pub overflow_cast-e : goal.overflow_cast-e
 overflow_cast-e c = let h = some_room _ c.in-Some.is c.requires.room in
@@ -12,4 +12,4 @@ pub returns-in-Some : goal.returns-in-Some
 returns-in-Some c = included_is _ c.in-Some.is c.insert.ensures
 
 pub returns-in_default : goal.returns-in_default
-returns-in_default c = included_is _ c.in_default.is (include_none c.args.s.now)
+returns-in_default c = included_is _ c.in_default.is (include_none c.args.self.now (search rules))
