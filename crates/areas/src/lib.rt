@@ -10,7 +10,7 @@ ghost use Rattle.rules.specs.Limits.{desk};
 ghost use Rattle.rules.specs.Lists.{all};
 ghost use Rattle.rules.specs.Replies.{listed};
 ghost use Rattle.rules.specs.Areas.{areas_reply};
-ghost use Rattle.space.specs.Held.{held};
+ghost use Rattle.space.specs.Lent.{lent};
 ghost use Rattle.areas.specs.Words.{word_area, words_on_grid, word_sheet, sheet_asked, row_is_face, PiecesFit, PiecesUsed, SheetFits, Sized, AreasWritten};
 
 use crate::piece::{is_piece_on_grid, twice_area};
@@ -114,7 +114,7 @@ pub fn areas(
     pieces: &[u16],
     areas: &mut [i64],
 ) -> Reply<usize>
-    ensures { (result, areas.new) ≡ areas_reply desk (held memory.entry) pieces.now areas.old }
+    ensures { (result, areas.new) ≡ areas_reply desk (lent memory.entry) pieces.now areas.old }
 {
     if !memory_sound(memory) {
         return Err(Refusal::NotSound);

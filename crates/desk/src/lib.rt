@@ -110,15 +110,15 @@ pub extern "C" fn desk_touch(
 ) -> u32
     ensures { result ≡ touch_word (touch_reply desk (divider_with n0 n1 n2 n3 distance) root (memory_of counts.now points.now planes.now elements.now)) }
 {
-    let normal = [n0, n1, n2, n3];
-    let divider = Hyperplane { normal, distance };
-    let root = ElementId(root as usize);
     let memory = Memory {
         counts,
         points,
         planes,
         elements,
     };
+    let normal = [n0, n1, n2, n3];
+    let divider = Hyperplane { normal, distance };
+    let root = ElementId(root as usize);
     let reply = touch::touch(memory, divider, root);
     touch_word(reply)
 }
@@ -284,13 +284,13 @@ pub extern "C" fn desk_has_primordial_facet(
 ) -> u32
     ensures { result ≡ facet_word (primordial_facet_reply desk (memory_of counts.now points.now planes.now elements.now) root) }
 {
-    let root = ElementId(root as usize);
     let memory = Memory {
         counts,
         points,
         planes,
         elements,
     };
+    let root = ElementId(root as usize);
     let reply = facet::has_primordial_facet(memory, root);
     match reply {
         Err(refusal) => refused(refusal),

@@ -2,7 +2,7 @@
 ghost use Rattle.std.specs.Prelude.{◌≡◌};
 ghost use Rattle.rules.specs.Limits.{desk};
 ghost use Rattle.rules.specs.Replies.{sub_elements_reply, with_rank_reply, vertex_set_reply, greatest_common_reply};
-ghost use Rattle.space.specs.Held.{held};
+ghost use Rattle.space.specs.Lent.{lent};
 
 use crate::below::below;
 use crate::common::{all_of_rank, common};
@@ -21,7 +21,7 @@ pub fn subelements_of(
     root: ElementId,
     list: &mut [u16],
 ) -> Reply<usize>
-    ensures { (result, list.new) ≡ sub_elements_reply desk (held memory.entry) root.0 list.old }
+    ensures { (result, list.new) ≡ sub_elements_reply desk (lent memory.entry) root.0 list.old }
 {
     root_asked(memory, root)?;
     let s = below(memory.elements, root);
@@ -35,7 +35,7 @@ pub fn subelements_with_rank(
     rank: u8,
     list: &mut [u16],
 ) -> Reply<usize>
-    ensures { (result, list.new) ≡ with_rank_reply desk (held memory.entry) rank root.0 list.old }
+    ensures { (result, list.new) ≡ with_rank_reply desk (lent memory.entry) rank root.0 list.old }
 {
     root_asked(memory, root)?;
     let some = level(memory.elements, root, rank as usize);
@@ -48,7 +48,7 @@ pub fn vertex_set(
     root: ElementId,
     list: &mut [u16],
 ) -> Reply<usize>
-    ensures { (result, list.new) ≡ vertex_set_reply desk (held memory.entry) root.0 list.old }
+    ensures { (result, list.new) ≡ vertex_set_reply desk (lent memory.entry) root.0 list.old }
 {
     root_asked(memory, root)?;
     let corners = level(memory.elements, root, 0);
@@ -61,7 +61,7 @@ pub fn greatest_common_subelements(
     roots: &[u16],
     list: &mut [u16],
 ) -> Reply<usize>
-    ensures { (result, list.new) ≡ greatest_common_reply desk (held memory.entry) roots.now list.old }
+    ensures { (result, list.new) ≡ greatest_common_reply desk (lent memory.entry) roots.now list.old }
 {
     roots_asked(memory, roots)?;
     if roots.is_empty() {

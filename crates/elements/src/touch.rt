@@ -2,7 +2,7 @@
 ghost use Rattle.std.specs.Prelude.{◌+◌, ◌<◌, ◌&&◌, map, ◌≡◌};
 ghost use Rattle.rules.specs.Limits.{desk};
 ghost use Rattle.rules.specs.Touch.{touch_by, touch_with, touch_reply};
-ghost use Rattle.space.specs.Held.{held};
+ghost use Rattle.space.specs.Lent.{lent};
 ghost use Rattle.elements.specs.Marks.{marked_numbers};
 ghost use Rattle.elements.specs.Touches.{corner_side, with_side, tested_to, nothing_tested, CornerReady, WordTestable, WordTested, CornersReady, TouchReady, FiniteTouched};
 
@@ -168,7 +168,7 @@ pub fn touch(
     h: Hyperplane,
     root: ElementId,
 ) -> Reply<Touched>
-    ensures { result ≡ touch_reply desk h root.0 (held memory.entry) }
+    ensures { result ≡ touch_reply desk h root.0 (lent memory.entry) }
 {
     let mut index = [0u16; INDEX];
     let asked = divider_asked(memory, &mut index, h, root)?;

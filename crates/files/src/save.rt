@@ -3,7 +3,7 @@ ghost use Rattle.std.specs.Prelude.{◌≤◌, true, ◌≡◌, length};
 ghost use Rattle.rules.specs.Limits.{desk};
 ghost use Rattle.rules.specs.Memory.{decode, sound_memory};
 ghost use Rattle.rules.specs.Files.{file_of, save_reply};
-ghost use Rattle.space.specs.Held.{held};
+ghost use Rattle.space.specs.Lent.{lent};
 ghost use Rattle.space.specs.Numbers.{row_width, NumberBelow};
 ghost use Rattle.lent_bytes.specs.Lent.{Put};
 ghost use Rattle.files.specs.Saved.{row_saved, saved, file_size, RowsUsed, SizeReady};
@@ -42,9 +42,9 @@ fn file_size(counts: &[u16], elements: &[u16]) -> usize
 
 // All of it, where the room is long enough.
 fn table(memory: Memory, file: &mut [u8]) -> usize
-    requires is_sound { sound_memory desk (held memory) ≡ true }
-    requires fits_room { length (file_of (decode desk (held memory))) ≤ length file.old }
-    ensures { Put file.old 0 (file_of (decode desk (held memory.entry))) result file.new }
+    requires is_sound { sound_memory desk (lent memory) ≡ true }
+    requires fits_room { length (file_of (decode desk (lent memory))) ≤ length file.old }
+    ensures { Put file.old 0 (file_of (decode desk (lent memory.entry))) result file.new }
 {
     let d = wide(memory.counts[0]);
     let n = wide(memory.counts[1]);
@@ -61,7 +61,7 @@ pub fn save(
     memory: Memory,
     file: &mut [u8],
 ) -> Reply<usize>
-    ensures { (result, file.new) ≡ save_reply desk (held memory.entry) file.old }
+    ensures { (result, file.new) ≡ save_reply desk (lent memory.entry) file.old }
 {
     if !memory_sound(memory) {
         return Err(Refusal::NotSound);

@@ -9,7 +9,7 @@ ghost use Rattle.rules.specs.Lists.{joined};
 ghost use Rattle.rules.specs.Questions.{answer};
 ghost use Rattle.rules.specs.Replies.{listed};
 ghost use Rattle.rules.specs.Print.{print_reply};
-ghost use Rattle.space.specs.Held.{held};
+ghost use Rattle.space.specs.Lent.{lent};
 ghost use Rattle.space.specs.Numbers.{NumberBelow};
 ghost use Rattle.lent_bytes.specs.Lent.{Put};
 ghost use Rattle.walk.specs.Boundaries.{row_boundary};
@@ -79,7 +79,7 @@ pub fn stl(
     root: ElementId,
     file: &mut [u8],
 ) -> Reply<usize>
-    ensures { (result, file.new) ≡ print_reply desk (held memory.entry) root.0 file.old }
+    ensures { (result, file.new) ≡ print_reply desk (lent memory.entry) root.0 file.old }
 {
     let primordial = has_primordial_facet(memory, root)?;
     if wide(memory.counts[0]) != 3 {

@@ -2,7 +2,7 @@
 ghost use Rattle.std.specs.Prelude.{◌≡◌, [], ◌∷◌, ltb, length, get_or};
 ghost use Rattle.rules.specs.Lists.{all};
 ghost use Rattle.space.specs.Chains.{Indexed};
-ghost use Rattle.space.specs.Held.{held};
+ghost use Rattle.space.specs.Lent.{lent};
 ghost use Rattle.soundness.specs.Asked.{asked_of, roots_asked, DividerAsked};
 
 use crate::sound::{memory_indexed, memory_sound};
@@ -56,7 +56,7 @@ pub fn divider_asked(
     root: ElementId,
 ) -> Reply<Asking>
     requires { Indexed memory.elements.now 0 index.old }
-    ensures { DividerAsked (held memory.entry) divider root.0 result index.new }
+    ensures { DividerAsked (lent memory.entry) divider root.0 result index.new }
 {
     if !memory_indexed(memory, index) {
         return Err(Refusal::NotSound);
@@ -66,7 +66,7 @@ pub fn divider_asked(
 
 // Where there is no divider: 3 or 4, or the question goes on.
 pub fn root_asked(memory: Memory, root: ElementId) -> Reply<()>
-    ensures { result ≡ roots_asked (held memory.entry) (root.0 ∷ []) }
+    ensures { result ≡ roots_asked (lent memory.entry) (root.0 ∷ []) }
 {
     if !memory_sound(memory) {
         return Err(Refusal::NotSound);
@@ -90,7 +90,7 @@ fn all_used(roots: &[u16], n: u16) -> bool
 
 // The same for any number of roots.
 pub fn roots_asked(memory: Memory, roots: &[u16]) -> Reply<()>
-    ensures { result ≡ roots_asked (held memory.entry) roots.now }
+    ensures { result ≡ roots_asked (lent memory.entry) roots.now }
 {
     if !memory_sound(memory) {
         return Err(Refusal::NotSound);

@@ -5,7 +5,7 @@ ghost use Rattle.rules.specs.Memory.{sound_memory};
 ghost use Rattle.rules.specs.Replies.{is_sound_reply};
 ghost use Rattle.space.specs.Numbers.{row_width};
 ghost use Rattle.space.specs.Chains.{Indexed};
-ghost use Rattle.space.specs.Held.{held};
+ghost use Rattle.space.specs.Lent.{lent};
 ghost use Rattle.soundness.specs.Words.{blank_words, counts_fit, row_sound, rows_in_use, rows_distinct, rows_sound};
 ghost use Rattle.soundness.specs.Tests.{PartOf, StoredReady, RowTested, RowsReady, RowsTested, MemoryTested};
 
@@ -142,7 +142,7 @@ fn rows_sound(elements: &[u16], d: usize, n: usize, v: usize, h: usize, index: &
 // Lengths and counts come first: the other tests rely on them. The rows that were read are in the index then: all in use where the memory is sound.
 pub fn memory_indexed(memory: Memory, index: &mut [u16]) -> bool
     requires { Indexed memory.elements.now 0 index.old }
-    ensures { MemoryTested (held memory.entry) index.old result index.new }
+    ensures { MemoryTested (lent memory.entry) index.old result index.new }
 {
     if !right_size(memory) {
         return false;
@@ -162,7 +162,7 @@ pub fn memory_indexed(memory: Memory, index: &mut [u16]) -> bool
 
 // The same, where the index is not asked for.
 pub fn memory_sound(memory: Memory) -> bool
-    ensures { result ≡ sound_memory desk (held memory.entry) }
+    ensures { result ≡ sound_memory desk (lent memory.entry) }
 {
     let mut index = [0u16; INDEX];
     memory_indexed(memory, &mut index)
@@ -170,7 +170,7 @@ pub fn memory_sound(memory: Memory) -> bool
 
 // Document 01, `is_sound`: done when the memory is sound, else 3.
 pub fn is_sound(memory: Memory) -> Reply<()>
-    ensures { result ≡ is_sound_reply desk (held memory.entry) }
+    ensures { result ≡ is_sound_reply desk (lent memory.entry) }
 {
     if memory_sound(memory) {
         return Ok(());

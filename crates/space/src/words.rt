@@ -3,7 +3,7 @@ ghost use Rattle.std.specs.Prelude.{◌≡◌};
 ghost use Rattle.rules.specs.Limits.{desk};
 ghost use Rattle.rules.specs.Memory.{right_size};
 ghost use Rattle.space.specs.Numbers.{NumberBelow};
-ghost use Rattle.space.specs.Held.{held};
+ghost use Rattle.space.specs.Lent.{lent};
 
 use crate::memory::Memory;
 
@@ -52,7 +52,7 @@ pub fn wide(x: u16) -> usize
 
 // Whether the four slices are the room of a table.
 pub fn right_size(memory: Memory) -> bool
-    ensures { result ≡ right_size desk (held memory.entry) }
+    ensures { result ≡ right_size desk (lent memory.entry) }
 {
     if memory.counts.len() != COUNTS {
         return false;

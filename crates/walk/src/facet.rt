@@ -3,7 +3,7 @@ ghost use Rattle.std.specs.Prelude.{◌≡◌};
 ghost use Rattle.rules.specs.Limits.{desk};
 ghost use Rattle.rules.specs.Lists.{any};
 ghost use Rattle.rules.specs.Replies.{primordial_facet_reply};
-ghost use Rattle.space.specs.Held.{held};
+ghost use Rattle.space.specs.Lent.{lent};
 ghost use Rattle.walk.specs.Boundaries.{row_boundary, BoundaryFits};
 ghost use Rattle.walk.specs.Facets.{row_primordial};
 
@@ -33,7 +33,7 @@ pub fn has_primordial_facet(
     memory: Memory,
     root: ElementId,
 ) -> Reply<bool>
-    ensures { result ≡ primordial_facet_reply desk (held memory.entry) root.0 }
+    ensures { result ≡ primordial_facet_reply desk (lent memory.entry) root.0 }
 {
     root_asked(memory, root)?;
     if rows::rank_of(memory.elements, root) != wide(memory.counts[0]) {

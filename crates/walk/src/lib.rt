@@ -8,7 +8,7 @@ ghost use Rattle.std.proofs.lemmas.List.Edits.{sets};
 ghost use Rattle.rules.specs.Limits.{desk};
 ghost use Rattle.rules.specs.Questions.{answer};
 ghost use Rattle.rules.specs.Replies.{listed, edges_in_order_reply};
-ghost use Rattle.space.specs.Held.{held};
+ghost use Rattle.space.specs.Lent.{lent};
 ghost use Rattle.space.specs.Ready.{ElementReady};
 ghost use Rattle.walk.specs.Boundaries.{row_boundary, BoundaryFits};
 ghost use Rattle.walk.specs.Walks as words;
@@ -173,7 +173,7 @@ pub fn edges_in_order(
     root: ElementId,
     list: &mut [u16],
 ) -> Reply<usize>
-    ensures { (result, list.new) ≡ edges_in_order_reply desk (held memory.entry) root.0 list.old }
+    ensures { (result, list.new) ≡ edges_in_order_reply desk (lent memory.entry) root.0 list.old }
 {
     root_asked(memory, root)?;
     if rows::rank_of(memory.elements, root) != 2 {
