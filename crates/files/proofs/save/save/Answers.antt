@@ -15,23 +15,23 @@ pub file_size-requires : goal.file_size-requires
 file_size-requires c =
     let is_sound : sound_memory desk (lent c.args.memory) ≡ true =
     sym c.memory_sound.ensures ∙ c.if-not-memory_sound.false in
-    size_ready c.args.memory.counts.now c.args.memory.points.now c.args.memory.planes.now c.args.memory.elements.now is_sound
+    size_ready _ _ _ _ is_sound
 
 pub returns-then-file-file_size : goal.returns-then-file-file_size
 returns-then-file-file_size c =
     let is_sound : sound_memory desk (lent c.args.memory) ≡ true =
     sym c.memory_sound.ensures ∙ c.if-not-memory_sound.false in
-    save_twelve c.args.memory.counts.now c.args.memory.points.now c.args.memory.planes.now c.args.memory.elements.now c.args.file.now is_sound c.file_size.ensures c.if-file-file_size.true
+    save_twelve _ _ _ _ c.args.file.now is_sound c.file_size.ensures c.if-file-file_size.true
 
 pub table-requires : goal.table-requires
 table-requires c =
     let is_sound : sound_memory desk (lent c.args.memory) ≡ true =
     sym c.memory_sound.ensures ∙ c.if-not-memory_sound.false in
-    record { is_sound = is_sound; fits_room = save_fits c.args.memory.counts.now c.args.memory.points.now c.args.memory.planes.now c.args.memory.elements.now c.args.file.now is_sound c.file_size.ensures (search rules) }
+    record { is_sound = is_sound; fits_room = save_fits _ _ _ _ c.args.file.now is_sound c.file_size.ensures (search rules) }
 
 pub returns : goal.returns
 returns c =
     let is_sound : sound_memory desk (lent c.args.memory) ≡ true =
     sym c.memory_sound.ensures ∙ c.if-not-memory_sound.false in
-    save_done c.args.memory.counts.now c.args.memory.points.now c.args.memory.planes.now c.args.memory.elements.now c.args.file.now is_sound
-    (save_fits c.args.memory.counts.now c.args.memory.points.now c.args.memory.planes.now c.args.memory.elements.now c.args.file.now is_sound c.file_size.ensures (search rules)) c.table.ensures
+    save_done _ _ _ _ c.args.file.now is_sound
+    (save_fits _ _ _ _ c.args.file.now is_sound c.file_size.ensures (search rules)) c.table.ensures
