@@ -8,15 +8,16 @@ ghost use Rattle.std.specs.Prelude.{◌≡◌, map, pos, unsigned_abs};
 ghost use Rattle.std.proofs.lemmas.List.Edits.{sets};
 ghost use Rattle.rules.specs.Limits.{desk};
 ghost use Rattle.rules.specs.Lists.{all};
-ghost use Rattle.rules.specs.Held.{memory_of};
 ghost use Rattle.rules.specs.Replies.{listed};
 ghost use Rattle.rules.specs.Areas.{areas_reply};
+ghost use Rattle.space.specs.Lent.{lent};
 ghost use Rattle.areas.specs.Words.{word_area, words_on_grid, word_sheet, sheet_asked, row_is_face, PiecesFit, PiecesUsed, SheetFits, Sized, AreasWritten};
 
 use crate::piece::{is_piece_on_grid, twice_area};
 use rules::{ElementId, Refusal, Reply};
 use soundness::asked::all_used;
 use soundness::sound::memory_sound;
+use space::memory::Memory;
 use space::rows;
 use space::words::wide;
 
@@ -86,29 +87,26 @@ fn sheet_of(points: &[f64], elements: &[u16], pieces: &[u16], areas: &mut [i64])
 
 // 3, 26, 4, 6, 25, 12, each of all pieces before the next; the room gets the areas, their count, and the sum of their sizes.
 pub fn areas(
-    counts: &[u16],
-    points: &[f64],
-    planes: &[f64],
-    elements: &[u16],
+    memory: Memory,
     pieces: &[u16],
     areas: &mut [i64],
 ) -> Reply<usize>
-    ensures { (result, areas.new) ≡ areas_reply desk (memory_of counts.now points.now planes.now elements.now) pieces.now areas.old }
+    ensures { (result, areas.new) ≡ areas_reply desk (lent memory.entry) pieces.now areas.old }
 {
-    if !memory_sound(counts, points, planes, elements) {
+    if !memory_sound(memory) {
         return Err(Refusal::NotSound);
     }
     if MOST_PIECES < pieces.len() {
         return Err(Refusal::ListLong);
     }
-    if !all_used(pieces, counts[1]) {
+    if !all_used(pieces, memory.counts[1]) {
         return Err(Refusal::NotInUse);
     }
-    if counts[0] != 2 {
+    if memory.counts[0] != 2 {
         return Err(Refusal::Rank);
     }
-    if !are_faces(elements, pieces) {
+    if !are_faces(memory.elements, pieces) {
         return Err(Refusal::Rank);
     }
-    sheet_of(points, elements, pieces, areas)
+    sheet_of(memory.points, memory.elements, pieces, areas)
 }

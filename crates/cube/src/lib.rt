@@ -14,6 +14,7 @@ ghost use Rattle.cube.specs.Writing.{CornerPut, PointsPut, FacetPut, PlanesPut, 
 ghost use Rattle.rules.specs.Replies.{cube_reply};
 
 use rules::{ElementId, Hyperplane, HyperplaneId, Refusal, Reply, VertexId};
+use space::memory::Memory;
 use space::words::{AXES, NO_PLANE, PLANE_WIDTH, SET, WIDTH, right_size};
 use space::{memo, rows};
 
@@ -327,7 +328,13 @@ pub fn with_primordial_cube_radius(
     if !radius_fits(radius) {
         return Err(Refusal::Radius);
     }
-    if !right_size(counts, points, planes, elements) {
+    let memory = Memory {
+        counts,
+        points,
+        planes,
+        elements,
+    };
+    if !right_size(memory) {
         return Err(Refusal::NotSound);
     }
     put_cube(counts, points, planes, elements, dimension as usize, radius);

@@ -18,6 +18,7 @@ use rules::{CutParams, ElementAnswer, ElementId, Hyperplane, PolytopeFate, Refus
 use sound::cut_sound;
 use soundness::sound::memory_indexed;
 use space::chains::INDEX;
+use space::memory::Memory;
 
 // 3, and then a cut of a sound memory.
 pub fn cut(
@@ -32,7 +33,13 @@ pub fn cut(
         ≡ cut_reply desk params root.0 (memory_of counts.old points.old planes.old elements.old) }
 {
     let mut index = [0u16; INDEX];
-    if !memory_indexed(counts, points, planes, elements, &mut index) {
+    let memory = Memory {
+        counts,
+        points,
+        planes,
+        elements,
+    };
+    if !memory_indexed(memory, &mut index) {
         return Err(Refusal::NotSound);
     }
     cut_sound(counts, points, planes, elements, &mut index, params, root)

@@ -11,6 +11,7 @@ use hypermath::hyperplane_at;
 use rules::{CutListReply, CutParams, ElementId, HyperplaneId, PolytopeFate, Refusal, Reply};
 use soundness::sound::memory_indexed;
 use space::chains::INDEX;
+use space::memory::Memory;
 use space::words::{PLANE_WIDTH, wide};
 
 // A list has no more cuts.
@@ -119,7 +120,13 @@ pub fn cut_all(
         (memory_of counts.old points.old planes.old elements.old) }
 {
     let mut index = [0u16; INDEX];
-    if !memory_indexed(counts, points, planes, elements, &mut index) {
+    let memory = Memory {
+        counts,
+        points,
+        planes,
+        elements,
+    };
+    if !memory_indexed(memory, &mut index) {
         return CutListReply::Refused(Refusal::NotSound);
     }
     if !list_fits(dividers, kept, roots) {

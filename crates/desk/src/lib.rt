@@ -19,6 +19,7 @@ ghost use Rattle.desk.specs.Words.{number_word, cut_word, cut_list_word, list_wo
 use cut::answers::output_word;
 use elements::{questions, touch};
 use rules::{CutParams, ElementId, Hyperplane};
+use space::memory::Memory;
 use walk::facet;
 use words::{fate, list_word, number, rank_byte, refused, touch_word, written_word};
 
@@ -31,7 +32,13 @@ pub extern "C" fn desk_is_sound(
 ) -> u32
     ensures { result ≡ reply_number (is_sound_reply desk (memory_of counts.now points.now planes.now elements.now)) }
 {
-    number(soundness::sound::is_sound(counts, points, planes, elements))
+    let memory = Memory {
+        counts,
+        points,
+        planes,
+        elements,
+    };
+    number(soundness::sound::is_sound(memory))
 }
 
 #[unsafe(no_mangle)]
@@ -103,10 +110,16 @@ pub extern "C" fn desk_touch(
 ) -> u32
     ensures { result ≡ touch_word (touch_reply desk (divider_with n0 n1 n2 n3 distance) root (memory_of counts.now points.now planes.now elements.now)) }
 {
+    let memory = Memory {
+        counts,
+        points,
+        planes,
+        elements,
+    };
     let normal = [n0, n1, n2, n3];
     let divider = Hyperplane { normal, distance };
     let root = ElementId(root as usize);
-    let reply = touch::touch(counts, points, planes, elements, divider, root);
+    let reply = touch::touch(memory, divider, root);
     touch_word(reply)
 }
 
@@ -143,14 +156,13 @@ pub extern "C" fn desk_subelements_of(
 ) -> u32
     ensures { (result, list.new) ≡ list_word (sub_elements_reply desk (memory_of counts.now points.now planes.now elements.now) root list.old) }
 {
-    let reply = questions::subelements_of(
+    let memory = Memory {
         counts,
         points,
         planes,
         elements,
-        ElementId(root as usize),
-        list,
-    );
+    };
+    let reply = questions::subelements_of(memory, ElementId(root as usize), list);
     list_word(reply)
 }
 
@@ -167,15 +179,13 @@ pub extern "C" fn desk_subelements_with_rank(
     ensures { (result, list.new) ≡ list_word (with_rank_reply desk (memory_of counts.now points.now planes.now elements.now) rank root list.old) }
 {
     let rank = rank_byte(rank);
-    let reply = questions::subelements_with_rank(
+    let memory = Memory {
         counts,
         points,
         planes,
         elements,
-        ElementId(root as usize),
-        rank,
-        list,
-    );
+    };
+    let reply = questions::subelements_with_rank(memory, ElementId(root as usize), rank, list);
     list_word(reply)
 }
 
@@ -190,14 +200,13 @@ pub extern "C" fn desk_vertex_set(
 ) -> u32
     ensures { (result, list.new) ≡ list_word (vertex_set_reply desk (memory_of counts.now points.now planes.now elements.now) root list.old) }
 {
-    let reply = questions::vertex_set(
+    let memory = Memory {
         counts,
         points,
         planes,
         elements,
-        ElementId(root as usize),
-        list,
-    );
+    };
+    let reply = questions::vertex_set(memory, ElementId(root as usize), list);
     list_word(reply)
 }
 
@@ -212,9 +221,13 @@ pub extern "C" fn desk_greatest_common_subelements(
 ) -> u32
     ensures { (result, list.new) ≡ list_word (greatest_common_reply desk (memory_of counts.now points.now planes.now elements.now) roots.now list.old) }
 {
-    let reply = questions::greatest_common_subelements(
-        counts, points, planes, elements, roots, list,
-    );
+    let memory = Memory {
+        counts,
+        points,
+        planes,
+        elements,
+    };
+    let reply = questions::greatest_common_subelements(memory, roots, list);
     list_word(reply)
 }
 
@@ -229,14 +242,13 @@ pub extern "C" fn desk_edges_in_order(
 ) -> u32
     ensures { (result, list.new) ≡ list_word (edges_in_order_reply desk (memory_of counts.now points.now planes.now elements.now) root list.old) }
 {
-    let reply = walk::edges_in_order(
+    let memory = Memory {
         counts,
         points,
         planes,
         elements,
-        ElementId(root as usize),
-        list,
-    );
+    };
+    let reply = walk::edges_in_order(memory, ElementId(root as usize), list);
     list_word(reply)
 }
 
@@ -252,7 +264,13 @@ pub extern "C" fn desk_areas(
 ) -> u32
     ensures { (result, areas.new) ≡ list_word (areas_reply desk (memory_of counts.now points.now planes.now elements.now) pieces.now areas.old) }
 {
-    let reply = areas::areas(counts, points, planes, elements, pieces, areas);
+    let memory = Memory {
+        counts,
+        points,
+        planes,
+        elements,
+    };
+    let reply = areas::areas(memory, pieces, areas);
     list_word(reply)
 }
 
@@ -266,8 +284,14 @@ pub extern "C" fn desk_has_primordial_facet(
 ) -> u32
     ensures { result ≡ facet_word (primordial_facet_reply desk (memory_of counts.now points.now planes.now elements.now) root) }
 {
+    let memory = Memory {
+        counts,
+        points,
+        planes,
+        elements,
+    };
     let root = ElementId(root as usize);
-    let reply = facet::has_primordial_facet(counts, points, planes, elements, root);
+    let reply = facet::has_primordial_facet(memory, root);
     match reply {
         Err(refusal) => refused(refusal),
         Ok(b) => { if b { 0x100 } else { 0 } }
@@ -285,7 +309,13 @@ pub extern "C" fn desk_save(
 ) -> u64
     ensures { (result, file.new) ≡ list_word (save_reply desk (memory_of counts.now points.now planes.now elements.now) file.old) }
 {
-    let reply = files::save::save(counts, points, planes, elements, file);
+    let memory = Memory {
+        counts,
+        points,
+        planes,
+        elements,
+    };
+    let reply = files::save::save(memory, file);
     list_word(reply) as u64
 }
 
@@ -315,13 +345,12 @@ pub extern "C" fn desk_stl(
 ) -> u64
     ensures { (result, file.new) ≡ list_word (print_reply desk (memory_of counts.now points.now planes.now elements.now) root file.old) }
 {
-    let reply = print::stl(
+    let memory = Memory {
         counts,
         points,
         planes,
         elements,
-        ElementId(root as usize),
-        file,
-    );
+    };
+    let reply = print::stl(memory, ElementId(root as usize), file);
     list_word(reply) as u64
 }

@@ -1,8 +1,8 @@
 // Document 02, order 6: where the corners of an element lie to a plane, without a cut.
 ghost use Rattle.std.specs.Prelude.{◌+◌, ◌<◌, ◌&&◌, map, ◌≡◌};
 ghost use Rattle.rules.specs.Limits.{desk};
-ghost use Rattle.rules.specs.Held.{memory_of};
 ghost use Rattle.rules.specs.Touch.{touch_by, touch_with, touch_reply};
+ghost use Rattle.space.specs.Lent.{lent};
 ghost use Rattle.elements.specs.Marks.{marked_numbers};
 ghost use Rattle.elements.specs.Touches.{corner_side, with_side, tested_to, nothing_tested, CornerReady, WordTestable, WordTested, CornersReady, TouchReady, FiniteTouched};
 
@@ -13,6 +13,7 @@ use rules::{ElementId, Hyperplane, Reply, Side, Touch, Touched, VertexId};
 use soundness::asked::{Asking, divider_asked};
 use space::chains::INDEX;
 use space::memo::read_point;
+use space::memory::Memory;
 use space::rows::boundary_at;
 use space::words::wide;
 
@@ -148,20 +149,17 @@ fn untested(answer: Touch) -> Touched
 
 // 3, 4, 5, then rule 1, and the corners. The memory is read only.
 pub fn touch(
-    counts: &[u16],
-    points: &[f64],
-    planes: &[f64],
-    elements: &[u16],
+    memory: Memory,
     h: Hyperplane,
     root: ElementId,
 ) -> Reply<Touched>
-    ensures { result ≡ touch_reply desk h root.0 (memory_of counts.now points.now planes.now elements.now) }
+    ensures { result ≡ touch_reply desk h root.0 (lent memory.entry) }
 {
     let mut index = [0u16; INDEX];
-    let asked = divider_asked(counts, points, planes, elements, &mut index, h, root)?;
+    let asked = divider_asked(memory, &mut index, h, root)?;
     Ok(match asked {
         Asking::AllInside => untested(Touch::InsideOrOn),
         Asking::AllOutside => untested(Touch::OutsideOrOn),
-        Asking::Finite => touch_finite(counts, points, elements, h, root),
+        Asking::Finite => touch_finite(memory.counts, memory.points, memory.elements, h, root),
     })
 }

@@ -8,6 +8,7 @@ use crate::judge::table_sound;
 use crate::layout::laid_out;
 use crate::put::put;
 use rules::{Refusal, Reply};
+use space::memory::Memory;
 use space::words::right_size;
 
 // The file is judged on its bytes, so nothing is written until it is taken.
@@ -24,7 +25,13 @@ pub fn open(
     let Some(laid) = laid_out(file) else {
         return Err(Refusal::Layout);
     };
-    if !right_size(counts, points, planes, elements) {
+    let memory = Memory {
+        counts,
+        points,
+        planes,
+        elements,
+    };
+    if !right_size(memory) {
         return Err(Refusal::NotSound);
     }
     if !table_sound(file, laid) {

@@ -6,6 +6,7 @@ mod print;
 
 use elements::questions;
 use rules::{CutParams, ElementId, Hyperplane, PolytopeFate};
+use space::memory::Memory;
 use space::words::{COUNTS, ELEMENT_WORDS, PLANE_FLOATS, POINT_FLOATS};
 use std::io;
 
@@ -73,6 +74,16 @@ impl Table {
         }
     }
 
+    // What is lent to a question.
+    fn memory(&self) -> Memory<'_> {
+        Memory {
+            counts: &self.counts,
+            points: &self.points,
+            planes: &self.planes,
+            elements: &self.elements,
+        }
+    }
+
     // A cube of radius 1, in place of what there was.
     fn start(&mut self, dimension: u64) {
         let Table {
@@ -110,14 +121,7 @@ impl Table {
     // M9: the greatest common sub-elements of some roots of the table at hand.
     fn common_line(&self, rt: &HostRuntime, roots: &[u16]) -> io::Result<()> {
         let mut list = [0u16; 8];
-        let reply = questions::greatest_common_subelements(
-            &self.counts,
-            &self.points,
-            &self.planes,
-            &self.elements,
-            roots,
-            &mut list,
-        );
+        let reply = questions::greatest_common_subelements(self.memory(), roots, &mut list);
         print::text(rt, b"M9")?;
         print::list_reply(rt, reply, &list)
     }
@@ -125,14 +129,7 @@ impl Table {
     // M10: the edges of an element of the table at hand, in order.
     fn walk_line(&self, rt: &HostRuntime, root: usize) -> io::Result<()> {
         let mut list = [0u16; 8];
-        let reply = walk::edges_in_order(
-            &self.counts,
-            &self.points,
-            &self.planes,
-            &self.elements,
-            ElementId(root),
-            &mut list,
-        );
+        let reply = walk::edges_in_order(self.memory(), ElementId(root), &mut list);
         print::text(rt, b"M10")?;
         print::list_reply(rt, reply, &list)
     }

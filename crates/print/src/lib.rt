@@ -6,10 +6,10 @@ mod triangles;
 ghost use Rattle.std.specs.Prelude.{map, ◌≡◌};
 ghost use Rattle.rules.specs.Limits.{desk};
 ghost use Rattle.rules.specs.Lists.{joined};
-ghost use Rattle.rules.specs.Held.{memory_of};
 ghost use Rattle.rules.specs.Questions.{answer};
 ghost use Rattle.rules.specs.Replies.{listed};
 ghost use Rattle.rules.specs.Print.{print_reply};
+ghost use Rattle.space.specs.Lent.{lent};
 ghost use Rattle.space.specs.Numbers.{NumberBelow};
 ghost use Rattle.lent_bytes.specs.Lent.{Put};
 ghost use Rattle.walk.specs.Boundaries.{row_boundary};
@@ -17,6 +17,7 @@ ghost use Rattle.print.specs.Pieces.{face_in, count_in, file_in, FacesReady, Sol
 
 use lent_bytes::write;
 use rules::{ElementId, Refusal, Reply};
+use space::memory::Memory;
 use space::rows;
 use space::words::wide;
 use triangles::face;
@@ -74,21 +75,18 @@ fn solid(points: &[f64], elements: &[u16], root: ElementId, file: &mut [u8]) -> 
 
 // The print file of a piece at the front of the room.
 pub fn stl(
-    counts: &[u16],
-    points: &[f64],
-    planes: &[f64],
-    elements: &[u16],
+    memory: Memory,
     root: ElementId,
     file: &mut [u8],
 ) -> Reply<usize>
-    ensures { (result, file.new) ≡ print_reply desk (memory_of counts.now points.now planes.now elements.now) root.0 file.old }
+    ensures { (result, file.new) ≡ print_reply desk (lent memory.entry) root.0 file.old }
 {
-    let primordial = has_primordial_facet(counts, points, planes, elements, root)?;
-    if wide(counts[0]) != 3 {
+    let primordial = has_primordial_facet(memory, root)?;
+    if wide(memory.counts[0]) != 3 {
         return Err(Refusal::Rank);
     }
     if primordial {
         return Err(Refusal::PrimordialFacet);
     }
-    solid(points, elements, root, file)
+    solid(memory.points, memory.elements, root, file)
 }

@@ -5,7 +5,6 @@ use Rattle.rules.specs.Limits.{desk}
 use Rattle.rules.specs.Lists.{all}
 use Rattle.rules.specs.Table.{element_count}
 use Rattle.rules.specs.Memory.{Memory, decode, sound_memory}
-use Rattle.rules.specs.Held.{memory_of}
 use Rattle.rules.specs.Replies.{divider_fits}
 use Rattle.rules.specs.declared.Hyperplane.{Hyperplane}
 use Rattle.space.specs.Chains.{Indexed}
@@ -35,9 +34,9 @@ unfoldable pub asked : Memory → Hyperplane → ℕ → Reply Asking
 asked m h root = let t = decode desk m in if not (sound_memory desk m) then Err NotSound else asked_of t.dimension (element_count t) h root
 
 -- the answer, and the index of a sound memory
-pub record DividerAsked (cs : List ℕ) (ps hs : List Float) (es : List ℕ) (h : Hyperplane) (root : ℕ) (reply : Reply Asking) (index' : List ℕ) : Type 0 where
-  pub told : reply ≡ asked (memory_of cs ps hs es) h root
-  pub indexed : sound_memory desk (memory_of cs ps hs es) ≡ true → Indexed es (get_or cs 1 0) index'
+pub record DividerAsked (m : Memory) (h : Hyperplane) (root : ℕ) (reply : Reply Asking) (index' : List ℕ) : Type 0 where
+  pub told : reply ≡ asked m h root
+  pub indexed : sound_memory desk m ≡ true → Indexed m.elements (get_or m.counts 1 0) index'
 
 -- ---- some roots
 

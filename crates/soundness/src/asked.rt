@@ -1,13 +1,14 @@
 // What every entry point asks first, in the old order: 3, a memory that is not sound; 4, a number that is no element's; 5, a divider that does not fit.
 ghost use Rattle.std.specs.Prelude.{◌≡◌, [], ◌∷◌, ltb, length, get_or};
 ghost use Rattle.rules.specs.Lists.{all};
-ghost use Rattle.rules.specs.Held.{memory_of};
 ghost use Rattle.space.specs.Chains.{Indexed};
+ghost use Rattle.space.specs.Lent.{lent};
 ghost use Rattle.soundness.specs.Asked.{asked_of, roots_asked, DividerAsked};
 
 use crate::sound::{memory_indexed, memory_sound};
 use hypermath::{DistanceKind, distance_kind, is_unit};
 use rules::{ElementId, Hyperplane, Refusal, Reply};
+use space::memory::Memory;
 use space::words::wide;
 
 // What a root and a divider that are not refused are told: all on one side by rule 1, or a plane to be tested against.
@@ -49,37 +50,28 @@ pub fn sound_asked(counts: &[u16], divider: Hyperplane, root: ElementId) -> Repl
 
 // 3, then 4, then 5. From an empty index to that of the memory, where it is sound.
 pub fn divider_asked(
-    counts: &[u16],
-    points: &[f64],
-    planes: &[f64],
-    elements: &[u16],
+    memory: Memory,
     index: &mut [u16],
     divider: Hyperplane,
     root: ElementId,
 ) -> Reply<Asking>
-    requires { Indexed elements.now 0 index.old }
-    ensures { DividerAsked counts.now points.now planes.now elements.now divider root.0 result index.new }
+    requires { Indexed memory.elements.now 0 index.old }
+    ensures { DividerAsked (lent memory.entry) divider root.0 result index.new }
 {
-    if !memory_indexed(counts, points, planes, elements, index) {
+    if !memory_indexed(memory, index) {
         return Err(Refusal::NotSound);
     }
-    sound_asked(counts, divider, root)
+    sound_asked(memory.counts, divider, root)
 }
 
 // Where there is no divider: 3 or 4, or the question goes on.
-pub fn root_asked(
-    counts: &[u16],
-    points: &[f64],
-    planes: &[f64],
-    elements: &[u16],
-    root: ElementId,
-) -> Reply<()>
-    ensures { result ≡ roots_asked (memory_of counts.now points.now planes.now elements.now) (root.0 ∷ []) }
+pub fn root_asked(memory: Memory, root: ElementId) -> Reply<()>
+    ensures { result ≡ roots_asked (lent memory.entry) (root.0 ∷ []) }
 {
-    if !memory_sound(counts, points, planes, elements) {
+    if !memory_sound(memory) {
         return Err(Refusal::NotSound);
     }
-    if !in_use(counts, root) {
+    if !in_use(memory.counts, root) {
         return Err(Refusal::NotInUse);
     }
     Ok(())
@@ -93,19 +85,13 @@ pub fn all_used(roots: &[u16], n: u16) -> bool
 }
 
 // The same for any number of roots.
-pub fn roots_asked(
-    counts: &[u16],
-    points: &[f64],
-    planes: &[f64],
-    elements: &[u16],
-    roots: &[u16],
-) -> Reply<()>
-    ensures { result ≡ roots_asked (memory_of counts.now points.now planes.now elements.now) roots.now }
+pub fn roots_asked(memory: Memory, roots: &[u16]) -> Reply<()>
+    ensures { result ≡ roots_asked (lent memory.entry) roots.now }
 {
-    if !memory_sound(counts, points, planes, elements) {
+    if !memory_sound(memory) {
         return Err(Refusal::NotSound);
     }
-    if !all_used(roots, counts[1]) {
+    if !all_used(roots, memory.counts[1]) {
         return Err(Refusal::NotInUse);
     }
     Ok(())

@@ -2,10 +2,10 @@
 ghost use Rattle.std.specs.Prelude.{◌*◌, ◌≡◌, ◌&&◌, length, take, drop};
 ghost use Rattle.rules.specs.Limits.{desk};
 ghost use Rattle.rules.specs.Memory.{sound_memory};
-ghost use Rattle.rules.specs.Held.{memory_of};
 ghost use Rattle.rules.specs.Replies.{is_sound_reply};
 ghost use Rattle.space.specs.Numbers.{row_width};
 ghost use Rattle.space.specs.Chains.{Indexed};
+ghost use Rattle.space.specs.Lent.{lent};
 ghost use Rattle.soundness.specs.Words.{blank_words, counts_fit, row_sound, rows_in_use, rows_distinct, rows_sound};
 ghost use Rattle.soundness.specs.Tests.{PartOf, StoredReady, RowTested, RowsReady, RowsTested, MemoryTested};
 
@@ -14,6 +14,7 @@ use crate::floats::floats_sound;
 use crate::row::{HEAD, MASK, Spacing, one_if_corner, past_mask, row_sound};
 use rules::{ElementId, Refusal, Reply, VertexId};
 use space::chains::INDEX;
+use space::memory::Memory;
 use space::words::{
     AXES, BOUNDARY, ELEMENT_WORDS, ELEMENTS, HYPERPLANES, VERTICES, WIDTH, right_size, wide,
 };
@@ -124,45 +125,39 @@ fn rows_sound(elements: &[u16], d: usize, n: usize, v: usize, h: usize, index: &
 }
 
 // Lengths and counts come first: the other tests rely on them. The rows that were read are in the index then: all in use where the memory is sound.
-pub fn memory_indexed(
-    counts: &[u16],
-    points: &[f64],
-    planes: &[f64],
-    elements: &[u16],
-    index: &mut [u16],
-) -> bool
-    requires { Indexed elements.now 0 index.old }
-    ensures { MemoryTested counts.now points.now planes.now elements.now index.old result index.new }
+pub fn memory_indexed(memory: Memory, index: &mut [u16]) -> bool
+    requires { Indexed memory.elements.now 0 index.old }
+    ensures { MemoryTested (lent memory.entry) index.old result index.new }
 {
-    if !right_size(counts, points, planes, elements) {
+    if !right_size(memory) {
         return false;
     }
-    let d = wide(counts[0]);
-    let n = wide(counts[1]);
-    let v = wide(counts[2]);
-    let h = wide(counts[3]);
+    let d = wide(memory.counts[0]);
+    let n = wide(memory.counts[1]);
+    let v = wide(memory.counts[2]);
+    let h = wide(memory.counts[3]);
     if !counts_fit(d, n, v, h) {
         return false;
     }
-    if !floats_sound(points, planes, d, v, h) {
+    if !floats_sound(memory.points, memory.planes, d, v, h) {
         return false;
     }
-    rows_sound(elements, d, n, v, h, index)
+    rows_sound(memory.elements, d, n, v, h, index)
 }
 
 // The same, where the index is not asked for.
-pub fn memory_sound(counts: &[u16], points: &[f64], planes: &[f64], elements: &[u16]) -> bool
-    ensures { result ≡ sound_memory desk (memory_of counts.now points.now planes.now elements.now) }
+pub fn memory_sound(memory: Memory) -> bool
+    ensures { result ≡ sound_memory desk (lent memory.entry) }
 {
     let mut index = [0u16; INDEX];
-    memory_indexed(counts, points, planes, elements, &mut index)
+    memory_indexed(memory, &mut index)
 }
 
 // Document 01, `is_sound`: done when the memory is sound, else 3.
-pub fn is_sound(counts: &[u16], points: &[f64], planes: &[f64], elements: &[u16]) -> Reply<()>
-    ensures { result ≡ is_sound_reply desk (memory_of counts.now points.now planes.now elements.now) }
+pub fn is_sound(memory: Memory) -> Reply<()>
+    ensures { result ≡ is_sound_reply desk (lent memory.entry) }
 {
-    if memory_sound(counts, points, planes, elements) {
+    if memory_sound(memory) {
         return Ok(());
     }
     Err(Refusal::NotSound)

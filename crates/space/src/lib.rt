@@ -6,6 +6,7 @@ pub mod chains;
 pub mod closed;
 pub mod corner_words;
 pub mod memo;
+pub mod memory;
 pub mod restore;
 pub mod rows;
 pub mod words;

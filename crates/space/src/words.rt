@@ -2,8 +2,10 @@
 ghost use Rattle.std.specs.Prelude.{◌≡◌};
 ghost use Rattle.rules.specs.Limits.{desk};
 ghost use Rattle.rules.specs.Memory.{right_size};
-ghost use Rattle.rules.specs.Held.{memory_of};
 ghost use Rattle.space.specs.Numbers.{NumberBelow};
+ghost use Rattle.space.specs.Lent.{lent};
+
+use crate::memory::Memory;
 
 // Room for so many vertices, elements and hyperplanes.
 pub const VERTICES: usize = 256;
@@ -49,9 +51,15 @@ pub fn wide(x: u16) -> usize
 }
 
 // Whether the four slices are the room of a table.
-pub fn right_size(counts: &[u16], points: &[f64], planes: &[f64], elements: &[u16]) -> bool
-    ensures { result ≡ right_size desk (memory_of counts.now points.now planes.now elements.now) }
+pub fn right_size(memory: Memory) -> bool
+    ensures { result ≡ right_size desk (lent memory.entry) }
 {
+    let Memory {
+        counts,
+        points,
+        planes,
+        elements,
+    } = memory;
     counts.len() == COUNTS
         && points.len() == POINT_FLOATS
         && planes.len() == PLANE_FLOATS

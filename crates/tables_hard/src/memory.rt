@@ -132,12 +132,12 @@ impl Memory {
 
     // The soundness test of slices of these lengths.
     pub fn soundness(&self, lengths: Lengths) -> Reply<()> {
-        soundness::sound::is_sound(
-            lent(&self.counts, lengths.counts),
-            lent(&self.points, lengths.points),
-            lent(&self.planes, lengths.planes),
-            lent(&self.elements, lengths.elements),
-        )
+        soundness::sound::is_sound(space::memory::Memory {
+            counts: lent(&self.counts, lengths.counts),
+            points: lent(&self.points, lengths.points),
+            planes: lent(&self.planes, lengths.planes),
+            elements: lent(&self.elements, lengths.elements),
+        })
     }
 }
 

@@ -6,15 +6,16 @@ pub mod facet;
 ghost use Rattle.std.specs.Prelude.{◌+◌, ◌*◌, ◌≡◌, not, ◌&&◌, eqb, get_or};
 ghost use Rattle.std.proofs.lemmas.List.Edits.{sets};
 ghost use Rattle.rules.specs.Limits.{desk};
-ghost use Rattle.rules.specs.Held.{memory_of};
 ghost use Rattle.rules.specs.Questions.{answer};
 ghost use Rattle.rules.specs.Replies.{listed, edges_in_order_reply};
+ghost use Rattle.space.specs.Lent.{lent};
 ghost use Rattle.space.specs.Ready.{ElementReady};
 ghost use Rattle.walk.specs.Boundaries.{row_boundary, BoundaryFits};
 ghost use Rattle.walk.specs.Walks.{has_end, end_across, edge_beside, lowest_end, no_edge, first_way, numbers_round, words_in_order, EndReady, VertexOf, FaceFits, ListFits, WalkFits};
 
 use rules::{ElementId, Refusal, Reply, VertexId};
 use soundness::asked::root_asked;
+use space::memory::Memory;
 use space::rows;
 use space::words::{WIDTH, wide};
 
@@ -160,18 +161,15 @@ pub fn face_in_order(elements: &[u16], f: ElementId, list: &mut [u16]) -> Reply<
 
 // 3, 4, 6, and 12 last.
 pub fn edges_in_order(
-    counts: &[u16],
-    points: &[f64],
-    planes: &[f64],
-    elements: &[u16],
+    memory: Memory,
     root: ElementId,
     list: &mut [u16],
 ) -> Reply<usize>
-    ensures { (result, list.new) ≡ edges_in_order_reply desk (memory_of counts.now points.now planes.now elements.now) root.0 list.old }
+    ensures { (result, list.new) ≡ edges_in_order_reply desk (lent memory.entry) root.0 list.old }
 {
-    root_asked(counts, points, planes, elements, root)?;
-    if rows::rank_of(elements, root) != 2 {
+    root_asked(memory, root)?;
+    if rows::rank_of(memory.elements, root) != 2 {
         return Err(Refusal::Rank);
     }
-    face_in_order(elements, root, list)
+    face_in_order(memory.elements, root, list)
 }

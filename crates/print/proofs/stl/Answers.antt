@@ -4,8 +4,8 @@ use native.Mathlib.Omega.{arith}
 use Rattle.print.proofs.Tests.{refused, known, four_counts, not_solid, has_facet, solid_asked, printed_solid}
 use Rattle.print.proofs.stl.Goals as goal
 
-pub bounds-counts-0 : goal.bounds-counts-0
-bounds-counts-0 c = omega (arith, four_counts _ _ _ _ _ (known _ _ _ _ _ _ _ c.has_primordial_facet.ensures c.in_ok-primordial.was))
+pub bounds-memory-0 : goal.bounds-memory-0
+bounds-memory-0 c = omega (arith, four_counts _ _ _ _ _ (known _ _ _ _ _ _ _ c.has_primordial_facet.ensures c.in_ok-primordial.was))
 
 pub returns-then-wide-ne3 : goal.returns-then-wide-ne3
 returns-then-wide-ne3 c = not_solid _ _ _ _ _ (known _ _ _ _ _ _ _ c.has_primordial_facet.ensures c.in_ok-primordial.was) _ c.wide.ensures.value _ c.if-wide-ne3.true

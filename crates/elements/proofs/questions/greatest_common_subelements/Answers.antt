@@ -23,7 +23,7 @@ returns-then-is_empty c = roots_answered _ _ _ _ _ _ c.roots_asked.ensures c.arg
 
 pub rank_of-rank-requires : goal.rank_of-rank-requires
 rank_of-rank-requires c =
-    let used : AllUsed c.args.elements.now c.args.roots.now =
+    let used : AllUsed c.args.memory.elements.now c.args.roots.now =
     roots_used _ _ _ _ c.args.roots.now _ c.roots_asked.ensures c.in_ok-roots_asked.was in
     let w = used in
     record {
@@ -33,31 +33,31 @@ rank_of-rank-requires c =
 
 pub all_of_rank-requires : goal.all_of_rank-requires
 all_of_rank-requires c =
-    let used : AllUsed c.args.elements.now c.args.roots.now =
+    let used : AllUsed c.args.memory.elements.now c.args.roots.now =
     roots_used _ _ _ _ c.args.roots.now _ c.roots_asked.ensures c.in_ok-roots_asked.was in
     used
 
 pub returns-then-not-all_of_rank : goal.returns-then-not-all_of_rank
-returns-then-not-all_of_rank c = let rank = c.rank_of-rank.ensures ∙ ap (λ (x : ℕ). get_or c.args.elements.now (x * 36) 0) c.wide.ensures.value in
+returns-then-not-all_of_rank c = let rank = c.rank_of-rank.ensures ∙ ap (λ (x : ℕ). get_or c.args.memory.elements.now (x * 36) 0) c.wide.ensures.value in
     let same = sym c.all_of_rank.ensures ∙ c.if-not-all_of_rank.true in
     roots_answered _ _ _ _ c.args.roots.now _ c.roots_asked.ensures c.args.list.now c.in_ok-roots_asked.was (no_answer Rank) _ refl
     (λ t l u. unlike_roots _ t l _ c.args.roots.now u rank same)
 
 pub common-s-requires : goal.common-s-requires
 common-s-requires c =
-    let used : AllUsed c.args.elements.now c.args.roots.now =
+    let used : AllUsed c.args.memory.elements.now c.args.roots.now =
     roots_used _ _ _ _ c.args.roots.now _ c.roots_asked.ensures c.in_ok-roots_asked.was in
     record { every = used; some = pos_of_ne-zero (unlike_eq _ 0 (sym c.is_empty.ensures ∙ c.if-is_empty.false)) }
 
 pub greatest-some-requires : goal.greatest-some-requires
 greatest-some-requires c =
-    let used : AllUsed c.args.elements.now c.args.roots.now =
+    let used : AllUsed c.args.memory.elements.now c.args.roots.now =
     roots_used _ _ _ _ c.args.roots.now _ c.roots_asked.ensures c.in_ok-roots_asked.was in
     lent_long _ _ used.lent
 
 pub returns : goal.returns
 returns c = let some = pos_of_ne-zero (unlike_eq _ 0 (sym c.is_empty.ensures ∙ c.if-is_empty.false)) in
-    let rank = c.rank_of-rank.ensures ∙ ap (λ (x : ℕ). get_or c.args.elements.now (x * 36) 0) c.wide.ensures.value in
+    let rank = c.rank_of-rank.ensures ∙ ap (λ (x : ℕ). get_or c.args.memory.elements.now (x * 36) 0) c.wide.ensures.value in
     let same = sym c.all_of_rank.ensures ∙ c.if-not-all_of_rank.false in
     let numbers = marked_numbers c.greatest-some.result.words in
     roots_answered _ _ _ _ c.args.roots.now _ c.roots_asked.ensures c.args.list.now c.in_ok-roots_asked.was (answer numbers) _ c.list_marks.ensures

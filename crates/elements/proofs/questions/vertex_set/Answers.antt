@@ -19,6 +19,6 @@ pub list_vertices-requires : goal.list_vertices-requires
 list_vertices-requires c = lent_long _ _ (root_used _ _ _ _ _ _ c.root_asked.ensures c.in_ok-root_asked.was).lent
 
 pub returns : goal.returns
-returns c = let names = map (vertex_word c.args.elements.now) (marked_numbers c.level-corners.result.words) in
+returns c = let names = map (vertex_word c.args.memory.elements.now) (marked_numbers c.level-corners.result.words) in
     root_answered _ _ _ _ _ _ c.root_asked.ensures c.in_ok-root_asked.was vertices _ names _ c.list_vertices.ensures
     (λ t l u. vertices_named _ t l _ u _ c.level-corners.ensures)

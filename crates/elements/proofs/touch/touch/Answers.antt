@@ -10,7 +10,7 @@ pub divider_asked-requires : goal.divider_asked-requires
 divider_asked-requires c = index_blank _
 
 pub touch_finite-requires : goal.touch_finite-requires
-touch_finite-requires c = touch_ready c.args.h _ _ _ c.args.planes.now _ (sym (c.in_ok-asked.was ∙ ap Ok c.in-Finite.is) ∙ c.divider_asked.ensures.told)
+touch_finite-requires c = touch_ready c.args.h _ _ _ c.args.memory.planes.now _ (sym (c.in_ok-asked.was ∙ ap Ok c.in-Finite.is) ∙ c.divider_asked.ensures.told)
 
 pub returns-in_err-asked : goal.returns-in_err-asked
 returns-in_err-asked c = let x = err_from_is_err_and c.from_residual.result c.from_residual.ensures.1 in

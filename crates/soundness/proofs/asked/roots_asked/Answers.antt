@@ -7,8 +7,8 @@ use Rattle.soundness.proofs.asked.roots_asked.Goals as goal
 pub returns-then-not-memory_sound : goal.returns-then-not-memory_sound
 returns-then-not-memory_sound c = three _ _ _ _ _ (sym c.memory_sound.ensures ∙ c.if-not-memory_sound.true)
 
-pub bounds-counts-1 : goal.bounds-counts-1
-bounds-counts-1 c = let l = counts_long _ _ _ _ (sym c.memory_sound.ensures ∙ c.if-not-memory_sound.false) in
+pub bounds-memory-1 : goal.bounds-memory-1
+bounds-memory-1 c = let l = counts_long _ _ _ _ (sym c.memory_sound.ensures ∙ c.if-not-memory_sound.false) in
     omega (arith, l)
 
 pub returns-then-not-all_used : goal.returns-then-not-all_used

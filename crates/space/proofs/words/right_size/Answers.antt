@@ -11,4 +11,4 @@ returns-then-planes-eq-PLANE_FLOATS c = let p = c.if-planes-eq-PLANE_FLOATS.true
     size_of _ _ _ _ true true true _ (test_eq _ 4 p.0) (test_eq _ 1024 p.1) (test_eq _ 320 p.2) refl
 
 pub returns-else-planes-eq-PLANE_FLOATS : goal.returns-else-planes-eq-PLANE_FLOATS
-returns-else-planes-eq-PLANE_FLOATS c = search rules ∙ size_not c.args.counts.now c.args.points.now c.args.planes.now c.args.elements.now c.if-planes-eq-PLANE_FLOATS.either
+returns-else-planes-eq-PLANE_FLOATS c = search rules ∙ size_not _ _ _ _ c.if-planes-eq-PLANE_FLOATS.either

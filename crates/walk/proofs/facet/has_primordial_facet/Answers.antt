@@ -12,8 +12,8 @@ returns-in_err-root_asked c = let x = err_from_is_err_and c.from_residual.result
 pub rank_of-requires : goal.rank_of-requires
 rank_of-requires c = rank_asked _ _ _ _ _ _ c.root_asked.ensures c.in_ok-root_asked.was
 
-pub bounds-counts-0 : goal.bounds-counts-0
-bounds-counts-0 c = omega (arith, counts_four _ _ _ _ _ _ c.root_asked.ensures c.in_ok-root_asked.was)
+pub bounds-memory-0 : goal.bounds-memory-0
+bounds-memory-0 c = omega (arith, counts_four _ _ _ _ _ _ c.root_asked.ensures c.in_ok-root_asked.was)
 
 pub returns-then-rank_of-wide : goal.returns-then-rank_of-wide
 returns-then-rank_of-wide c = another_rank _ _ _ _ _ _ c.root_asked.ensures c.in_ok-root_asked.was _ _ c.rank_of.ensures c.wide.ensures.value c.if-rank_of-wide.true
