@@ -21,6 +21,7 @@ use Rattle.rules.proofs.Stays.{rank_above}
 use Rattle.space.specs.Ready.{PolytopeReady}
 use Rattle.space.specs.Chains.{Indexed}
 use Rattle.space.specs.Closed.{Low, LowEnds}
+use Rattle.space.proofs.RowMade.{taken, front_low, front_ends}
 use Rattle.space.specs.Shared.{PolytopeAdded}
 use Rattle.space.proofs.VertexMemo.{dimension_is}
 use Rattle.space.proofs.Slices.{slices}
@@ -42,7 +43,7 @@ module _ {cs es : List ℕ} {r : ℕ} {k : Cutter} {set : List ℕ} where
   plane_asks R = record { counts = (slices R.fit.holds).counts; room = le_trans R.fit.plane R.fit.holds.fits.plane_room }
 
   -- n is the size of the set, as it was read
-  pub intersection_asks : {ix : List ℕ} → IntersectionReady cs es ix r k set → (n : ℕ) → n ≡ size_in set → PolytopeReady cs es ix (r - 1) set n
+  pub intersection_asks : {ix : List ℕ} → IntersectionReady cs es ix r k set → (n : ℕ) → n ≡ size_in set → PolytopeReady cs es ix (r - 1) (take n set)
   intersection_asks R n size =
       let F = R.fit in
       let t = R.table in
@@ -50,18 +51,19 @@ module _ {cs es : List ℕ} {r : ℕ} {k : Cutter} {set : List ℕ} where
       let long = F.sized.long in
       let low = F.low in
       let four = le_test t.dimension 4 (sound_good desk t F.sound).high in
+      let fit : n ≤ length set = omega (arith, size, most, long) in
+      let whole = taken set n fit in
       record {
         counts = (slices F.holds).counts;
         elements = (slices F.holds).elements;
         room = (slices F.holds).elements_fit;
-        words = F.sized.long;
-        size = (let q : n ≤ 33 = omega (arith, size, most) in q);
+        size = omega (arith, whole, size, most);
         rank = (let q : r - 1 < 65536 = omega (arith, low, four) in q);
-        low = subst (Low set) (sym size) (low_of t F.holds.fits.element_room (r - 1) set F.sets.ranked);
+        low = front_low set n fit (subst (Low set) (sym size) (low_of t F.holds.fits.element_room (r - 1) set F.sets.ranked));
         edges = (λ two.
-            subst (LowEnds es set) (sym size)
+            front_ends set n fit (subst (LowEnds es set) (sym size)
             (ends_low t F.holds.fits (sound_good desk t F.sound) es F.holds.elements set (let q : size_in set ≤ length set = omega (arith, most, long) in q) F.sets.rising
-            (subst (λ (m : ℕ). AllOf (Ranked t m) (numbers_in set)) two F.sets.ranked)));
+            (subst (λ (m : ℕ). AllOf (Ranked t m) (numbers_in set)) two F.sets.ranked))));
         index = R.indexed;
       }
 

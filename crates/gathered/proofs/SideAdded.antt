@@ -26,6 +26,7 @@ use Rattle.rules.proofs.RoundTrip.{plane_back}
 use Rattle.space.specs.Ready.{ElementReady, PolytopeReady}
 use Rattle.space.specs.Chains.{Indexed}
 use Rattle.space.specs.Closed.{Low, LowEnds, Edges}
+use Rattle.space.proofs.RowMade.{taken, front_low, front_ends}
 use Rattle.space.specs.Shared.{PolytopeAdded}
 use Rattle.space.proofs.Room.{size_of, list_of, plane_word, mark_word, size_word_lem, list_word_lem}
 use Rattle.space.proofs.RowAdds.{readable_desk}
@@ -63,7 +64,7 @@ module _ {cs es : List ℕ} {r e : ℕ} {set : List ℕ} {x : Option ElementId} 
   set_with {t = t} F = set_including t r x (numbers_in set) F.intersection F.sets
 
   -- n is the size of the set, as it was read
-  pub side_asks : {ix : List ℕ} → SideReady cs es ix r e set x → (all : List ℕ) → Included set x all → (n : ℕ) → n ≡ size_in all → PolytopeReady cs es ix r all n
+  pub side_asks : {ix : List ℕ} → SideReady cs es ix r e set x → (all : List ℕ) → Included set x all → (n : ℕ) → n ≡ size_in all → PolytopeReady cs es ix r (take n all)
   side_asks R all I n size =
       let F = R.fit in
       let t = R.table in
@@ -73,18 +74,19 @@ module _ {cs es : List ℕ} {r e : ℕ} {set : List ℕ} {x : Option ElementId} 
       let g = sound_good desk t F.sound in
       let low = rank_low t e r g F.used F.ranked F.some in
       let four = le_test t.dimension 4 g.high in
+      let fit : n ≤ length all = omega (arith, size, most, long) in
+      let whole = taken all n fit in
       record {
         counts = (slices F.holds).counts;
         elements = (slices F.holds).elements;
         room = (slices F.holds).elements_fit;
-        words = z.long;
-        size = (let q : n ≤ 33 = omega (arith, size, most) in q);
+        size = omega (arith, whole, size, most);
         rank = (let q : r < 65536 = omega (arith, low, four) in q);
-        low = subst (Low all) (sym size) (low_of t F.holds.fits.element_room r all (subst (AllOf (Ranked t r)) (sym I.of) (set_with F).ranked));
+        low = front_low all n fit (subst (Low all) (sym size) (low_of t F.holds.fits.element_room r all (subst (AllOf (Ranked t r)) (sym I.of) (set_with F).ranked)));
         edges = (λ two.
-            subst (LowEnds es all) (sym size)
+            front_ends all n fit (subst (LowEnds es all) (sym size)
             (ends_low t F.holds.fits g es F.holds.elements all (let q : size_in all ≤ length all = omega (arith, most, long) in q) (subst (λ (ys : List ℕ). rises ys ≡ true) (sym I.of) (set_with F).rising)
-            (subst (λ (m : ℕ). AllOf (Ranked t m) (numbers_in all)) two (subst (AllOf (Ranked t r)) (sym I.of) (set_with F).ranked))));
+            (subst (λ (m : ℕ). AllOf (Ranked t m) (numbers_in all)) two (subst (AllOf (Ranked t r)) (sym I.of) (set_with F).ranked)))));
         index = R.indexed;
       }
 

@@ -47,7 +47,7 @@ fn new_intersection(
     let number = k.number;
     let plane = plane_of_intersection(counts, rank, number);
     let n = wide(set[SIZE]);
-    memo::add_polytope(counts, elements, index, rank - 1, set, n, plane, false)
+    memo::add_polytope(counts, elements, index, rank - 1, &set[..n], plane, false)
 }
 
 // Whether the first n numbers of a set are the boundary that element e has already.
@@ -92,7 +92,7 @@ fn side_of_cut(
     if is_own(elements, e, set, n) {
         return Ok(Some(e));
     }
-    memo::add_polytope(counts, elements, index, rank, set, n, plane, mark)
+    memo::add_polytope(counts, elements, index, rank, &set[..n], plane, mark)
 }
 
 // The intersection is known: then inside, then outside.
