@@ -121,12 +121,12 @@ fn cube_row(d: usize, e: ElementId, v: VertexId, h: HyperplaneId) -> [u16; 36]
         return memo::corner_row(v);
     }
     let f = faces_of(d, number);
-    let list = f.list;
+    let list = &f.list[..f.n];
     let rank = f.n / 2;
     if is_facet(d, number) {
-        return rows::polytope_row(rank, &list, f.n, h.0 as u16, true);
+        return rows::polytope_row(rank, list, h.0 as u16, true);
     }
-    rows::polytope_row(rank, &list, f.n, NO_PLANE, false)
+    rows::polytope_row(rank, list, NO_PLANE, false)
 }
 
 // A corner's coordinate: the digit tells which end.

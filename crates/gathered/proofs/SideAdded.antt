@@ -1,13 +1,13 @@
 -- A side's set with the intersection, added with the old rank, hyperplane and mark: the call of rule 8 is the step of the rules.
 -- A side that is the element's own boundary needs no call: the step gives the element itself.
 use Prim.Native.Nat.{ℕ, ◌+◌, ◌*◌, ◌≤◌, ◌<◌}
-use mathlib.Core.Path.{◌≡◌, refl, sym, ap, ap₂, ◌∙◌, subst}
+use mathlib.Core.Path.{◌≡◌, refl, sym, ap, ◌∙◌, subst}
 use mathlib.Core.Bool.{Bool, true, false, not, ◌&&◌}
 use mathlib.Core.List.{List}
 use native.Mathlib.Nat.{le_trans}
 use native.Mathlib.Omega.{arith}
 use lib.Dec.{leb, eqb, lit≤}
-use lib.ListN.{length, get_or, take}
+use lib.ListN.{length, get_or}
 use lib.Seq.{ext_get_or}
 use lib.Ieee.{Float}
 use Rattle.rules.specs.Limits.{desk, no_plane}
@@ -26,6 +26,7 @@ use Rattle.rules.proofs.RoundTrip.{plane_back}
 use Rattle.space.specs.Ready.{ElementReady, PolytopeReady}
 use Rattle.space.specs.Chains.{Indexed}
 use Rattle.space.specs.Closed.{Low, LowEnds, Edges}
+use Rattle.space.proofs.RowMade.{taken, front_low, front_ends}
 use Rattle.space.specs.Shared.{PolytopeAdded}
 use Rattle.space.proofs.Room.{size_of, list_of, plane_word, mark_word, size_word_lem, list_word_lem}
 use Rattle.space.proofs.RowAdds.{readable_desk}
@@ -63,9 +64,8 @@ module _ {cs es : List ℕ} {r e : ℕ} {set : Set} {x : Option ElementId} where
   set_with : {ps hs : List Float} {t : Table} → SideFit cs ps hs es r e set x t → SetOf t r (including x (numbers_in set))
   set_with {t = t} F = set_including t r x (numbers_in set) F.intersection F.sets
 
-  -- n is the size of the set, as it was read
-  pub side_asks : {ix : List ℕ} → SideReady cs es ix r e set x → (all : Set) → Included set x all → (list : List ℕ) → list ≡ all.numbers → (n : ℕ) → n ≡ size_in all → PolytopeReady cs es ix r list n
-  side_asks {ix} R all I list whole n size =
+  pub side_asks : {ix : List ℕ} → SideReady cs es ix r e set x → (all : Set) → Included set x all → (list : List ℕ) → list ≡ numbers_in all → PolytopeReady cs es ix r list
+  side_asks {ix} R all I list whole =
       let F = R.fit in
       let t = R.table in
       let z = I.sized 32 F.sized in
@@ -74,17 +74,18 @@ module _ {cs es : List ℕ} {r e : ℕ} {set : Set} {x : Option ElementId} where
       let g = sound_good desk t F.sound in
       let low = rank_low t e r g F.used F.ranked F.some in
       let four = le_test t.dimension 4 g.high in
-      subst (λ (l : List ℕ). PolytopeReady cs es ix r l n) (sym whole) (record {
+      let fit : size_in all ≤ length all.numbers = omega (arith, most, long) in
+      let size = taken all.numbers (size_in all) fit in
+      subst (PolytopeReady cs es ix r) (sym whole) (record {
         counts = (slices F.holds).counts;
         elements = (slices F.holds).elements;
         room = (slices F.holds).elements_fit;
-        words = I.long;
-        size = (let q : n ≤ 33 = omega (arith, size, most) in q);
+        size = omega (arith, size, most);
         rank = (let q : r < 65536 = omega (arith, low, four) in q);
-        low = subst (Low all.numbers) (sym size) (low_of t F.holds.fits.element_room r all (subst (AllOf (Ranked t r)) (sym I.of) (set_with F).ranked));
+        low = front_low all.numbers (size_in all) fit (low_of t F.holds.fits.element_room r all (subst (AllOf (Ranked t r)) (sym I.of) (set_with F).ranked));
         edges = (λ two.
-            subst (LowEnds es all.numbers) (sym size)
-            (ends_low t F.holds.fits g es F.holds.elements all (let q : size_in all ≤ length all.numbers = omega (arith, most, long) in q) (subst (λ (ys : List ℕ). rises ys ≡ true) (sym I.of) (set_with F).rising)
+            front_ends all.numbers (size_in all) fit
+            (ends_low t F.holds.fits g es F.holds.elements all fit (subst (λ (ys : List ℕ). rises ys ≡ true) (sym I.of) (set_with F).rising)
             (subst (λ (m : ℕ). AllOf (Ranked t m) (numbers_in all)) two (subst (AllOf (Ranked t r)) (sym I.of) (set_with F).ranked))));
         index = R.indexed;
       })
@@ -157,13 +158,13 @@ module _ {cs es : List ℕ} {r e : ℕ} {set : Set} {x : Option ElementId} where
     indexed = R.indexed;
   }
 
-  pub side_kept : {ix : List ℕ} {keep : Bool} {y : Reply (Option ElementId)} {cs' es' ix' : List ℕ} → SideReady cs es ix r e set x → (plane : ℕ) (mark : Bool) (all : Set) (list : List ℕ) → list ≡ all.numbers → (n : ℕ) → n ≡ size_in all → keep ≡ true
+  pub side_kept : {ix : List ℕ} {keep : Bool} {y : Reply (Option ElementId)} {cs' es' ix' : List ℕ} → SideReady cs es ix r e set x → (plane : ℕ) (mark : Bool) (all : Set) (list : List ℕ) → list ≡ numbers_in all → keep ≡ true
       → plane ≡ get_or es (e * 36 + 2) 0 → mark ≡ eqb (get_or es (e * 36 + 1) 0) 1 → Included set x all
-      → PolytopeAdded cs es r (take n list) plane mark y cs' es' → Indexed es' (get_or cs' 1 0) ix' → SideMade cs es r e keep set x y cs' es' ix' all
-  side_kept {ix} {keep} {y} {cs'} {es'} R plane mark all list whole n size q p m I A indexed = record {
+      → PolytopeAdded cs es r list plane mark y cs' es' → Indexed es' (get_or cs' 1 0) ix' → SideMade cs es r e keep set x y cs' es' ix' all
+  side_kept {ix} {keep} {y} {cs'} {es'} R plane mark all list whole q p m I A indexed = record {
     of = λ ps hs t F.
         subst (λ (o : Outcome (Option ElementId)). Came Ok Err (Holds desk cs' ps hs es') t o y)
         ((λ i. add_polytope desk (sym F.ranked i) (I.of i) (own_plane F plane p i) (own_mark F mark m i) t) ∙ sym (ap (λ (b : Bool). side_of_cut desk b (element t e) x (numbers_in set) t) q))
-        ((subst (λ (l : List ℕ). PolytopeAdded cs es r l plane mark y cs' es') (ap₂ (λ (j : ℕ) (l : List ℕ). take j l) size whole) A).of ps hs t F.holds (λ l. F.some) (side_edges F (numbers_in all) I.of));
+        ((subst (λ (l : List ℕ). PolytopeAdded cs es r l plane mark y cs' es') whole A).of ps hs t F.holds (λ l. F.some) (side_edges F (numbers_in all) I.of));
     indexed = indexed;
   }

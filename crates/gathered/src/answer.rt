@@ -42,16 +42,8 @@ fn new_intersection(
 {
     let number = k.number;
     let plane = plane_of_intersection(counts, rank, number);
-    memo::add_polytope(
-        counts,
-        elements,
-        index,
-        rank - 1,
-        set.words(),
-        set.len(),
-        plane,
-        false,
-    )
+    let numbers = set.as_slice();
+    memo::add_polytope(counts, elements, index, rank - 1, numbers, plane, false)
 }
 
 // Whether a list is the boundary that element e has already.
@@ -85,20 +77,12 @@ fn side_of_cut(
     let plane = rows::plane_of(elements, e);
     let mark = rows::is_primordial(elements, e);
     set.include(x);
+    let numbers = set.as_slice();
     // a side that lost nothing is the element itself, with no search for its row
-    if is_own(elements, e, set.as_slice()) {
+    if is_own(elements, e, numbers) {
         return Ok(Some(e));
     }
-    memo::add_polytope(
-        counts,
-        elements,
-        index,
-        rank,
-        set.words(),
-        set.len(),
-        plane,
-        mark,
-    )
+    memo::add_polytope(counts, elements, index, rank, numbers, plane, mark)
 }
 
 // The intersection is known: then inside, then outside.

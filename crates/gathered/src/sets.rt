@@ -39,19 +39,6 @@ impl Set {
         self.size = 0;
     }
 
-    pub(crate) fn len(&self) -> usize
-        ensures { result ≡ self.now.size }
-    {
-        self.size
-    }
-
-    // The numbers with the places behind them.
-    pub(crate) fn words(&self) -> &[u16; SET]
-        ensures { result.now ≡ self.now.numbers }
-    {
-        &self.numbers
-    }
-
     pub(crate) fn as_slice(&self) -> &[u16]
         requires { SizedSet self.now 33 }
         ensures { result.now ≡ numbers_in self.now }

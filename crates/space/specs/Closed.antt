@@ -231,10 +231,9 @@ pub record FaceReady (es list : List ℕ) (n : ℕ) : Type 0 where
   pub ends : LowEnds es list n
 
 -- and the boundary of an element of any rank
-pub record BoundaryReady (cs es : List ℕ) (r : ℕ) (list : List ℕ) (n : ℕ) : Type 0 where
+pub record BoundaryReady (cs es : List ℕ) (r : ℕ) (list : List ℕ) : Type 0 where
   pub counts : length cs ≡ 4
   pub elements : length es ≡ element_slice
-  pub long : n ≤ length list
-  pub size : n ≤ suc desk.boundary
-  pub low : Low list n
-  pub ends : r ≡ 2 → LowEnds es list n
+  pub size : length list ≤ suc desk.boundary
+  pub low : Low list (length list)
+  pub ends : r ≡ 2 → LowEnds es list (length list)

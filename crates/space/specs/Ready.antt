@@ -26,10 +26,9 @@ pub record PutRowReady (es : List ℕ) (at : ℕ) (w : List ℕ) : Type 0 where
   pub place : at + row_width ≤ length es
   pub row : length w ≡ row_width
 
--- a row made, whose boundary is the first n numbers of a set's words
-pub record PolytopeRowReady (set : List ℕ) (n r : ℕ) : Type 0 where
-  pub words : length set ≡ desk.boundary + 2
-  pub size : n ≤ desk.boundary
+-- a row made, with a list as its boundary
+pub record PolytopeRowReady (list : List ℕ) (r : ℕ) : Type 0 where
+  pub size : length list ≤ desk.boundary
   pub rank : r < 65536
 
 -- a row of the elements compared with one of some words
@@ -107,16 +106,15 @@ pub record HyperplaneReady (cs : List ℕ) (hs : List Float) : Type 0 where
 
 -- ---- polytopes
 
--- a polytope added, whose boundary is the first n numbers of a set's words
-pub record PolytopeReady (cs es ix : List ℕ) (r : ℕ) (set : List ℕ) (n : ℕ) : Type 0 where
+-- a polytope added, with a list as its boundary
+pub record PolytopeReady (cs es ix : List ℕ) (r : ℕ) (list : List ℕ) : Type 0 where
   pub counts : length cs ≡ 4
   pub elements : length es ≡ element_slice
   pub room : get_or cs 1 0 ≤ desk.elements
-  pub words : length set ≡ desk.boundary + 2
-  pub size : n ≤ desk.boundary + 1
+  pub size : length list ≤ desk.boundary + 1
   pub rank : r < 65536
-  pub low : Low set n
-  pub edges : r ≡ 2 → LowEnds es set n
+  pub low : Low list (length list)
+  pub edges : r ≡ 2 → LowEnds es list (length list)
   pub index : Indexed es (get_or cs 1 0) ix
 
 -- ---- all memory

@@ -152,11 +152,12 @@ fn is_ring(elements: &[u16], list: &[u16], n: usize) -> bool
     n == 0
 }
 
-// An edge has two ends, a face is one ring; nothing is asked of the other ranks. The boundary is the first n numbers of a list.
-pub fn is_closed(counts: &[u16], elements: &[u16], rank: usize, list: &[u16], n: usize) -> bool
-    requires { BoundaryReady counts.now elements.now rank list.now n }
-    ensures { result ≡ closed_raw (get_or counts.now 0 0) elements.now rank (take n list.now) }
+// An edge has two ends, a face is one ring; nothing is asked of the other ranks.
+pub fn is_closed(counts: &[u16], elements: &[u16], rank: usize, list: &[u16]) -> bool
+    requires { BoundaryReady counts.now elements.now rank list.now }
+    ensures { result ≡ closed_raw (get_or counts.now 0 0) elements.now rank list.now }
 {
+    let n = list.len();
     if rank == 1 {
         return n == 2;
     }

@@ -1,5 +1,5 @@
 // What is found again, and what is new: a vertex with its element, a hyperplane, and a polytope.
-ghost use Rattle.std.specs.Prelude.{◌+◌, ◌<◌, ◌≤◌, ◌≡◌, length, take};
+ghost use Rattle.std.specs.Prelude.{◌+◌, ◌<◌, ◌≤◌, ◌≡◌, length};
 ghost use Rattle.std.proofs.lemmas.List.Edits.{sets};
 ghost use Rattle.rules.specs.Limits.{desk};
 ghost use Rattle.rules.specs.Memory.{plane_width};
@@ -12,9 +12,7 @@ ghost use Rattle.space.specs.Shared.{stored_point, four, SharedIndexed, VertexIn
 use crate::adding::add_row;
 use crate::closed::is_closed;
 use crate::rows::polytope_row;
-use crate::words::{
-    AXES, BOUNDARY, HYPERPLANES, NO_PLANE, PLANE_WIDTH, SET, VERTICES, WIDTH, wide,
-};
+use crate::words::{AXES, BOUNDARY, HYPERPLANES, NO_PLANE, PLANE_WIDTH, VERTICES, WIDTH, wide};
 use rules::{ElementId, Hyperplane, HyperplaneId, Refusal, Reply, VertexId};
 
 pub fn read_point(points: &[f64], v: VertexId) -> [f64; AXES]
@@ -162,24 +160,24 @@ pub fn add_polytope(
     elements: &mut [u16],
     index: &mut [u16],
     rank: usize,
-    list: &[u16; SET],
-    n: usize,
+    list: &[u16],
     plane: u16,
     mark: bool,
 ) -> Reply<Option<ElementId>>
-    requires { PolytopeReady counts.old elements.old index.old rank list.now n }
-    ensures { PolytopeIndexed counts.old elements.old rank (take n list.now) plane mark result counts.new elements.new index.new }
+    requires { PolytopeReady counts.old elements.old index.old rank list.now }
+    ensures { PolytopeIndexed counts.old elements.old rank list.now plane mark result counts.new elements.new index.new }
 {
+    let n = list.len();
     if n <= rank {
         return Ok(None);
     }
     if BOUNDARY < n {
         return Err(Refusal::BoundaryFull);
     }
-    if !is_closed(counts, elements, rank, list, n) {
+    if !is_closed(counts, elements, rank, list) {
         return Err(Refusal::NotClosed);
     }
-    let row = polytope_row(rank, list, n, plane, mark);
+    let row = polytope_row(rank, list, plane, mark);
     let e = add_row(counts, elements, index, &row)?;
     Ok(Some(e))
 }

@@ -8,9 +8,9 @@ use Rattle.cube.proofs.with_primordial_cube_radius.Goals.{then-dimension-lt1-via
 
 pub returns-then-dimension-lt1 : goal.returns-then-dimension-lt1
 returns-then-dimension-lt1 c = elim c.then-dimension-lt1.branch [
-    | then-dimension-lt1-via-then-dimension-lt1 w ↦ too_few _ _ _ _ _ _ w.if-dimension-lt1.true
-    | then-dimension-lt1-via-else-dimension-lt1+then-dimension-gt4 w ↦ too_many _ _ _ _ _ _ w.if-dimension-gt4.true
-  ]
+  | then-dimension-lt1-via-then-dimension-lt1 w ↦ too_few _ _ _ _ _ _ w.if-dimension-lt1.true
+  | then-dimension-lt1-via-else-dimension-lt1+then-dimension-gt4 w ↦ too_many _ _ _ _ _ _ w.if-dimension-gt4.true
+]
 
 pub returns-then-not-radius_fits : goal.returns-then-not-radius_fits
 returns-then-not-radius_fits c = no_radius _ _ _ _ _ _ (omega arith) (omega arith) (sym c.radius_fits.ensures ∙ c.if-not-radius_fits.true)
