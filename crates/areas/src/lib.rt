@@ -27,7 +27,9 @@ fn are_faces(elements: &[u16], pieces: &[u16]) -> bool
     requires { PiecesUsed elements.now pieces.now }
     ensures { result ≡ all (row_is_face elements.now) pieces.now }
 {
-    pieces.iter().all(|&f| rows::rank_of(elements, ElementId(wide(f))) == 2)
+    pieces
+        .iter()
+        .all(|&f| rows::rank_of(elements, ElementId(wide(f))) == 2)
 }
 
 fn are_on_grid(points: &[f64], elements: &[u16], pieces: &[u16]) -> bool

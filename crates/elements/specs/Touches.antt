@@ -16,7 +16,6 @@ use Rattle.space.specs.Shared.{stored_point}
 use Rattle.elements.specs.Marks.{is_marked, bits_from}
 use Rattle.elements.specs.Ranks.{vertex_word}
 use Rattle.elements.specs.declared.touch.Tested.{Tested}
-use Rattle.rules.specs.Refusals.{Reply}
 use Rattle.rules.specs.declared.Touched.{Touched}
 
 -- ---- one corner

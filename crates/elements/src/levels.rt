@@ -5,7 +5,7 @@ ghost use Rattle.elements.specs.Below.{Used};
 ghost use Rattle.elements.specs.Levels.{marking_under, WordReady, SetReady, Under, Level};
 
 use crate::below::mark_boundary;
-use crate::marks::{BITS, Marks, WORDS, mark, no_marks, zeros_below};
+use crate::marks::{BITS, Marks, WORDS, mark, zeros_below};
 use rules::ElementId;
 use space::rows::rank_of;
 
@@ -44,7 +44,7 @@ pub fn level(elements: &[u16], root: ElementId, rank: usize) -> Marks
 {
     let top = rank_of(elements, root);
     if top < rank {
-        return no_marks();
+        return Marks::none();
     }
     let mut words = [0u64; 8];
     mark(&mut words, root.0);

@@ -6,7 +6,7 @@ ghost use Rattle.rules.specs.Replies.{listed};
 ghost use Rattle.elements.specs.Marks.{marked_numbers};
 ghost use Rattle.elements.specs.Ranks.{vertex_word, VerticesAsked};
 
-use crate::marks::{Marks, list_all, size};
+use crate::marks::Marks;
 use rules::{ElementId, Refusal, Reply};
 use space::rows::boundary_at;
 use space::words::wide;
@@ -15,11 +15,11 @@ use space::words::wide;
 pub fn list_marks(s: Marks, list: &mut [u16]) -> Reply<usize>
     ensures { (result, list.new) ≡ listed (answer (marked_numbers s.words)) list.old }
 {
-    let n = size(s);
+    let n = s.size();
     if list.len() < n {
         return Err(Refusal::RoomShort);
     }
-    list_all(s, list);
+    s.list_all(list);
     Ok(n)
 }
 
@@ -38,11 +38,11 @@ pub fn list_vertices(elements: &[u16], s: Marks, list: &mut [u16]) -> Reply<usiz
     requires { length elements.now ≡ 18432 }
     ensures { (result, list.new) ≡ listed (answer (map (vertex_word elements.now) (marked_numbers s.words))) list.old }
 {
-    let n = size(s);
+    let n = s.size();
     if list.len() < n {
         return Err(Refusal::RoomShort);
     }
-    list_all(s, list);
+    s.list_all(list);
     name_vertices(elements, list, n);
     Ok(n)
 }

@@ -14,13 +14,6 @@ pub struct Marks {
     pub words: [u64; 8],
 }
 
-pub fn no_marks() -> Marks
-    ensures { NoneMarked result.words }
-{
-    let words = [0u64; 8];
-    Marks { words }
-}
-
 // The words are lent, so that a mark writes one of them and copies none.
 pub fn mark(words: &mut [u64; 8], i: usize)
     requires { i < 512 }
@@ -38,18 +31,6 @@ pub fn marked(words: &[u64; 8], i: usize) -> bool
     let w = i / BITS;
     let b = i % BITS;
     (words[w] >> b) & 1 == 1
-}
-
-// Exactly what is in both sets.
-pub fn both(a: Marks, b: Marks) -> Marks
-    ensures { Both a.words b.words result.words }
-{
-    let mut words = a.words;
-    let other = b.words;
-    for w in 0..WORDS {
-        words[w] = words[w] & other[w];
-    }
-    Marks { words }
 }
 
 fn ones_of(x: u64) -> usize
@@ -80,16 +61,6 @@ pub fn down_to(words: &[u64; 8], i: usize) -> usize
     if z < b { i - z } else { i - b }
 }
 
-pub fn size(s: Marks) -> usize
-    ensures { result ≡ length (marked_numbers s.words) }
-{
-    let mut n = 0usize;
-    for &word in &s.words {
-        n = n + ones_of(word);
-    }
-    n
-}
-
 // The numbers of a word's marks, in rising order; the place behind them.
 fn list_word(list: &mut [u16], from: usize, word: u64, base: usize) -> usize
     requires { WordFits list.old from word base }
@@ -109,14 +80,44 @@ fn list_word(list: &mut [u16], from: usize, word: u64, base: usize) -> usize
     at
 }
 
-// The front of the list becomes the numbers of the set, in rising order.
-pub fn list_all(s: Marks, list: &mut [u16])
-    requires { length (marked_numbers s.words) ≤ length list.old }
-    ensures { list.new ≡ sets list.old 0 (marked_numbers s.words) }
-{
-    let words = s.words;
-    let mut at = 0usize;
-    for w in 0..WORDS {
-        at = list_word(list, at, words[w], w * BITS);
+impl Marks {
+    pub fn none() -> Marks
+        ensures { NoneMarked result.words }
+    {
+        let words = [0u64; 8];
+        Marks { words }
+    }
+
+    // Exactly what is in both sets.
+    pub fn both(self, other: Marks) -> Marks
+        ensures { Both self.words other.words result.words }
+    {
+        let mut words = self.words;
+        for w in 0..WORDS {
+            words[w] = words[w] & other.words[w];
+        }
+        Marks { words }
+    }
+
+    pub fn size(self) -> usize
+        ensures { result ≡ length (marked_numbers self.words) }
+    {
+        let mut n = 0usize;
+        for &word in &self.words {
+            n = n + ones_of(word);
+        }
+        n
+    }
+
+    // The front of the list becomes the numbers of the set, in rising order.
+    pub fn list_all(self, list: &mut [u16])
+        requires { length (marked_numbers self.words) ≤ length list.old }
+        ensures { list.new ≡ sets list.old 0 (marked_numbers self.words) }
+    {
+        let words = self.words;
+        let mut at = 0usize;
+        for w in 0..WORDS {
+            at = list_word(list, at, words[w], w * BITS);
+        }
     }
 }

@@ -3,7 +3,7 @@ ghost use Rattle.std.specs.Prelude.{◌≡◌, length};
 ghost use Rattle.space.specs.Ready.{ElementReady};
 ghost use Rattle.elements.specs.Ranks.{one_more, OfRank, Greatest};
 
-use crate::marks::{Marks, down_to, mark, marked, no_marks, size};
+use crate::marks::{Marks, down_to, mark, marked};
 use rules::ElementId;
 use space::rows::rank_of;
 use space::words::ELEMENTS;
@@ -43,9 +43,9 @@ pub fn greatest(elements: &[u16], s: Marks, rank: usize) -> Marks
 {
     for i in 0..rank {
         let some = with_rank(elements, s, rank - i);
-        if 0 < size(some) {
+        if 0 < some.size() {
             return some;
         }
     }
-    no_marks()
+    Marks::none()
 }

@@ -50,9 +50,17 @@ fn with_side(s: Tested, side: Side) -> Tested
 {
     let corners = s.corners + 1;
     match side {
-        Side::Inside => Tested { inside: true, corners, ..s },
+        Side::Inside => Tested {
+            inside: true,
+            corners,
+            ..s
+        },
         Side::On => Tested { corners, ..s },
-        Side::Outside => Tested { outside: true, corners, ..s },
+        Side::Outside => Tested {
+            outside: true,
+            corners,
+            ..s
+        },
     }
 }
 

@@ -3,17 +3,13 @@ use Prim.Native.Nat.{ℕ, zero, suc, ◌+◌, ◌*◌, ◌-◌, ◌≤◌, ◌<�
 use mathlib.Core.Path.{◌≡◌, refl, sym, ap, ◌∙◌, subst}
 use mathlib.Core.List.{List, [], ◌∷◌, ◌++◌, map}
 use native.Mathlib.Omega.{arith}
-use lib.Dec.{leb}
 use lib.ListN.{length, get_or, drop, replicate, length-append}
 use lib.Ieee.{Float}
 use lib.Seq.{sets, sets-eq}
 use Rattle.std.proofs.Common.{zero-add}
 use Rattle.rules.specs.Lists.{joined}
 use Rattle.rules.specs.Held.{AllOf}
-use Rattle.rules.specs.Questions.{answer}
-use Rattle.rules.specs.Replies.{listed}
 use Rattle.rules.specs.Print.{triangle_bytes, total_of}
-use Rattle.rules.proofs.Laws.{if_true, test_le}
 use Rattle.lent_bytes.specs.Lent.{Put}
 use Rattle.lent_bytes.proofs.Rests.{Rest, less_left, none_left, left_as}
 use Rattle.space.specs.Ready.{ElementReady}
@@ -23,7 +19,6 @@ use Rattle.walk.proofs.Boundaries.{row_size, row_on, row_end}
 use Rattle.walk.proofs.Orders.{two_each}
 use Rattle.print.specs.Pieces.{point_in, fan_in, walk_in, edges_in, face_in, count_in, PointsReady, WalkLow, FaceWalks, FacesReady}
 use Rattle.print.proofs.Fanning.{fan_fifty, fan_same}
-use Rattle.rules.specs.Refusals.{Reply}
 
 -- ---- the walk of a face, in a list that was zeros
 

@@ -25,7 +25,7 @@ use Rattle.space.proofs.RowAdds.{readable_desk}
 use Rattle.soundness.proofs.AskedOnce as ask
 use Rattle.print.specs.Pieces.{point_in, file_in, SolidReady}
 use Rattle.print.proofs.Printing.{row_point, solid_ready, file_is}
-use Rattle.rules.specs.Refusals.{Reply, reply_number}
+use Rattle.rules.specs.Refusals.{Reply}
 use Rattle.rules.specs.declared.Refusal.TheVariants.{NotInUse, NotSound, PrimordialFacet, Rank}
 use Rattle.rules.specs.declared.Refusal.{Refusal}
 

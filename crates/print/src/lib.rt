@@ -44,7 +44,7 @@ fn triangle_count(elements: &[u16], root: ElementId) -> usize
     count
 }
 
-// The triangles of all faces, which rise.
+// The triangles of all faces, which rise. They are counted: a slice of them would be one more public function, and no shorter.
 fn faces(points: &[f64], elements: &[u16], root: ElementId, room: &mut [u8], at: usize) -> usize
     requires { PieceReady points.now elements.now root.0 room.old at }
     ensures { Put room.old at (joined (map (face_in points.now elements.now) (row_boundary elements.now root.0))) result room.new }

@@ -48,6 +48,7 @@ fn fan(points: &[f64], list: &[u16; WALK], n: usize, room: &mut [u8], at: usize)
 {
     let first = VertexId(wide(list[0]));
     let mut end = at;
+    // The edge is counted, since its two places in the list are twice its number.
     for k in 1..n - 1 {
         let from = VertexId(wide(list[2 * k]));
         let to = VertexId(wide(list[2 * k + 1]));

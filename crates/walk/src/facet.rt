@@ -19,7 +19,9 @@ fn any_primordial(elements: &[u16], e: ElementId) -> bool
     requires { BoundaryFits elements.now e.0 }
     ensures { result ≡ any (row_primordial elements.now) (row_boundary elements.now e.0) }
 {
-    boundary(elements, e).iter().any(|&b| rows::is_primordial(elements, ElementId(wide(b))))
+    boundary(elements, e)
+        .iter()
+        .any(|&b| rows::is_primordial(elements, ElementId(wide(b))))
 }
 
 // 3, 4, and 6 unless the rank is the dimension.

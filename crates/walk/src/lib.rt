@@ -22,7 +22,7 @@ use space::words::{WIDTH, wide};
 // How many words stand before a boundary: rank, mark, hyperplane, count.
 const HEAD: usize = 4;
 
-// No element has this number.
+// No element has this number. A number and no Option: the walk that every answer cites is defined with it.
 const NO_EDGE: usize = 65535;
 
 // The numbers of an element's boundary.
@@ -76,7 +76,7 @@ fn is_beside(elements: &[u16], e: ElementId, v: ElementId, x: ElementId) -> bool
     x != e && has_end(elements, v, x)
 }
 
-// By number and not by the corner it leads to: two edges may share both ends.
+// By number and not by the corner it leads to: two edges may share both ends. Of a sound face there is one; the definition has 0 where there is none.
 fn edge_beside(elements: &[u16], f: ElementId, e: ElementId, v: ElementId) -> ElementId
     requires { BoundaryFits elements.now f.0 }
     ensures { result.0 ≡ edge_beside elements.now e.0 v.0 (row_boundary elements.now f.0) }
@@ -125,6 +125,7 @@ fn walk_round(elements: &[u16], f: ElementId, start: ElementId, first: ElementId
     let n = rows::size_of(elements, f);
     let mut v = start;
     let mut e = first;
+    // The step is counted, since its two places in the list are twice its number.
     for k in 0..n {
         let w = end_across(elements, v, e);
         let from = vertex_of(elements, v);

@@ -1,5 +1,5 @@
 -- As many words as the count says.
-use Rattle.std.proofs.Common.{ℕ, ap, take, drop, ◌∙◌, ◌+◌, ◌*◌, ◌-◌, ◌≡◌, arith, rules}
+use Rattle.std.proofs.Common.{ℕ, ap, take, drop, ◌∙◌, ◌+◌, ◌*◌, ◌-◌, ◌≡◌, arith}
 use Rattle.walk.specs.Boundaries.{row_boundary}
 use Rattle.walk.proofs.boundary.Goals as goal
 

@@ -1,5 +1,5 @@
 -- The lowest so far and what is left give what the whole gives.
-use mathlib.Core.Path.{refl, ◌∙◌}
+use mathlib.Core.Path.{refl}
 use borrow.Author.Rules.{rules}
 use Rattle.walk.proofs.Boundaries.{row_long, number_at, number_low}
 use Rattle.walk.proofs.EdgeLoops as edge

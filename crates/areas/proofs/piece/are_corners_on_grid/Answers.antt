@@ -12,7 +12,7 @@ pub all-requires-clause-callable : goal.all-requires-clause-callable
 all-requires-clause-callable c = serves_from_places (YieldsList-from_slice (take c.args.n c.args.list.now) cc) (λ x q k. search rules) (λ x k l e.
     let few : k < c.args.n = le_trans l (le_of_eq (length-take-le c.args.n c.args.list.now c.requires.long)) in
     let h : CornerFits c.args.points.now x.now = subst (CornerFits _) (sym (e ∙ get_or_default_zero _ _ _ l ∙ get_or-take c.args.n c.args.list.now k 0 few)) (c.requires.each k few) in
-    λ a b d f g i j w z. subst (CornerFits _) (sym w.ensures.value) h)
+    search (rules, h))
 
 pub returns : goal.returns
 returns c =

@@ -1,6 +1,6 @@
 -- Each test is the rule's own.
 use Prim.Native.Nat.{◌*◌, ◌<◌}
-use Rattle.std.proofs.Common.{ℕ, ◌≡◌, sym, ◌∙◌, length, rules, tests}
+use Rattle.std.proofs.Common.{ℕ, ◌≡◌, ◌∙◌, length, rules, tests}
 use Rattle.std.proofs.lemmas.Iterator.{YieldsList-from_slice}
 use Rattle.std.proofs.lemmas.Iterator.Search.{all_from_yields_List}
 use Rattle.std.proofs.lemmas.Iterator.Adapters.{serves_from_places}

@@ -17,17 +17,17 @@ loop-root-init c = record {
 }
 
 pub below-next-requires : goal.below-next-requires
-below-next-requires c = 
+below-next-requires c =
     let next : c.loop-root.root-index + 1 < length c.args.roots.now = search rules in
     roots_used_at _ _ (c.loop-root.root-index + 1) _ c.loop-root.invariant.used next (root_behind c.args.roots.now c.loop-root.root-index _ next c.wide-in-loop-root.ensures.value)
 
 pub loop-root-preserved : goal.loop-root-preserved
 loop-root-preserved c = let next : c.loop-root.root-index + 1 < length c.args.roots.now = search rules in
     record {
-  low = search rules;
-  used = c.loop-root.invariant.used;
-  marks = narrowing_next _ _ _ _ _ _ _ next (root_behind c.args.roots.now c.loop-root.root-index _ next c.wide-in-loop-root.ensures.value) c.below-next.ensures c.both-s.ensures c.loop-root.invariant.marks;
-}
+      low = search rules;
+      used = c.loop-root.invariant.used;
+      marks = narrowing_next _ _ _ _ _ _ _ next (root_behind c.args.roots.now c.loop-root.root-index _ next c.wide-in-loop-root.ensures.value) c.below-next.ensures c.both-s.ensures c.loop-root.invariant.marks;
+    }
 
 pub returns : goal.returns
 returns c = narrowing_end _ _ _ _ (omega arith) c.loop-root.invariant.marks

@@ -1,7 +1,6 @@
 -- The marks, and the roots that are left, are all roots.
 use Prim.Native.Nat.{ℕ, ◌+◌, ◌-◌, ◌≤◌}
 use mathlib.Core.List.{List}
-use mathlib.Core.Path.{◌≡◌}
 use lib.ListN.{length}
 use Rattle.elements.specs.Ranks.{AllUsed}
 use Rattle.elements.proofs.CommonLoops.{Narrowing}

@@ -12,7 +12,7 @@ pub rank_of-top-requires : goal.rank_of-top-requires
 rank_of-top-requires c = record { elements = lent_long _ _ c.requires.lent; room = in_room_lem _ _ c.requires.lent _ c.requires.used }
 
 pub returns-then-top-rank : goal.returns-then-top-rank
-returns-then-top-rank c = no_level _ _ _ _ c.no_marks.ensures (subst (λ n. n < c.args.rank) c.rank_of-top.ensures c.if-top-rank.true)
+returns-then-top-rank c = no_level _ _ _ _ c.none.ensures (subst (λ n. n < c.args.rank) c.rank_of-top.ensures c.if-top-rank.true)
 
 pub mark-requires : goal.mark-requires
 mark-requires c = in_room_lem _ _ c.requires.lent _ c.requires.used

@@ -13,8 +13,8 @@ use Rattle.walk.proofs.facet.any_primordial.Goals as goal
 pub any-requires-clause-callable : goal.any-requires-clause-callable
 any-requires-clause-callable c = serves_from_places (YieldsList-from_slice c.boundary.result.now cc) (λ x q k. search rules) (λ x k l e.
     let low : x.now < 512 =
-        number_low c.args.elements.now c.args.e.0 (length c.boundary.result.now) c.requires (row_long c.args.elements.now c.args.e.0 c.requires _ c.boundary.ensures) k _ l
-        (number_at c.args.elements.now c.args.e.0 c.requires _ c.boundary.ensures k _ l (e ∙ get_or_default_zero _ _ _ l)) in
+    number_low c.args.elements.now c.args.e.0 (length c.boundary.result.now) c.requires (row_long c.args.elements.now c.args.e.0 c.requires _ c.boundary.ensures) k _ l
+    (number_at c.args.elements.now c.args.e.0 c.requires _ c.boundary.ensures k _ l (e ∙ get_or_default_zero _ _ _ l)) in
     let long : length c.args.elements.now ≡ 18432 = c.requires.long in
     search (rules, low, long))
 

@@ -4,7 +4,7 @@ use mathlib.Core.List.{List}
 use mathlib.Core.Path.{◌≡◌}
 use lib.ListN.{length}
 use Rattle.elements.proofs.ListLoops.{Counting}
-use Rattle.elements.proofs.marks.size.Given as goal
+use Rattle.elements.proofs.marks.Marks.size.Given as goal
 
 pub record Counted (ws : List ℕ) (n w : ℕ) : Type 0 where
   pub so_far : w ≤ 8

@@ -5,7 +5,7 @@ use mathlib.Core.Path.{◌≡◌}
 use lib.ListN.{length}
 use Rattle.elements.specs.Marks.{marked_numbers}
 use Rattle.elements.proofs.ListLoops.{Filling}
-use Rattle.elements.proofs.marks.list_all.Given as goal
+use Rattle.elements.proofs.marks.Marks.list_all.Given as goal
 
 pub record Filled (ws old new : List ℕ) (at w : ℕ) : Type 0 where
   pub so_far : w ≤ 8

@@ -4,7 +4,7 @@ use mathlib.Core.List.{List}
 use mathlib.Core.Path.{◌≡◌}
 use lib.ListN.{length}
 use Rattle.elements.proofs.CommonLoops.{Meeting}
-use Rattle.elements.proofs.marks.both.Given as goal
+use Rattle.elements.proofs.marks.Marks.both.Given as goal
 
 pub record Met (old other new : List ℕ) (w : ℕ) : Type 0 where
   pub so_far : w ≤ 8
@@ -14,7 +14,7 @@ pub record Met (old other new : List ℕ) (w : ℕ) : Type 0 where
   pub meeting : Meeting old other new w
 
 abbrev pub invariant-loop-w : goal.invariant-loop-w
-invariant-loop-w l = Met l.initial.words l.other l.words l.w
+invariant-loop-w l = Met l.initial.words l.other.words l.words l.w
 
 abbrev pub decreases-loop-w : goal.decreases-loop-w
 decreases-loop-w l = 8 - l.w

@@ -2,7 +2,7 @@
 use native.Mathlib.Omega.{arith}
 use Rattle.elements.proofs.CommonLoops.{meeting_start, meeting_next, meeting_end}
 use borrow.Author.Rules.{rules}
-use Rattle.elements.proofs.marks.both.Goals as goal
+use Rattle.elements.proofs.marks.Marks.both.Goals as goal
 
 pub loop-w-init : goal.loop-w-init
 loop-w-init c = record { so_far = search rules; old_long = search rules; long = search rules; other_long = search rules; meeting = meeting_start _ _ (search rules) }

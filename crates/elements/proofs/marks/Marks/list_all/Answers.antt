@@ -2,7 +2,7 @@
 use native.Mathlib.Omega.{arith}
 use Rattle.elements.proofs.ListLoops.{filling_start, filling_room, filling_next, filling_end}
 use borrow.Author.Rules.{rules}
-use Rattle.elements.proofs.marks.list_all.Goals as goal
+use Rattle.elements.proofs.marks.Marks.list_all.Goals as goal
 
 pub loop-w-init : goal.loop-w-init
 loop-w-init c = record { so_far = search rules; words = search rules; room = search rules; filling = filling_start _ _ }

@@ -2,7 +2,7 @@
 use native.Mathlib.Omega.{arith}
 use Rattle.elements.proofs.ListLoops.{counting_start, counting_next, counting_end}
 use borrow.Author.Rules.{rules}
-use Rattle.elements.proofs.marks.size.Goals as goal
+use Rattle.elements.proofs.marks.Marks.size.Goals as goal
 
 pub loop-word-init : goal.loop-word-init
 loop-word-init c = record { so_far = search rules; long = search rules; counting = counting_start _ }
