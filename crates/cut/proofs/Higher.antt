@@ -12,7 +12,7 @@ use lib.Ieee.{Float}
 use Rattle.rules.specs.Limits.{desk}
 use Rattle.rules.specs.Table.{Element, Table, rank_of, boundary_of, rank, boundary, element}
 use Rattle.rules.specs.Held.{Extends, Holds, Came, Sets, Ranked}
-use Rattle.rules.specs.Cut.{Outcome, done, next, Cutting, Gathered, nothing_yet, gathering, gathering_output, rule6, cut_element, cut_boundary, refused}
+use Rattle.rules.specs.Cut.{Outcome, done, next, Cutting, Gathered, nothing_yet, gathering, gathering_output, rule6, cut_element, cut_boundary}
 use Rattle.rules.specs.declared.ElementCutOutput.{ElementCutOutput}
 use Rattle.rules.specs.declared.ElementAnswer.{ElementAnswer}
 use Rattle.rules.specs.declared.Cutter.{Cutter}

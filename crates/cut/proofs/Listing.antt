@@ -18,7 +18,6 @@ use Rattle.rules.specs.Replies.{output_word, fate_of, cut_by, cut_reply}
 use Rattle.rules.specs.CutLists.{most_cuts, CutList, list_fits, cut_at, cuts_of, going_on, cuts_from, cut_list_reply, answers_written}
 use Rattle.rules.specs.declared.Hyperplane.{Hyperplane}
 use Rattle.rules.specs.declared.PolytopeFate.{PolytopeFate}
-use Rattle.rules.specs.declared.ElementCutOutput.{ElementCutOutput}
 use Rattle.rules.specs.declared.CutParams.{CutParams}
 use Rattle.rules.specs.declared.CutListReply.{CutListReply}
 use Rattle.rules.specs.declared.CutListReply.TheVariants.{Refused, Stopped, Answered}
@@ -32,7 +31,6 @@ use Rattle.rules.specs.Refusals.{Reply}
 use Rattle.rules.specs.declared.ElementAnswer.{ElementAnswer}
 use Rattle.rules.specs.declared.Refusal.TheVariants.{ListLong, NotSound, RoomShort}
 use Rattle.std.specs.Prelude.{Err, Ok}
-use Rattle.rules.specs.Replies.{answer_with}
 use Rattle.rules.specs.declared.Refusal.{Refusal}
 
 abbrev Result : Type 0

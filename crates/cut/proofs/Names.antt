@@ -1,6 +1,5 @@
 -- What an answered cut leaves is sound, so there are four counts, and what is named is within the room.
 use Prim.Native.Nat.{ℕ, ◌≤◌}
-use mathlib.Core.Bool.{Bool}
 use mathlib.Core.Path.{◌≡◌, sym, ◌∙◌}
 use native.Mathlib.Nat.{le_trans}
 use lib.ListN.{length, get_or}
@@ -19,7 +18,6 @@ use Rattle.rules.specs.Refusals.{Reply}
 use Rattle.rules.specs.declared.ElementAnswer.{ElementAnswer}
 use Rattle.rules.specs.declared.ElementId.{ElementId}
 use Rattle.std.specs.Prelude.{Option, Some, None, Ok}
-use Rattle.rules.specs.Replies.{answer_with}
 
 one_below : (n m : ℕ) (x : Option ElementId) → n ≤ m → OneBelow n x → OneBelow m x
 one_below n m None l h = tt

@@ -14,10 +14,9 @@ use lib.Ieee.{Float}
 use Rattle.rules.specs.Limits.{Limits, desk}
 use Rattle.rules.specs.Table.{Element, corner, Table, rank_of, boundary_of, element_count, rank, boundary, element}
 use Rattle.rules.specs.Held.{Extends, Holds, Ranked, AnswerOf}
-use Rattle.rules.specs.Cut.{Outcome, refused, done, next, Step, Cutting, Gathered, nothing_yet, gathering, rule6, cut_element, cut_boundary, cut_higher}
+use Rattle.rules.specs.Cut.{Outcome, done, next, Step, Cutting, Gathered, nothing_yet, gathering, rule6, cut_element, cut_boundary, cut_higher}
 use Rattle.rules.specs.declared.ElementAnswer.{ElementAnswer}
 use Rattle.rules.specs.declared.Cutter.{Cutter}
-use Rattle.rules.proofs.Built.{RuleNumber, After, cut_boundary_lem, cut_element_lem}
 use Rattle.rules.proofs.Extends.{extends_refl, extends_trans, element_same, count_more, begins_length}
 use Rattle.rules.proofs.Good.{Good, sound_good, good_sound}
 use Rattle.rules.proofs.Growing.{all_get}

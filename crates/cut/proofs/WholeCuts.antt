@@ -1,7 +1,7 @@
 -- The whole cut: the hyperplane's step, then the root's; a refusal of either gives back the memory, since all that was done is to append.
 use Prim.Native.Nat.{ℕ, ◌*◌, ◌<◌}
 use mathlib.Core.Bool.{Bool, false}
-use mathlib.Core.Path.{◌≡◌, refl, sym, ap, ap₂, ◌∙◌, subst}
+use mathlib.Core.Path.{◌≡◌, sym, ap, ap₂, ◌∙◌, subst}
 use mathlib.Core.List.{List}
 use native.Mathlib.Nat.{le_trans, le_of_eq}
 use native.Mathlib.Omega.{arith}
@@ -12,7 +12,7 @@ use Rattle.rules.specs.Memory.{Memory}
 use Rattle.rules.specs.Table.{Element, Plane, Table, element_count, rank}
 use Rattle.rules.specs.Held as held
 use Rattle.rules.specs.Held.{Extends, Holds, Came, memory_of}
-use Rattle.rules.specs.Cut.{Outcome, done, next, add_plane, cut_element, cut_finite, refused}
+use Rattle.rules.specs.Cut.{Outcome, done, next, add_plane, cut_element, cut_finite}
 use Rattle.rules.specs.Replies.{divider_of, params_of, written}
 use Rattle.rules.specs.declared.Hyperplane.{Hyperplane}
 use Rattle.rules.specs.declared.HyperplaneId.{HyperplaneId}

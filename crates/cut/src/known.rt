@@ -95,11 +95,7 @@ fn keep_answer(known: &mut [u32; KNOWN], e: ElementId, answer: ElementCutOutput)
 }
 
 // An answer is kept, and a refusal handed on.
-pub fn keep(
-    known: &mut [u32; KNOWN],
-    e: ElementId,
-    reply: Reply<ElementCutOutput>,
-) -> Reply<()>
+pub fn keep(known: &mut [u32; KNOWN], e: ElementId, reply: Reply<ElementCutOutput>) -> Reply<()>
     requires { KeepReady e.0 reply }
     ensures { ReplyKept known.old e.0 reply result known.new }
 {

@@ -13,7 +13,7 @@ use Rattle.rules.specs.Lists.{pad}
 use Rattle.rules.specs.Floats.{plus_zero, close_call, side_of, side_test, crossing_of, edge_test, crossing_point}
 use Rattle.rules.specs.Table.{Element, Table, rank_of, rank, boundary, element, point_at}
 use Rattle.rules.specs.Held.{Extends, Holds, Came, went, stopped, Sets, Ranked}
-use Rattle.rules.specs.Cut.{Outcome, done, next, give, Cutting, Gathered, corner_answer, nothing_yet, gathering, add_vertex, cross_edge, cut_ends, cut_edge, cut_element, rule6, refused}
+use Rattle.rules.specs.Cut.{Outcome, done, next, give, Cutting, Gathered, corner_answer, nothing_yet, gathering, add_vertex, cross_edge, cut_ends, cut_edge, cut_element, rule6}
 use Rattle.rules.specs.declared.EdgeTest.{EdgeTest}
 use Rattle.rules.specs.declared.ElementId.{ElementId}
 use Rattle.rules.specs.declared.ElementAnswer.{ElementAnswer}

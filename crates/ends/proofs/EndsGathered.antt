@@ -1,7 +1,6 @@
 -- What the ends of an edge answer, gathered in a room that was cleared; and a crossing as the flush one.
 use Prim.Native.Nat.{ℕ, ◌≤◌, ◌<◌}
-use mathlib.Core.Path.{◌≡◌, refl, sym, ap, ◌∙◌, subst}
-use mathlib.Core.List.{List, [], ◌∷◌}
+use mathlib.Core.Path.{◌≡◌, sym, ap, ◌∙◌, subst}
 use native.Mathlib.Nat.{le_trans, le_of_eq}
 use lib.Ieee.{Float}
 use Rattle.rules.specs.Floats.{side_of}

@@ -14,8 +14,8 @@ returns-then-self-at c = insert_same c.args.self.now c.args.x c.requires (search
 
 pub returns : goal.returns
 returns c = insert_new c.args.self.now c.args.x c.requires (search rules) c.place-at.result c.place-at.ensures
-    (λ l e. elim c.else-at-n.branch [
-      | else-at-n-via-then-at-n+else-self-at w ↦ w.if-self-at.false e
-      | else-at-n-via-else-at-n w ↦ absurd (omega (arith, w.if-at-n.false, l))
+    (λ l. elim c.else-at-n.branch [
+      | else-at-n-via-then-at-n+else-self-at w ↦ w.if-self-at.false
+      | else-at-n-via-else-at-n w ↦ λ e. absurd (omega (arith, w.if-at-n.false, l))
     ])
     _ (ap (λ (m : List ℕ). set m c.place-at.result c.args.x) c.copy_within.ensures.after) refl
