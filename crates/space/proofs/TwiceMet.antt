@@ -3,11 +3,11 @@ use Prim.Native.Nat.{ℕ, suc, zero, ◌<◌, ◌≤◌}
 use mathlib.Core.Bool.{cond, Bool, true, false, false≢true}
 use mathlib.Core.List.{List, ◌∷◌, [], ◌++◌}
 use mathlib.Core.Path.{◌≡◌, sym, ap, ap₂, ◌∙◌, refl, subst}
-use native.Mathlib.Nat.{zero-add, le_trans}
+use native.Mathlib.Nat.{zero-add, le_trans, le_of_eq}
 use native.Mathlib.Omega.{arith}
 use lib.Dec.{eqb, leb, lit≤}
 use lib.ListN.{length, get_or, take}
-use lib.Seq.{get_or-take, length-take-le}
+use lib.Seq.{get_or-take, length-take-le, take_all}
 use borrow.Author.Tests.{lt-leb}
 use Rattle.rules.specs.Held.{Fits, elements_of}
 use Rattle.rules.specs.Limits.{desk}
@@ -26,31 +26,23 @@ use Rattle.std.specs.Prelude.{None}
 
 -- ---- the edges of a boundary
 
-module _ (list : List ℕ) (n : ℕ) (fit : n ≤ length list) where
-  abbrev edges : List ℕ
-  edges = take n list
+pub edges_up : {es list : List ℕ} → LowEnds es list (length list) → rises list ≡ true
+edges_up {es} {list} E = ap rises (sym (take_all (length list) list (le_of_eq refl))) ∙ E.rising
 
-  pub edges_long : length edges ≡ n
-  edges_long = length-take-le n list fit
-
-  pub edges_fine : (es : List ℕ) → Low list n → LowEnds es list n → (j : ℕ) → j < length edges → (get_or edges j 0 < 512) × EndsLow es (get_or edges j 0)
-  edges_fine es L E j h =
-      let l = edges_long in
-      let i : j < n = omega (arith, l, h) in
-      let here = sym (get_or-take n list j 0 i) in
-      (subst (λ (y : ℕ). y < 512) here (L.at j i), subst (λ (y : ℕ). EndsLow es y) here (E.each j i))
+pub edges_fine : (es list : List ℕ) → Low list (length list) → LowEnds es list (length list) → (j : ℕ) → j < length list → (get_or list j 0 < 512) × EndsLow es (get_or list j 0)
+edges_fine es list L E j h = (L.at j h, E.each j h)
 
 -- ---- the edge of a face that is taken up
 
 -- the face as it was asked for, and x as edge k of it
-pub record TakenUp (es list : List ℕ) (n k x : ℕ) : Type 0 where
-  pub ready : FaceReady es list n
-  pub more : k < length (take n list)
-  pub read : x ≡ get_or (take n list) k 0
+pub record TakenUp (es list : List ℕ) (k x : ℕ) : Type 0 where
+  pub ready : FaceReady es list
+  pub more : k < length list
+  pub read : x ≡ get_or list k 0
 
-module _ {es list : List ℕ} {n k x : ℕ} (T : TakenUp es list n k x) where
-  fine : (get_or (take n list) k 0 < 512) × EndsLow es (get_or (take n list) k 0)
-  fine = edges_fine list n T.ready.long es T.ready.low T.ready.ends k T.more
+module _ {es list : List ℕ} {k x : ℕ} (T : TakenUp es list k x) where
+  fine : (get_or list k 0 < 512) × EndsLow es (get_or list k 0)
+  fine = edges_fine es list T.ready.low T.ready.ends k T.more
 
   pub taken_ends : EndsLow es x
   taken_ends = subst (λ (y : ℕ). EndsLow es y) (sym T.read) fine.1

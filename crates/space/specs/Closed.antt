@@ -222,13 +222,12 @@ pub record EndsJoined (s : ℕ) (es paths : List ℕ) (e : ℕ) (reply : Joined)
   pub words : paths' ≡ words_after reply paths (joined s es paths e)
   pub most : met_before reply ≤ 2
 
--- the first n numbers of a list are the edges of a face
-pub record FaceReady (es list : List ℕ) (n : ℕ) : Type 0 where
+-- the numbers of a list are the edges of a face
+pub record FaceReady (es list : List ℕ) : Type 0 where
   pub elements : length es ≡ element_slice
-  pub long : n ≤ length list
-  pub size : n ≤ suc desk.boundary
-  pub low : Low list n
-  pub ends : LowEnds es list n
+  pub size : length list ≤ suc desk.boundary
+  pub low : Low list (length list)
+  pub ends : LowEnds es list (length list)
 
 -- and the boundary of an element of any rank
 pub record BoundaryReady (cs es : List ℕ) (r : ℕ) (list : List ℕ) : Type 0 where

@@ -1,5 +1,5 @@
 // Test 7: whether the edges of a face make one ring. Few edges are counted: how often each corner is met. More of them join paths.
-ghost use Rattle.std.specs.Prelude.{suc, ◌+◌, ◌<◌, ◌≡◌, get_or, take};
+ghost use Rattle.std.specs.Prelude.{suc, ◌+◌, ◌<◌, ◌≡◌, get_or};
 ghost use Rattle.rules.specs.Limits.{desk};
 ghost use Rattle.space.specs.Numbers.{NumberBelow};
 ghost use Rattle.space.specs.Closed.{few, met_twice, far_end, inside, join_code, ring_raw, closed_raw};
@@ -64,16 +64,16 @@ fn meet_ends_in_face(elements: &[u16], e: ElementId, met: &mut [u8; ELEMENTS]) -
 }
 
 // Whether each corner met lies on exactly two of the edges: n edges have 2n ends, so it does exactly when n of them are met for the second time.
-fn each_twice(elements: &[u16], list: &[u16], n: usize) -> bool
-    requires { FaceReady elements.now list.now n }
-    ensures { result ≡ met_twice elements.now (take n list.now) }
+fn each_twice(elements: &[u16], list: &[u16]) -> bool
+    requires { FaceReady elements.now list.now }
+    ensures { result ≡ met_twice elements.now list.now }
 {
     let mut met = [0u8; ELEMENTS];
     let mut twice = 0usize;
-    for &x in &list[..n] {
+    for &x in list {
         twice += meet_ends_in_face(elements, ElementId(wide(x)), &mut met);
     }
-    twice == n
+    twice == list.len()
 }
 
 // The other end of the path that ends in v: v itself where it is not met yet, INSIDE where it is met twice.
@@ -131,13 +131,14 @@ fn join_ends_in_face(elements: &[u16], e: ElementId, paths: &mut [u16; ELEMENTS]
 }
 
 // Whether the edges make one ring: no corner is met three times, none but the last edge closes a path, and then n ends were met for the second time.
-fn is_ring(elements: &[u16], list: &[u16], n: usize) -> bool
-    requires { FaceReady elements.now list.now n }
-    ensures { result ≡ ring_raw elements.now (take n list.now) }
+fn is_ring(elements: &[u16], list: &[u16]) -> bool
+    requires { FaceReady elements.now list.now }
+    ensures { result ≡ ring_raw elements.now list.now }
 {
+    let n = list.len();
     let mut paths = [0u16; ELEMENTS];
     let mut twice = 0usize;
-    for (k, &x) in list[..n].iter().enumerate() {
+    for (k, &x) in list.iter().enumerate() {
         match join_ends_in_face(elements, ElementId(wide(x)), &mut paths) {
             Joined::Thrice => return false,
             Joined::Closes => {
@@ -165,7 +166,7 @@ pub fn is_closed(counts: &[u16], elements: &[u16], rank: usize, list: &[u16]) ->
         return true;
     }
     if n <= few_edges(wide(counts[0])) {
-        return each_twice(elements, list, n);
+        return each_twice(elements, list);
     }
-    is_ring(elements, list, n)
+    is_ring(elements, list)
 }

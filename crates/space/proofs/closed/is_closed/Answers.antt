@@ -10,9 +10,6 @@ use Rattle.space.specs.Closed.{few, met_twice, ring_raw}
 use Rattle.space.proofs.TwiceMet.{closed_one, closed_few, closed_many, closed_other}
 use Rattle.space.proofs.closed.is_closed.Goals as goal
 
-all_taken : (l : List ℕ) → take (length l) l ≡ l
-all_taken l = take_all (length l) l (le_of_eq refl)
-
 few_at : {n r w d : ℕ} (l : List ℕ) → length l ≡ n → n ≤ r → r ≡ few w → w ≡ d → length l ≤ few d
 few_at {n} {r} {w} {d} l e h p q = let z : r ≡ few d = p ∙ ap few q in omega (arith, e, h, z)
 
@@ -26,15 +23,15 @@ pub returns-then-rank-ne2 : goal.returns-then-rank-ne2
 returns-then-rank-ne2 c = closed_other (get_or c.args.counts.now 0 0) c.args.elements.now c.args.list.now c.args.rank c.if-rank-eq1.false c.if-rank-ne2.true
 
 pub each_twice-requires : goal.each_twice-requires
-each_twice-requires c = record { elements = c.requires.elements; long = le_of_eq refl; size = c.requires.size; low = c.requires.low; ends = c.requires.ends c.if-rank-ne2.false }
+each_twice-requires c = record { elements = c.requires.elements; size = c.requires.size; low = c.requires.low; ends = c.requires.ends c.if-rank-ne2.false }
 
 pub returns-then-n-few_edges : goal.returns-then-n-few_edges
-returns-then-n-few_edges c = closed_few (get_or c.args.counts.now 0 0) c.args.elements.now c.args.list.now c.args.rank (c.each_twice.ensures ∙ ap (met_twice c.args.elements.now) (all_taken c.args.list.now))
+returns-then-n-few_edges c = closed_few (get_or c.args.counts.now 0 0) c.args.elements.now c.args.list.now c.args.rank c.each_twice.ensures
     (few_at c.args.list.now refl c.if-n-few_edges.true c.few_edges.ensures c.wide.ensures.value) c.if-rank-ne2.false
 
 pub is_ring-requires : goal.is_ring-requires
-is_ring-requires c = record { elements = c.requires.elements; long = le_of_eq refl; size = c.requires.size; low = c.requires.low; ends = c.requires.ends c.if-rank-ne2.false }
+is_ring-requires c = record { elements = c.requires.elements; size = c.requires.size; low = c.requires.low; ends = c.requires.ends c.if-rank-ne2.false }
 
 pub returns : goal.returns
-returns c = closed_many (get_or c.args.counts.now 0 0) c.args.elements.now c.args.list.now c.args.rank (c.is_ring.ensures ∙ ap (ring_raw c.args.elements.now) (all_taken c.args.list.now))
+returns c = closed_many (get_or c.args.counts.now 0 0) c.args.elements.now c.args.list.now c.args.rank c.is_ring.ensures
     (many_at c.args.list.now refl c.if-n-few_edges.false c.few_edges.ensures c.wide.ensures.value) c.if-rank-ne2.false
