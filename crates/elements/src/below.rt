@@ -33,7 +33,7 @@ fn onward(elements: &[u16], e: ElementId, words: &mut [u64; 8])
     mark_boundary(elements, e, words);
 }
 
-// The root and all below it.
+// The root and all below it, from one mark down to the next as document 01 asks: what is marked on the way lies below.
 pub fn below(elements: &[u16], root: ElementId) -> Marks
     requires { Used elements.now root.0 }
     ensures { Below elements.now root.0 result.words }

@@ -9,7 +9,7 @@ use crate::marks::{BITS, Marks, WORDS, mark, zeros_below};
 use rules::ElementId;
 use space::rows::rank_of;
 
-// The boundaries of the elements of a word's marks.
+// The boundaries of the elements of a word's marks, by its zeros as document 01 asks: no number is looked at that is not marked.
 fn mark_under_word(elements: &[u16], word: u64, base: usize, words: &mut [u64; 8])
     requires { WordReady elements.now word base }
     ensures { words.new ≡ marking_under elements.now words.old (bits_from 64 word base) }

@@ -61,7 +61,7 @@ pub fn down_to(words: &[u64; 8], i: usize) -> usize
     if z < b { i - z } else { i - b }
 }
 
-// The numbers of a word's marks, in rising order; the place behind them.
+// The numbers of a word's marks, in rising order, by its zeros as document 01 asks; the place behind them.
 fn list_word(list: &mut [u16], from: usize, word: u64, base: usize) -> usize
     requires { WordFits list.old from word base }
     ensures { WordListed list.old from word base result list.new }

@@ -21,6 +21,7 @@ fn add_ranked(elements: &[u16], set: &[u64; 8], rank: usize, e: ElementId, out: 
     mark(out, e.0);
 }
 
+// From one mark down to the next, by the zeros above it as document 01 asks.
 fn with_rank(elements: &[u16], s: Marks, rank: usize) -> Marks
     requires { length elements.now ≡ 18432 }
     ensures { OfRank elements.now s.words rank result.words }

@@ -64,7 +64,7 @@ fn with_side(s: Tested, side: Side) -> Tested
     }
 }
 
-// The corners of a word, in rising order, up to and with the first at which both an inside and an outside corner have been met.
+// The corners of a word, in rising order, by its zeros as document 01 asks, up to and with the first at which both an inside and an outside corner have been met.
 fn test_word(
     points: &[f64],
     elements: &[u16],
