@@ -24,7 +24,7 @@ use Rattle.rules.proofs.CubeCounts.{vertex_tally, facet_tally}
 use Rattle.rules.proofs.CubeDigits.{digits_length, digit_low, twos_length}
 use Rattle.rules.proofs.CubeElements.{boundary_of_lem}
 use Rattle.rules.proofs.CubeFaces.{face_numbers, faces_known}
-use Rattle.rules.proofs.Laws.{not_eq, test_eq}
+use Rattle.rules.proofs.Laws.{not_eq}
 use Rattle.rules.proofs.Growing.{keep_append}
 use Rattle.hypermath.proofs.Filling.{fill_next}
 use Rattle.cube.specs.Cubes.{FacesSoFar, coordinate_at, component_at}

@@ -11,7 +11,7 @@ use Rattle.rules.specs.Limits.{desk}
 use Rattle.rules.specs.Table.{Element, Table, rank_of, element}
 use Rattle.rules.specs.Held.{Extends, Holds, Came, went, Ranked, AllOf, SetOf, SomeOf}
 use Rattle.rules.specs.Replies.{is_kept}
-use Rattle.rules.specs.Cut.{Outcome, done, next, give, Gathered, Cutting, given, new_intersection, side_of_cut, rule7, rule6, refused}
+use Rattle.rules.specs.Cut.{Outcome, done, next, give, Gathered, Cutting, given, new_intersection, side_of_cut, rule7, rule6}
 use Rattle.rules.specs.declared.ElementAnswer.{ElementAnswer}
 use Rattle.rules.specs.declared.ElementCutOutput.TheVariants.{Flush, NonFlush}
 use Rattle.rules.proofs.Extends.{extends_refl, begins_length, count_more, element_same}

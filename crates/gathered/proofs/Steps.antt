@@ -4,7 +4,7 @@ use mathlib.Core.Bool.{Bool, ◌||◌}
 use mathlib.Core.Path.{◌≡◌, refl, ap, ◌∙◌, subst, sym}
 use native.Mathlib.Omega.{arith}
 use Rattle.rules.specs.Table.{Table}
-use Rattle.rules.specs.Cut.{Outcome, done, next, give, Step, refused}
+use Rattle.rules.specs.Cut.{Outcome, done, next, give, Step}
 use Rattle.rules.specs.Held.{Extends, Came, went, stopped}
 use Rattle.rules.specs.declared.ElementAnswer.{ElementAnswer}
 use Rattle.gathered.specs.Cutting.{answered_by, Told}
