@@ -24,7 +24,7 @@ use Rattle.rules.proofs.CubeCounts.{vertex_tally, facet_tally}
 use Rattle.rules.proofs.CubeDigits.{digits_length, digit_low, twos_length}
 use Rattle.rules.proofs.CubeElements.{boundary_of_lem}
 use Rattle.rules.proofs.CubeFaces.{face_numbers, faces_known}
-use Rattle.rules.proofs.Laws.{not_eq, test_eq}
+use Rattle.rules.proofs.Laws.{not_eq}
 use Rattle.rules.proofs.Growing.{keep_append}
 use Rattle.hypermath.proofs.Filling.{fill_next}
 use Rattle.cube.specs.Cubes.{FacesSoFar, coordinate_at, component_at}
@@ -49,9 +49,6 @@ rank_low d e l = let h = twos_length (digits d e) in let k = digits_length d e i
 
 pub faces_few : (d e : ℕ) (f : Faces) → d ≤ 4 → FacesSoFar f (map of_digits (faces (digits d e))) → f.n ≤ 8
 faces_few d e f l g = let h = faces_twice d e f g in let k = rank_low d e l in omega (arith, h, k)
-
-pub facet_no : (d e r : ℕ) → r ≡ twos (digits d e) → r ≡ 0 → false ≡ is_facet (digits d e)
-facet_no d e r q z = ap (λ (b : Bool). not b && eqb (suc (twos (digits d e))) (length (digits d e))) (sym (test_eq (twos (digits d e)) 0 (sym q ∙ z)))
 
 pub facet_is : (d e r : ℕ) → r ≡ twos (digits d e) → (r ≡ 0 → ⊥) → eqb (r + 1) d ≡ is_facet (digits d e)
 facet_is d e r q z =
@@ -276,14 +273,6 @@ chosen_few p d (suc e) = subst (λ (n : ℕ). length (chosen p d n) ≤ n) (add-
 -- cleared room is that of no entries
 pub cleared : {A B : Type 0} (z : B) (f : A → List B) (n room : ℕ) → n ≡ room → replicate n z ≡ laid z room f []
 cleared z f n room s = ap (λ (m : ℕ). replicate m z) (let h : n ≡ room - 0 = omega (arith, s) in h)
-
-pub four_put : (cs : List ℕ) (d e v h : ℕ) → length cs ≡ 4 → set (set (set (set cs 0 d) 1 e) 2 v) 3 h ≡ d ∷ e ∷ v ∷ h ∷ []
-four_put [] d e v h q = absurd (let z : ⊥ = omega (arith, q) in z)
-four_put (a ∷ []) d e v h q = absurd (let z : ⊥ = omega (arith, q) in z)
-four_put (a ∷ b ∷ []) d e v h q = absurd (let z : ⊥ = omega (arith, q) in z)
-four_put (a ∷ b ∷ c ∷ []) d e v h q = absurd (let z : ⊥ = omega (arith, q) in z)
-four_put (a ∷ b ∷ c ∷ x ∷ []) d e v h q = refl
-four_put (a ∷ b ∷ c ∷ x ∷ y ∷ r) d e v h q = absurd (let z : ⊥ = omega (arith, q) in z)
 
 pub cube_put : (d : ℕ) (radius : Float) (cs : List ℕ) (ps hs : List Float) (es : List ℕ)
     → cs ≡ d ∷ 3 ^ d ∷ length (chosen is_vertex d (3 ^ d)) ∷ length (chosen is_facet d (3 ^ d)) ∷ [] → ps ≡ cube_points d radius (3 ^ d) → hs ≡ cube_planes d radius (3 ^ d) → es ≡ cube_elements d (3 ^ d)

@@ -18,7 +18,7 @@ use space::memory::Memory;
 use space::words::{AXES, NO_PLANE, PLANE_WIDTH, SET, WIDTH, right_size};
 use space::{memo, rows};
 
-// Some numbers of a boundary, in the front of their room.
+// Some numbers of a boundary, in the front of their room: there is no heap, and how many there are is known only at run time.
 #[derive(Clone, Copy)]
 struct Faces {
     list: [u16; SET],
@@ -190,6 +190,7 @@ fn put_corner(points: &mut [f64], d: usize, radius: f64, e: ElementId, v: Vertex
     VertexId(v.0 + 1)
 }
 
+// One by one, as the facets below: what is put differs, and what is counted.
 fn put_corners(points: &mut [f64], d: usize, radius: f64) -> usize
     requires { PointsReady d radius points.old }
     ensures { PointsPut d radius result points.new }

@@ -58,7 +58,7 @@ pub fn is_within(bound: f64, x: f64) -> bool
     -bound <= x && x <= bound
 }
 
-// The products, each rounded, added in axis order.
+// The products, each rounded, added in axis order: a loop, for the order of the sum is the rule.
 pub fn dot(d: usize, a: [f64; 4], b: [f64; 4]) -> f64
     ensures { result ≡ floats.dot (take d a) (take d b) }
 {
@@ -173,7 +173,7 @@ pub fn edge_test(d: usize, h: Hyperplane, ends: [[f64; 4]; 2]) -> EdgeTest
     EdgeTest { crossing, warning }
 }
 
-// x, brought back between the ends a and b.
+// x, brought back between the ends a and b: f64::clamp would keep a NaN.
 pub fn clamp(a: f64, b: f64, x: f64) -> f64
     ensures { Clamped a b x result }
 {
@@ -189,7 +189,7 @@ pub fn clamp(a: f64, b: f64, x: f64) -> f64
     x
 }
 
-// a + (b - a) x t on each axis of the dimension, clamped between the two, and zero past the dimension.
+// a + (b - a) x t on each axis of the dimension, clamped between the two, and zero past the dimension: one index goes through three arrays.
 fn point_between(d: usize, a: [f64; 4], b: [f64; 4], t: f64) -> [f64; 4]
     ensures { result ≡ pad floats.plus_zero axes (floats.crossing_point t (take d a) (take d b)) }
 {
@@ -284,7 +284,7 @@ pub fn hyperplane_at(planes: &[f64], k: HyperplaneId) -> Hyperplane
     }
 }
 
-// The lowest of n vertices that matches a point; a vertex is left at its first unlike axis.
+// The lowest of n vertices that matches a point; a vertex is left at its first unlike axis, by a label, as docs/RULES.md says.
 fn search_vertices(d: usize, points: &[f64], n: usize, p: [f64; 4]) -> Option<VertexId>
     requires { n * axes ≤ length points.now }
     ensures { vertex_number result ≡ find (λ q. floats.point_matches q (take d p)) (points_in d n points.now) }

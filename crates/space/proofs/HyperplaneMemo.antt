@@ -47,14 +47,6 @@ primordials_two zero h = absurd (let z : ⊥ = omega arith in z)
 primordials_two (suc zero) h = absurd (let z : ⊥ = omega arith in z)
 primordials_two (suc (suc d)) h = refl
 
-pub five_stores : (l : List Float) (at : ℕ) (a b c d e : Float) → set (set (set (set (set l at a) (at + 1) b) (at + 2) c) (at + 3) d) (at + 4) e ≡ sets l at (a ∷ b ∷ c ∷ d ∷ e ∷ [])
-five_stores l at a b c d e =
-    let e₁ : at + 1 ≡ suc at = omega arith in
-    let e₂ : at + 2 ≡ suc (suc at) = omega arith in
-    let e₃ : at + 3 ≡ suc (suc (suc at)) = omega arith in
-    let e₄ : at + 4 ≡ suc (suc (suc (suc at))) = omega arith in
-    λ i. set (set (set (set (set l at a) (e₁ i) b) (e₂ i) c) (e₃ i) d) (e₄ i) e
-
 pub five_is : (p : List Float) → length p ≡ 5 → five p ≡ p
 five_is [] h = absurd (let z : ⊥ = omega (arith, h) in z)
 five_is (a ∷ []) h = absurd (let z : ⊥ = omega (arith, h) in z)

@@ -6,8 +6,8 @@ use mathlib.Core.Path.{◌≡◌, sym, ap, ap₂, ◌∙◌, refl, subst}
 use native.Mathlib.Nat.{zero-add, le_trans, le_of_eq}
 use native.Mathlib.Omega.{arith}
 use lib.Dec.{eqb, leb, lit≤}
-use lib.ListN.{length, get_or, take}
-use lib.Seq.{get_or-take, length-take-le, take_all}
+use lib.ListN.{length, get_or}
+use lib.Seq.{take_all}
 use borrow.Author.Tests.{lt-leb}
 use Rattle.rules.specs.Held.{Fits, elements_of}
 use Rattle.rules.specs.Limits.{desk}

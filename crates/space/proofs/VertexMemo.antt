@@ -53,13 +53,6 @@ four_is (a ∷ b ∷ c ∷ []) h = absurd (let z : ⊥ = omega (arith, h) in z)
 four_is (a ∷ b ∷ c ∷ d ∷ []) h = refl
 four_is (a ∷ b ∷ c ∷ d ∷ e ∷ r) h = absurd (let z : ⊥ = omega (arith, h) in z)
 
-pub four_stores : (l : List Float) (at : ℕ) (a b c d : Float) → set (set (set (set l at a) (at + 1) b) (at + 2) c) (at + 3) d ≡ sets l at (a ∷ b ∷ c ∷ d ∷ [])
-four_stores l at a b c d =
-    let e₁ : at + 1 ≡ suc at = omega arith in
-    let e₂ : at + 2 ≡ suc (suc at) = omega arith in
-    let e₃ : at + 3 ≡ suc (suc (suc at)) = omega arith in
-    λ i. set (set (set (set l at a) (e₁ i) b) (e₂ i) c) (e₃ i) d
-
 pub corner_is : (v : ℕ) → set (set (set (replicate 36 0) 2 65535) 3 1) 4 v ≡ element_words desk (corner v)
 unfolding element_row
 corner_is v = refl

@@ -43,11 +43,11 @@ pub const ELEMENT_WORDS: usize = 18432;
 // What an element that names no hyperplane has in its place.
 pub const NO_PLANE: u16 = 65535;
 
-// A word as a number to count and index with.
+// A word as a number to count and index with; a function of its own, whose contract gives proofs the bound of a word.
 pub fn wide(x: u16) -> usize
     ensures { NumberBelow result x 65536 }
 {
-    x as usize
+    usize::from(x)
 }
 
 // Whether the four slices are the room of a table.

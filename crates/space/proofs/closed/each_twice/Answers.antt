@@ -1,7 +1,5 @@
 -- The ends that are met so far and those that are left make up the whole; n second meetings mean that each end is met twice.
-use mathlib.Core.Path.{ap, sym, ◌∙◌}
-use lib.Dec.{eqb}
-use lib.ListN.{take, replicate}
+use lib.ListN.{replicate}
 use native.Mathlib.Omega.{arith}
 use borrow.Author.Rules.{rules}
 use Rattle.rules.specs.Limits.{desk}

@@ -3,10 +3,8 @@ use Prim.Native.Nat.{ℕ, ◌≤◌, ◌<◌}
 use mathlib.Core.List.{List}
 use mathlib.Core.Path.{◌≡◌, refl, ap, ◌∙◌}
 use native.Mathlib.Omega.{arith}
-use native.Mathlib.Nat.{le_of_eq}
-use lib.Seq.{take_all}
-use lib.ListN.{get_or, length, take}
-use Rattle.space.specs.Closed.{few, met_twice, ring_raw}
+use lib.ListN.{get_or, length}
+use Rattle.space.specs.Closed.{few}
 use Rattle.space.proofs.TwiceMet.{closed_one, closed_few, closed_many, closed_other}
 use Rattle.space.proofs.closed.is_closed.Goals as goal
 
