@@ -157,7 +157,8 @@ module _ {cs es : List ℕ} {r e : ℕ} {set : Set} {x : Option ElementId} where
     indexed = R.indexed;
   }
 
-  pub side_kept : {ix : List ℕ} {keep : Bool} {y : Reply (Option ElementId)} {cs' es' ix' : List ℕ} → SideReady cs es ix r e set x → (plane : ℕ) (mark : Bool) (all : Set) (list : List ℕ) → list ≡ all.numbers → (n : ℕ) → n ≡ size_in all → keep ≡ true
+  pub side_kept : {ix : List ℕ} {keep : Bool} {y : Reply (Option ElementId)} {cs' es' ix' : List ℕ} → SideReady cs es ix r e set x → (plane : ℕ) (mark : Bool) (all : Set) (list : List ℕ) → list ≡ all.numbers → (n : ℕ) → n ≡ size_in all
+      → keep ≡ true
       → plane ≡ get_or es (e * 36 + 2) 0 → mark ≡ eqb (get_or es (e * 36 + 1) 0) 1 → Included set x all
       → PolytopeAdded cs es r (take n list) plane mark y cs' es' → Indexed es' (get_or cs' 1 0) ix' → SideMade cs es r e keep set x y cs' es' ix' all
   side_kept {ix} {keep} {y} {cs'} {es'} R plane mark all list whole n size q p m I A indexed = record {
