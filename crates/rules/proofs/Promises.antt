@@ -40,7 +40,7 @@ use Rattle.rules.proofs.Touching.{touch_numbers, touch_infinite, touch_is_read, 
 use Rattle.rules.proofs.VertexSet.{vertex_set_rises, no_facet_in_one_dimension}
 use Rattle.rules.proofs.WalkRound.{walk_goes_round}
 use Rattle.rules.proofs.Warned.{warns_of_close_calls}
-use Rattle.rules.specs.Refusals.{Reply, reply_number}
+use Rattle.rules.specs.Refusals.{Reply}
 use Rattle.rules.specs.declared.ElementAnswer.{ElementAnswer}
 use Rattle.rules.specs.declared.ElementId.{ElementId}
 

@@ -27,7 +27,7 @@ use Rattle.rules.specs.Promises.{RefusedCutLeaves, RefusedCubeLeaves, RefusedLis
 use Rattle.rules.specs.declared.ElementAnswer.{ElementAnswer}
 use Rattle.rules.specs.declared.CutParams.{CutParams}
 use Rattle.rules.proofs.Built.{RuleNumber, refused_number}
-use Rattle.rules.proofs.Laws.{holds, and_left, le_test, eq_test, test_eq, either, if_true, or_left, or_right, none_some}
+use Rattle.rules.proofs.Laws.{holds, and_left, le_test, eq_test, either, if_true, or_right, none_some}
 use Rattle.rules.proofs.OneCall.{reply_by_lem, reply_by, sound_table}
 use Rattle.rules.proofs.RingWalked.{face_is_walked}
 use Rattle.rules.specs.Refusals.{refusal_number, Reply, reply_number}

@@ -20,7 +20,7 @@ use Rattle.rules.specs.Cut.{side_of_cut, including, rule7, Cutting, Params, Gath
 use Rattle.rules.specs.Cut.{cut_boundary, gathering, cut_element, cut_corner, cut_higher, nothing_yet, cut_finite, cut_at_distance}
 use Rattle.rules.specs.declared.ElementAnswer.{ElementAnswer}
 use Rattle.rules.proofs.Good.{sound_good, good_sound}
-use Rattle.rules.proofs.Laws.{test_le, le_test, not_le, and_true, and_left, and_right, unlike_eq}
+use Rattle.rules.proofs.Laws.{test_le, le_test, not_le, and_true, and_left, and_right}
 use Rattle.rules.specs.declared.ElementId.{ElementId}
 use Rattle.rules.specs.declared.Refusal.TheVariants.{NotClosed, VerticesFull, ElementsFull, HyperplanesFull, BoundaryFull}
 use Rattle.rules.specs.Refusals.{refusal_number}

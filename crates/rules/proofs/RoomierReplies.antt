@@ -39,7 +39,7 @@ use Rattle.rules.proofs.AfterList.{list_by, list_by_lem}
 use Rattle.rules.proofs.CutLists.{as_many}
 use Rattle.rules.proofs.FileReplies.{accepted, taken, open_accepted, opens_roomier, layout_alone}
 use Rattle.rules.proofs.Good.{sound_good}
-use Rattle.rules.proofs.Laws.{and_true, and_left, and_right, or_case, le_test, test_le, test_eq, eq_test, if_true}
+use Rattle.rules.proofs.Laws.{and_true, and_left, and_right, le_test, test_le, test_eq, eq_test, if_true}
 use Rattle.rules.proofs.OneCall.{sound_table, reply_by, reply_by_lem, it, memory_table}
 use Rattle.rules.proofs.Refusals.{cut_refusal_number, cube_by, cube_by_lem}
 use Rattle.rules.proofs.Roomier.{Alike, cut_alike, sound_alike}

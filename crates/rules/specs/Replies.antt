@@ -16,7 +16,7 @@ use Rattle.rules.specs.declared.PolytopeFate.{PolytopeFate}
 use Rattle.rules.specs.declared.PolytopeFate.TheVariants.{Remove, Keep}
 use Rattle.rules.specs.declared.CutParams.{CutParams}
 use Rattle.rules.specs.declared.ElementAnswer.{ElementAnswer}
-use Rattle.rules.specs.Refusals.{Reply, reply_number}
+use Rattle.rules.specs.Refusals.{Reply}
 use Rattle.rules.specs.declared.ElementId.{ElementId}
 use Rattle.rules.specs.declared.Refusal.TheVariants.{Dimension, Radius, NotSound, NotInUse, Divider, RoomShort}
 
