@@ -106,7 +106,7 @@ row_polytope d e f h b p q g n =
     xs = map of_digits (faces (digits d e))
 
     list : take f.n f.list ≡ xs
-    list = ap₂ take g.size g.list ∙ take-append_seam xs (replicate (34 - length xs) 0)
+    list = ap₂ take g.size g.list ∙ take-append_seam xs (replicate (33 - length xs) 0)
 
 pub facet_named : (h n : ℕ) → h ≡ n → n < 9 → plane_named h ≡ Some n
 facet_named h n q l = ap plane_named q ∙ ap (λ (b : Bool). if b then None else Some n) (not_eq n no_plane (λ e. let z : ⊥ = omega (arith, l, e) in z))

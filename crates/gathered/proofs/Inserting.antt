@@ -73,7 +73,7 @@ set_there u t y x at e = ap (λ (k : ℕ). set (u ++ y ∷ t) k x) (sym e) ∙ g
 
 -- ---- in the set
 
-module _ (s : Set) (x : ℕ) (Z : SizedSet s 32) (long : length s.numbers ≡ 34) where
+module _ (s : Set) (x : ℕ) (Z : SizedSet s 32) (long : length s.numbers ≡ 33) where
   abbrev xs : List ℕ
   xs = numbers_in s
 
@@ -127,7 +127,7 @@ module _ (s : Set) (x : ℕ) (Z : SizedSet s 32) (long : length s.numbers ≡ 34
       ∙ set_there (take at d) (take (n - at) (drop at d)) (get_or d at 0) x at (length-take-le at d (omega (arith, a, long, l)))
       ∙ ap₂ (λ (m k : List ℕ). m ++ x ∷ k) (sym (take-take at n d l)) (sym (ap (λ (m : ℕ). drop at (take m d)) (let q : n ≡ at + (n - at) = omega (arith, l) in q) ∙ drop-take at (n - at) d))
 
-  put_long : (at : ℕ) → at ≤ size_in s → length (shifted s x at) ≡ 34
+  put_long : (at : ℕ) → at ≤ size_in s → length (shifted s x at) ≡ 33
   put_long at l =
       let a = Z.most in
       length-set _ at x ∙ length-paste s.numbers (at + 1) (drop at s.numbers) (size_in s - at) (omega (arith, a, long, l)) (let d = length-drop at s.numbers in omega (arith, a, long, d)) ∙ long
@@ -159,7 +159,7 @@ module _ (s : Set) (x : ℕ) (Z : SizedSet s 32) (long : length s.numbers ≡ 34
             let q : at < size_in s = le_trans h (le_of_eq xs_long) in
             subst (λ (y : ℕ). x < y) (sym (entry at q)) (less (get_or s.numbers at 0) (P.stop q) (k q))
 
-pub include_none : (s : Set) → length s.numbers ≡ 34 → Included s None s
+pub include_none : (s : Set) → length s.numbers ≡ 33 → Included s None s
 include_none s long = record {
   of = refl;
   long = long;

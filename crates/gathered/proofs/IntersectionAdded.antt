@@ -20,7 +20,6 @@ use Rattle.rules.proofs.Laws.{le_test}
 use Rattle.rules.proofs.Stays.{rank_above}
 use Rattle.space.specs.Ready.{PolytopeReady}
 use Rattle.space.specs.Chains.{Indexed}
-use Rattle.space.specs.Closed.{Low, LowEnds}
 use Rattle.space.proofs.RowMade.{taken, front_low, front_ends}
 use Rattle.space.specs.Shared.{PolytopeAdded}
 use Rattle.space.proofs.VertexMemo.{dimension_is}
@@ -43,7 +42,7 @@ module _ {cs es : List ℕ} {r : ℕ} {k : Cutter} {set : Set} where
   pub plane_asks : {ix : List ℕ} → IntersectionReady cs es ix r k set → PlaneReady cs k.number.0
   plane_asks R = record { counts = (slices R.fit.holds).counts; room = le_trans R.fit.plane R.fit.holds.fits.plane_room }
 
-  pub intersection_asks : {ix : List ℕ} → IntersectionReady cs es ix r k set → length set.numbers ≡ 34 → (list : List ℕ) → list ≡ numbers_in set → PolytopeReady cs es ix (r - 1) list
+  pub intersection_asks : {ix : List ℕ} → IntersectionReady cs es ix r k set → length set.numbers ≡ 33 → (list : List ℕ) → list ≡ numbers_in set → PolytopeReady cs es ix (r - 1) list
   intersection_asks {ix} R long list whole =
       let F = R.fit in
       let t = R.table in

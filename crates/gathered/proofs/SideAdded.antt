@@ -25,7 +25,7 @@ use Rattle.rules.proofs.Ranked.{set_including}
 use Rattle.rules.proofs.RoundTrip.{plane_back}
 use Rattle.space.specs.Ready.{ElementReady, PolytopeReady}
 use Rattle.space.specs.Chains.{Indexed}
-use Rattle.space.specs.Closed.{Low, LowEnds, Edges}
+use Rattle.space.specs.Closed.{Edges}
 use Rattle.space.proofs.RowMade.{taken, front_low, front_ends}
 use Rattle.space.specs.Shared.{PolytopeAdded}
 use Rattle.space.proofs.Room.{size_of, list_of, plane_word, mark_word, size_word_lem, list_word_lem}

@@ -22,7 +22,7 @@ numbers_in s = take s.size s.numbers
 
 -- a set of no number
 abbrev pub empty_set : Set
-empty_set = record { numbers = replicate 34 0; size = 0 }
+empty_set = record { numbers = replicate 33 0; size = 0 }
 
 -- a set whose numbers are gone
 abbrev pub emptied : Set → Set
@@ -114,7 +114,7 @@ pub record IncludeReady (s : Set) (p : Option ElementId) : Type 0 where
 -- the set with the element in it, if there is one
 pub record Included (s : Set) (p : Option ElementId) (r : Set) : Type 0 where
   pub of : numbers_in r ≡ including p (numbers_in s)
-  pub long : length r.numbers ≡ 34
+  pub long : length r.numbers ≡ 33
   pub sized : (m : ℕ) → SizedSet s m → SizedSet r (m + 1)
 
 -- ---- an answer gathered

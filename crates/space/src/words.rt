@@ -17,10 +17,8 @@ pub const HYPERPLANES: usize = 64;
 // And for so many numbers in a boundary.
 pub const BOUNDARY: usize = 32;
 
-// The words of a set of numbers: places for one more than a boundary, so that rule 8 can refuse, and behind them how many are in use.
-pub const SET: usize = 34;
-
-pub const SIZE: usize = 33;
+// The places of a set of numbers: one more than a boundary has, so that rule 8 can refuse.
+pub const SET: usize = 33;
 
 // The dimension, and how many elements, vertices and hyperplanes are in use.
 pub const COUNTS: usize = 4;

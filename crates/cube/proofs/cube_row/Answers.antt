@@ -36,7 +36,7 @@ polytope_row-requires c =
     let few : c.faces_of-f.result.n ≤ 8 =
     faces_few c.args.d c.args.e.0 c.faces_of-f.result c.requires.in_cube.axes c.faces_of-f.ensures in
     let k = few in
-    record { size = (let t = length-take-le c.faces_of-f.result.n c.faces_of-f.result.list (let q : length c.faces_of-f.result.list ≡ 34 = search rules in omega (arith, k, q)) in omega (arith, t, k)); rank = omega (arith, k) }
+    record { size = (let t = length-take-le c.faces_of-f.result.n c.faces_of-f.result.list (let q : length c.faces_of-f.result.list ≡ 33 = search rules in omega (arith, k, q)) in omega (arith, t, k)); rank = omega (arith, k) }
 
 pub returns-then-is_facet : goal.returns-then-is_facet
 returns-then-is_facet c =
@@ -54,7 +54,7 @@ polytope_row-requires-2 c =
     let few : c.faces_of-f.result.n ≤ 8 =
     faces_few c.args.d c.args.e.0 c.faces_of-f.result c.requires.in_cube.axes c.faces_of-f.ensures in
     let k = few in
-    record { size = (let t = length-take-le c.faces_of-f.result.n c.faces_of-f.result.list (let q : length c.faces_of-f.result.list ≡ 34 = search rules in omega (arith, k, q)) in omega (arith, t, k)); rank = omega (arith, k) }
+    record { size = (let t = length-take-le c.faces_of-f.result.n c.faces_of-f.result.list (let q : length c.faces_of-f.result.list ≡ 33 = search rules in omega (arith, k, q)) in omega (arith, t, k)); rank = omega (arith, k) }
 
 pub returns : goal.returns
 returns c =
