@@ -1,4 +1,4 @@
-// Every entry point for hosts: slices as a pointer and a length, and numbers of 32 bits, so that none is cut to another on its way.
+// Every entry point for hosts: slices as a pointer and a length, and numbers of 32 bits, so that none is cut to another on its way. C knows neither `Memory` nor `Reply`: each of the four slices is lent by itself, and a reply is one number.
 #![tactic(auto)]
 
 mod words;

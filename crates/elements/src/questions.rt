@@ -16,11 +16,7 @@ use space::rows::rank_of;
 use space::words::wide;
 
 // The root and all below it.
-pub fn subelements_of(
-    memory: Memory,
-    root: ElementId,
-    list: &mut [u16],
-) -> Reply<usize>
+pub fn subelements_of(memory: Memory, root: ElementId, list: &mut [u16]) -> Reply<usize>
     ensures { (result, list.new) ≡ sub_elements_reply desk (lent memory.entry) root.0 list.old }
 {
     root_asked(memory, root)?;
@@ -43,11 +39,7 @@ pub fn subelements_with_rank(
 }
 
 // The numbers of the vertices, which are no element numbers.
-pub fn vertex_set(
-    memory: Memory,
-    root: ElementId,
-    list: &mut [u16],
-) -> Reply<usize>
+pub fn vertex_set(memory: Memory, root: ElementId, list: &mut [u16]) -> Reply<usize>
     ensures { (result, list.new) ≡ vertex_set_reply desk (lent memory.entry) root.0 list.old }
 {
     root_asked(memory, root)?;
@@ -56,11 +48,7 @@ pub fn vertex_set(
 }
 
 // Those of the highest rank above 0 that all roots have; the roots are one or more, of one rank.
-pub fn greatest_common_subelements(
-    memory: Memory,
-    roots: &[u16],
-    list: &mut [u16],
-) -> Reply<usize>
+pub fn greatest_common_subelements(memory: Memory, roots: &[u16], list: &mut [u16]) -> Reply<usize>
     ensures { (result, list.new) ≡ greatest_common_reply desk (lent memory.entry) roots.now list.old }
 {
     roots_asked(memory, roots)?;

@@ -156,11 +156,7 @@ fn untested(answer: Touch) -> Touched
 }
 
 // 3, 4, 5, then rule 1, and the corners. The memory is read only.
-pub fn touch(
-    memory: Memory,
-    h: Hyperplane,
-    root: ElementId,
-) -> Reply<Touched>
+pub fn touch(memory: Memory, h: Hyperplane, root: ElementId) -> Reply<Touched>
     ensures { result ≡ touch_reply desk h root.0 (lent memory.entry) }
 {
     let mut index = [0u16; INDEX];
