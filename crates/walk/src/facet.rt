@@ -25,10 +25,7 @@ fn any_primordial(elements: &[u16], e: ElementId) -> bool
 }
 
 // 3, 4, and 6 unless the rank is the dimension.
-pub fn has_primordial_facet(
-    memory: Memory,
-    root: ElementId,
-) -> Reply<bool>
+pub fn has_primordial_facet(memory: Memory, root: ElementId) -> Reply<bool>
     ensures { result ≡ primordial_facet_reply desk (lent memory.entry) root.0 }
 {
     root_asked(memory, root)?;

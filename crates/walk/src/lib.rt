@@ -161,11 +161,7 @@ pub fn face_in_order(elements: &[u16], f: ElementId, list: &mut [u16]) -> Reply<
 }
 
 // 3, 4, 6, and 12 last.
-pub fn edges_in_order(
-    memory: Memory,
-    root: ElementId,
-    list: &mut [u16],
-) -> Reply<usize>
+pub fn edges_in_order(memory: Memory, root: ElementId, list: &mut [u16]) -> Reply<usize>
     ensures { (result, list.new) ≡ edges_in_order_reply desk (lent memory.entry) root.0 list.old }
 {
     root_asked(memory, root)?;
