@@ -88,11 +88,7 @@ fn sheet_of(points: &[f64], elements: &[u16], pieces: &[u16], areas: &mut [i64])
 }
 
 // 3, 26, 4, 6, 25, 12, each of all pieces before the next; the room gets the areas, their count, and the sum of their sizes.
-pub fn areas(
-    memory: Memory,
-    pieces: &[u16],
-    areas: &mut [i64],
-) -> Reply<usize>
+pub fn areas(memory: Memory, pieces: &[u16], areas: &mut [i64]) -> Reply<usize>
     ensures { (result, areas.new) ≡ areas_reply desk (lent memory.entry) pieces.now areas.old }
 {
     if !memory_sound(memory) {

@@ -1,5 +1,5 @@
 -- What is kept of the elements that were judged, so that the next row can be: four words for each. Definitions only.
-use Rattle.std.specs.Prelude.{ℕ, ◌+◌, ◌*◌, ◌<◌, ◌≤◌, Bool, ◌≡◌, List, eqb, length, get_or, set, drop, Option, Some, None}
+use Rattle.std.specs.Prelude.{ℕ, ◌+◌, ◌*◌, ◌<◌, ◌≤◌, Bool, ◌≡◌, List, eqb, length, get_or, set, drop, Option}
 use Rattle.rules.specs.Held.{elements_of}
 use Rattle.rules.specs.Limits.{desk}
 use Rattle.rules.specs.Lists.{alike, find, pad, rows}

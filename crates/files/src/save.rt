@@ -57,10 +57,7 @@ fn table(memory: Memory, file: &mut [u8]) -> usize
 }
 
 // The file of a table at the front of the room.
-pub fn save(
-    memory: Memory,
-    file: &mut [u8],
-) -> Reply<usize>
+pub fn save(memory: Memory, file: &mut [u8]) -> Reply<usize>
     ensures { (result, file.new) ≡ save_reply desk (lent memory.entry) file.old }
 {
     if !memory_sound(memory) {

@@ -74,11 +74,7 @@ fn solid(points: &[f64], elements: &[u16], root: ElementId, file: &mut [u8]) -> 
 }
 
 // The print file of a piece at the front of the room.
-pub fn stl(
-    memory: Memory,
-    root: ElementId,
-    file: &mut [u8],
-) -> Reply<usize>
+pub fn stl(memory: Memory, root: ElementId, file: &mut [u8]) -> Reply<usize>
     ensures { (result, file.new) ≡ print_reply desk (lent memory.entry) root.0 file.old }
 {
     let primordial = has_primordial_facet(memory, root)?;
