@@ -1,6 +1,6 @@
 -- The promises of a record's turn, by cases on its tests: too little room, a cube, a cut, a bad record.
 use Rattle.std.specs.Prelude.{if◌then◌else◌, Option, Some, None, Err, Ok}
-use Prim.Native.Nat.{ℕ, zero, suc, ◌+◌, ◌≤◌, ◌<◌}
+use Prim.Native.Nat.{ℕ, suc, ◌+◌, ◌≤◌, ◌<◌}
 use mathlib.Core.Bool.{Bool, true, false, ◌&&◌, false≢true}
 use mathlib.Core.List.{List, [], ◌∷◌}
 use mathlib.Core.Path.{◌≡◌, refl, sym, ap, subst, ◌∙◌}

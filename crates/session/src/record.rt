@@ -13,7 +13,9 @@ ghost use Rattle.session.specs.Ready.{ComponentReady, DividerReady, CubeTurnRead
 
 use crate::{Taken, line};
 use lent_bytes::read;
-use rules::{CutParams, ElementAnswer, ElementCutOutput, ElementId, Hyperplane, PolytopeFate, Reply};
+use rules::{
+    CutParams, ElementAnswer, ElementCutOutput, ElementId, Hyperplane, PolytopeFate, Reply,
+};
 use space::words::wide;
 
 // Every mark's first byte is 43.
