@@ -1,20 +1,15 @@
 -- The number is that of the reply, and a side's number tells what becomes of it.
 use Prim.Native.Nat.{ℕ}
-use mathlib.Core.Bool.{Bool, not}
 use mathlib.Core.Path.{◌≡◌, sym, ap, ap₂, ◌∙◌}
 use Rattle.rules.specs.Limits.{desk}
 use Rattle.rules.specs.Memory.{Memory}
-use Rattle.rules.specs.Replies.{output_word, fate_of, cut_by, cut_reply}
+use Rattle.rules.specs.Replies.{output_word, cut_by, cut_reply}
 use Rattle.rules.specs.declared.Hyperplane.{Hyperplane}
-use Rattle.rules.specs.declared.ElementCutOutput.{ElementCutOutput}
 use Rattle.rules.specs.declared.PolytopeFate.{PolytopeFate}
-use Rattle.rules.specs.declared.PolytopeFate.TheVariants.{Remove, Keep}
-use Rattle.rules.proofs.Laws.{test_eq, not_eq}
-use Rattle.desk.specs.Words.{cut_word, fate_by}
+use Rattle.desk.specs.Words.{cut_word}
 use Rattle.rules.specs.Refusals.{Reply}
 use Rattle.rules.specs.declared.ElementAnswer.{ElementAnswer}
 use Rattle.std.specs.Prelude.{Err, Ok}
-use Rattle.rules.specs.Replies.{answer_with}
 use Rattle.rules.specs.Refusals.{refusal_number}
 use Rattle.rules.specs.declared.Refusal.{Refusal}
 

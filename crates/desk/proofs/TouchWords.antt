@@ -17,13 +17,11 @@ use Rattle.rules.specs.Replies.{divider_fits, divider_of}
 use Rattle.rules.specs.Touch.{vertex_side, corner_sides, is_inside, is_outside, tested_from, touch_at_distance, touch, touch_reply, touch_value}
 use Rattle.rules.specs.declared.Hyperplane.{Hyperplane}
 use Rattle.rules.specs.declared.Side.{Side}
-use Rattle.rules.specs.declared.Touch.{Touch}
 use Rattle.desk.specs.Words.{longest, CountFits, touch_word}
 use Rattle.desk.proofs.ListWords.{rank_fits_list}
 use Rattle.rules.specs.Refusals.{Reply}
 use Rattle.rules.specs.declared.Refusal.TheVariants.{Divider, NotInUse, NotSound}
 use Rattle.rules.specs.declared.Touched.{Touched}
-use Rattle.rules.specs.Touch.{touch_with}
 
 tested_few : (i o : Bool) (ss : List Side) → tested_from i o ss ≤ length ss
 unfolding tested_from

@@ -54,9 +54,7 @@ pub extern "C" fn desk_cube(
         number_word (cube_reply desk ndim radius (memory_of counts.old points.old planes.old elements.old)) }
 {
     let dimension = ndim as u64;
-    number(cube::with_primordial_cube_radius(
-        dimension, radius, counts, points, planes, elements,
-    ))
+    number(cube::with_primordial_cube_radius(dimension, radius, counts, points, planes, elements))
 }
 
 #[unsafe(no_mangle)]

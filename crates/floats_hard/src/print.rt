@@ -1,6 +1,6 @@
 // How a line shows what the functions answer.
-use hypermath::narrow::narrowed_bits;
 use hypermath::DistanceKind;
+use hypermath::narrow::narrowed_bits;
 use rules::{EdgeTest, Hyperplane, HyperplaneId, Side, VertexId};
 use std::fmt;
 

@@ -39,7 +39,11 @@ impl Case for SoundCase {
     fn print(&self, rt: &HostRuntime, memory: &mut Memory) -> io::Result<()> {
         memory.hold(self.base.held());
         memory.put_all(self.runs);
-        println!(rt; "sound {} {}", self.name, number(memory.soundness(self.lengths)))
+        println!(rt;
+            "sound {} {}",
+            self.name,
+            number(memory.soundness(self.lengths))
+        )
     }
 }
 
