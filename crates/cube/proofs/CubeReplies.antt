@@ -17,10 +17,12 @@ use Rattle.rules.proofs.Laws.{test_le, test_above}
 
 module _ (d : ℕ) (radius : Float) (cs : List ℕ) (ps hs : List Float) (es : List ℕ) where
   reply_of_lem : (a b c e : Bool) → leb 1 d ≡ a → leb d 4 ≡ b → radius_fits radius ≡ c → right_size desk (memory_of cs ps hs es) ≡ e
-      → (if not (a && b) then (Err Dimension, memory_of cs ps hs es) else if not c then (Err Radius, memory_of cs ps hs es) else if not e then (Err NotSound, memory_of cs ps hs es) else (Ok tt, encode desk (cube d radius))) ≡ cube_reply desk d radius (memory_of cs ps hs es)
+      → (if not (a && b) then (Err Dimension, memory_of cs ps hs es) else if not c then (Err Radius, memory_of cs ps hs es)
+      else if not e then (Err NotSound, memory_of cs ps hs es) else (Ok tt, encode desk (cube d radius))) ≡ cube_reply desk d radius (memory_of cs ps hs es)
   unfolding cube_reply
   reply_of_lem a b c e p q r s i =
-      if not (sym p i && sym q i) then (Err Dimension, memory_of cs ps hs es) else if not (sym r i) then (Err Radius, memory_of cs ps hs es) else if not (sym s i) then (Err NotSound, memory_of cs ps hs es) else (Ok tt, encode desk (cube d radius))
+      if not (sym p i && sym q i) then (Err Dimension, memory_of cs ps hs es) else if not (sym r i) then (Err Radius, memory_of cs ps hs es)
+      else if not (sym s i) then (Err NotSound, memory_of cs ps hs es) else (Ok tt, encode desk (cube d radius))
 
   pub too_few : d < 1 → (Err Dimension, memory_of cs ps hs es) ≡ cube_reply desk d radius (memory_of cs ps hs es)
   too_few h = reply_of_lem false _ _ _ (test_above 1 d h) refl refl refl

@@ -163,7 +163,8 @@ module _ (L : Limits) (R : Readable L) where
   three (Ok r) i o x e = go r.output refl e
     where
       go : (y : ElementCutOutput) → r.output ≡ y → output_values y ≡ i ∷ o ∷ x ∷ []
-          → (a : Option ElementId) × (b : Option ElementId) × (c : Option ElementId) × (◌≡◌ {A = Reply ElementAnswer} (Ok r) (Ok (answer_with (NonFlush a b c) r.warning))) × (element_value a ≡ i) × (element_value b ≡ o) × (element_value c ≡ x)
+          → (a : Option ElementId) × (b : Option ElementId) × (c : Option ElementId) × (◌≡◌ {A = Reply ElementAnswer} (Ok r) (Ok (answer_with (NonFlush a b c) r.warning)))
+          × (element_value a ≡ i) × (element_value b ≡ o) × (element_value c ≡ x)
       go Flush p e = absurd (let z : ◌≡◌ {A = ℕ} 0 1 = cc in suc-ne-zero 0 (sym z))
       go (NonFlush a b c) p e = (a, b, c, ap (λ (y : ElementCutOutput). Ok (answer_with y r.warning)) p, cc, cc, cc)
 

@@ -65,7 +65,8 @@ module _ (cs es row : List ℕ) (n : ℕ) (found : Option ElementId) (k : n ≡ 
         (let s : find (same_element e) t.elements ≡ None = sym (search_is ps hs t e H q p) ∙ sym f ∙ ap element_number g in
         let m = number ps hs t e H q p in
         let l' : 512 ≤ element_count t = omega (arith, m, l) in
-        stopped ElementsFull t (ap (λ (o : Option ℕ). share_element desk e o t) s ∙ ap (λ (b : Bool). if b then done (element_count t) (with_element e t) else refused ElementsFull) (le-ltb (element_count t) 512 l')) refl (extends_refl t) H);
+        stopped ElementsFull t (ap (λ (o : Option ℕ). share_element desk e o t) s
+        ∙ ap (λ (b : Bool). if b then done (element_count t) (with_element e t) else refused ElementsFull) (le-ltb (element_count t) 512 l')) refl (extends_refl t) H);
   }
 
   pub row_new_lem : (cs' es' : List ℕ) → found ≡ None → n < 512 → cs' ≡ set cs 1 (n + 1) → es' ≡ sets es (n * 36) row → RowAdded cs es row (placed_at n) cs' es'
@@ -78,7 +79,8 @@ module _ (cs es row : List ℕ) (n : ℕ) (found : Option ElementId) (k : n ≡ 
         let m = number ps hs t e H q p in
         let l' : element_count t < 512 = omega (arith, m, l) in
         went (element_count t) (with_element e t)
-        (ap (λ (o : Option ℕ). share_element desk e o t) s ∙ ap (λ (b : Bool). if b then done (element_count t) (with_element e t) else refused ElementsFull) (lt-ltb (element_count t) 512 l'))
+        (ap (λ (o : Option ℕ). share_element desk e o t) s
+        ∙ ap (λ (b : Bool). if b then done (element_count t) (with_element e t) else refused ElementsFull) (lt-ltb (element_count t) 512 l'))
         (ap placed_at m)
         record {
           counts = v ∙ ap₂ (λ (c : List ℕ) (i : ℕ). set c 1 (i + 1)) H.counts m ∙ sym (element_counted_lem desk t H.fits e);

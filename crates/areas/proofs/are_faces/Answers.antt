@@ -9,7 +9,8 @@ use Rattle.areas.specs.Words.{row_is_face}
 use Rattle.areas.proofs.are_faces.Goals as goal
 
 pub all-requires-clause-callable : goal.all-requires-clause-callable
-all-requires-clause-callable c = serves_from_places (YieldsList-from_slice c.args.pieces.now cc) (λ x q k. search rules) (λ x k l e. let h : x.now < 512 = subst (λ y. y < 512) (sym (e ∙ get_or_default_zero _ _ _ l)) (c.requires.each k l) in search (rules, h, c.requires.elements))
+all-requires-clause-callable c = serves_from_places (YieldsList-from_slice c.args.pieces.now cc) (λ x q k. search rules)
+    (λ x k l e. let h : x.now < 512 = subst (λ y. y < 512) (sym (e ∙ get_or_default_zero _ _ _ l)) (c.requires.each k l) in search (rules, h, c.requires.elements))
 
 pub returns : goal.returns
 returns c =

@@ -9,7 +9,8 @@ use Rattle.areas.specs.Words.{words_on_grid, PieceFits}
 use Rattle.areas.proofs.are_on_grid.Goals as goal
 
 pub all-requires-clause-callable : goal.all-requires-clause-callable
-all-requires-clause-callable c = serves_from_places (YieldsList-from_slice c.args.pieces.now cc) (λ x q k. search rules) (λ x k l e. let h : PieceFits c.args.points.now c.args.elements.now x.now = subst (PieceFits _ _) (sym (e ∙ get_or_default_zero _ _ _ l)) (c.requires.each k l) in
+all-requires-clause-callable c = serves_from_places (YieldsList-from_slice c.args.pieces.now cc) (λ x q k. search rules)
+    (λ x k l e. let h : PieceFits c.args.points.now c.args.elements.now x.now = subst (PieceFits _ _) (sym (e ∙ get_or_default_zero _ _ _ l)) (c.requires.each k l) in
     search (rules, h))
 
 pub returns : goal.returns

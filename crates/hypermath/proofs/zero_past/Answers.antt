@@ -15,5 +15,6 @@ use Rattle.hypermath.proofs.zero_past.Goals as goal
 pub returns : goal.returns
 returns c =
     let rest = take_all (4 - c.axes_of-n.result) (drop c.axes_of-n.result c.args.normal) (simp length-drop (let l : length c.args.normal ≡ 4 = search rules in omega arith)) in
-    let whole = all_from_yields_List (same_bits plus_zero) _ _ c.all.result c.all.ensures.ran (YieldsList-from_slice (take (4 - c.axes_of-n.result) (drop c.axes_of-n.result c.args.normal)) c.iter.ensures.rest) (λ x b q k. search (rules, tests)) in
+    let whole = all_from_yields_List (same_bits plus_zero) _ _ c.all.result c.all.ensures.ran
+    (YieldsList-from_slice (take (4 - c.axes_of-n.result) (drop c.axes_of-n.result c.args.normal)) c.iter.ensures.rest) (λ x b q k. search (rules, tests)) in
     whole ∙ all_is (same_bits plus_zero) (take (4 - c.axes_of-n.result) (drop c.axes_of-n.result c.args.normal)) ∙ ap (all (same_bits plus_zero)) (rest ∙ c.axes_of-n.ensures.rest c.args.normal (search rules))

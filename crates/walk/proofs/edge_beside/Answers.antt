@@ -11,7 +11,8 @@ loop-number-init c = record { low = search rules; size = row_long c.args.element
 pub is_beside-requires : goal.is_beside-requires
 is_beside-requires c = record {
   elements = c.requires.long;
-  room = number_low c.args.elements.now c.args.f.0 _ c.requires c.loop-number.invariant.size c.loop-number.number-index _ (search rules) (number_at c.args.elements.now c.args.f.0 c.requires _ c.boundary-number-items.ensures c.loop-number.number-index _ c.loop-number-test.true c.wide.ensures.value);
+  room = number_low c.args.elements.now c.args.f.0 _ c.requires c.loop-number.invariant.size c.loop-number.number-index _ (search rules)
+      (number_at c.args.elements.now c.args.f.0 c.requires _ c.boundary-number-items.ensures c.loop-number.number-index _ c.loop-number-test.true c.wide.ensures.value);
 }
 
 pub returns-then-is_beside : goal.returns-then-is_beside
