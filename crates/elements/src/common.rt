@@ -25,7 +25,7 @@ pub fn common(elements: &[u16], roots: &[u16]) -> Marks
     let mut s = below(elements, ElementId(wide(roots[0])));
     for &root in &roots[1..] {
         let next = below(elements, ElementId(wide(root)));
-        s = s.both(next);
+        s = s.both(&next);
     }
     s
 }

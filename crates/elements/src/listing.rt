@@ -12,8 +12,8 @@ use space::rows::boundary_at;
 use space::words::wide;
 
 // The numbers of a set, rising, or 12.
-pub fn list_marks(s: Marks, list: &mut [u16]) -> Reply<usize>
-    ensures { (result, list.new) ≡ listed (answer (marked_numbers s.words)) list.old }
+pub fn list_marks(s: &Marks, list: &mut [u16]) -> Reply<usize>
+    ensures { (result, list.new) ≡ listed (answer (marked_numbers s.now.words)) list.old }
 {
     let n = s.size();
     if list.len() < n {
@@ -34,15 +34,11 @@ fn name_vertices(elements: &[u16], list: &mut [u16], n: usize)
 }
 
 // The vertices that the elements of a set name, in the elements' order, or 12.
-pub fn list_vertices(elements: &[u16], s: Marks, list: &mut [u16]) -> Reply<usize>
+pub fn list_vertices(elements: &[u16], s: &Marks, list: &mut [u16]) -> Reply<usize>
     requires { length elements.now ≡ 18432 }
-    ensures { (result, list.new) ≡ listed (answer (map (vertex_word elements.now) (marked_numbers s.words))) list.old }
+    ensures { (result, list.new) ≡ listed (answer (map (vertex_word elements.now) (marked_numbers s.now.words))) list.old }
 {
-    let n = s.size();
-    if list.len() < n {
-        return Err(Refusal::RoomShort);
-    }
-    s.list_all(list);
+    let n = list_marks(s, list)?;
     name_vertices(elements, list, n);
     Ok(n)
 }

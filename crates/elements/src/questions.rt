@@ -21,7 +21,7 @@ pub fn subelements_of(memory: Memory, root: ElementId, list: &mut [u16]) -> Repl
 {
     root_asked(memory, root)?;
     let s = below(memory.elements, root);
-    list_marks(s, list)
+    list_marks(&s, list)
 }
 
 // Those of a rank, if any.
@@ -35,7 +35,7 @@ pub fn subelements_with_rank(
 {
     root_asked(memory, root)?;
     let some = level(memory.elements, root, rank as usize);
-    list_marks(some, list)
+    list_marks(&some, list)
 }
 
 // The numbers of the vertices, which are no element numbers.
@@ -44,7 +44,7 @@ pub fn vertex_set(memory: Memory, root: ElementId, list: &mut [u16]) -> Reply<us
 {
     root_asked(memory, root)?;
     let corners = level(memory.elements, root, 0);
-    list_vertices(memory.elements, corners, list)
+    list_vertices(memory.elements, &corners, list)
 }
 
 // Those of the highest rank above 0 that all roots have; the roots are one or more, of one rank.
@@ -60,6 +60,6 @@ pub fn greatest_common_subelements(memory: Memory, roots: &[u16], list: &mut [u1
         return Err(Refusal::Rank);
     }
     let s = common(memory.elements, roots);
-    let some = greatest(memory.elements, s, rank);
-    list_marks(some, list)
+    let some = greatest(memory.elements, &s, rank);
+    list_marks(&some, list)
 }

@@ -7,7 +7,7 @@ ghost use Rattle.elements.specs.Marks.{marked_numbers};
 ghost use Rattle.elements.specs.Touches.{corner_side, with_side, tested_to, nothing_tested, CornerReady, WordTestable, WordTested, CornersReady, TouchReady, FiniteTouched};
 
 use crate::levels::level;
-use crate::marks::{BITS, WORDS, zeros_below};
+use crate::marks::{BITS, Marks, WORDS, zeros_below};
 use hypermath::{side_of, signed_distance};
 use rules::{ElementId, Hyperplane, Reply, Side, Touch, Touched, VertexId};
 use soundness::asked::{Asking, divider_asked};
@@ -97,12 +97,12 @@ fn test_word(
 fn test_corners(
     points: &[f64],
     elements: &[u16],
-    words: &[u64; 8],
+    corners: &Marks,
     d: usize,
     h: Hyperplane,
 ) -> Tested
-    requires { CornersReady points.now elements.now words.now }
-    ensures { result ≡ tested_to nothing_tested (map (corner_side d h points.now elements.now) (marked_numbers words.now)) }
+    requires { CornersReady points.now elements.now corners.now.words }
+    ensures { result ≡ tested_to nothing_tested (map (corner_side d h points.now elements.now) (marked_numbers corners.now.words)) }
 {
     let mut s = Tested {
         inside: false,
@@ -110,7 +110,7 @@ fn test_corners(
         corners: 0,
     };
     for w in 0..WORDS {
-        s = test_word(points, elements, words[w], w * BITS, d, h, s);
+        s = test_word(points, elements, corners.words[w], w * BITS, d, h, s);
     }
     s
 }
@@ -142,9 +142,8 @@ fn touch_finite(
     ensures { FiniteTouched counts.now points.now elements.now h root.0 result }
 {
     let s = level(elements, root, 0);
-    let words = s.words;
     let d = wide(counts[0]);
-    let tested = test_corners(points, elements, &words, d, h);
+    let tested = test_corners(points, elements, &s, d, h);
     told(tested)
 }
 

@@ -14,7 +14,7 @@ pub record Met (old other new : List ℕ) (w : ℕ) : Type 0 where
   pub meeting : Meeting old other new w
 
 abbrev pub invariant-loop-w : goal.invariant-loop-w
-invariant-loop-w l = Met l.initial.words l.other.words l.words l.w
+invariant-loop-w l = Met l.initial.both.words l.other.words l.both.words l.w
 
 abbrev pub decreases-loop-w : goal.decreases-loop-w
 decreases-loop-w l = 8 - l.w

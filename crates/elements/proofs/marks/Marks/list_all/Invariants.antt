@@ -14,7 +14,7 @@ pub record Filled (ws old new : List ℕ) (at w : ℕ) : Type 0 where
   pub filling : Filling ws old new at w
 
 abbrev pub invariant-loop-w : goal.invariant-loop-w
-invariant-loop-w l = Filled l.words l.initial.list l.list l.at l.w
+invariant-loop-w l = Filled l.self.words l.initial.list l.list l.at l.w
 
 abbrev pub decreases-loop-w : goal.decreases-loop-w
 decreases-loop-w l = 8 - l.w
