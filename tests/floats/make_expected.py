@@ -1008,9 +1008,6 @@ HALF HALF HALF HALF
 HALF HALF HALF NEG_HALF
 """, 2)
 
-# ---- the table of the program
-
-# each constant: its name, what it holds, and its cases
 # x, which is no NaN
 NARROWINGS = cases("""
 ZERO
@@ -1092,19 +1089,35 @@ INF
 NEG_INF
 """)
 
+# ---- the table of the program
+
+# each constant: its name, what it holds, the type of a case, the fields of its lines, and its cases. A type that ends
+# in `]` is an array of the words; a field alone in its line is the array of the line's words.
 TABLES = (
-    ("ONES", "x.", ONES),
-    ("PAIRS", "Two floats.", PAIRS),
-    ("CLAMPS", "The ends a and b, and x.", CLAMPS),
-    ("ENDS", "The dimension and t; two points.", ENDS),
-    ("EDGES", "The dimension and the distance; the normal; two points.", EDGES),
-    ("NORMALS", "The dimension; the normal.", NORMALS),
-    ("PLANE_PAIRS", "The dimension and two distances; two normals.", PLANE_PAIRS),
-    ("POINTS", "The vertices to search.", POINTS),
-    ("VERTEX_SEARCHES", "The dimension and how many vertices; the point to find.", VERTEX_SEARCHES),
-    ("PLANES", "The hyperplanes to search: normal and distance.", PLANES),
-    ("PLANE_SEARCHES", "The dimension, the first hyperplane, how many, the distance; the normal.", PLANE_SEARCHES),
-    ("NARROWINGS", "x, which is no NaN.", NARROWINGS),
+    ("ONES", "x.", "u64", (), ONES),
+    ("PAIRS", "Two floats.", "[u64; 2]", (), PAIRS),
+    ("CLAMPS", "The ends a and b, and x.", "[u64; 3]", (), CLAMPS),
+    ("ENDS", "Two points.", "TwoPoints", (("dimension", "t"), "a", "b"), ENDS),
+    ("EDGES", "A hyperplane, and two points.", "Edge", (("dimension", "distance"), "normal", "a", "b"), EDGES),
+    ("NORMALS", "A normal.", "Normal", (("dimension",), "normal"), NORMALS),
+    (
+        "PLANE_PAIRS",
+        "Two hyperplanes.",
+        "TwoPlanes",
+        (("dimension", "earlier_distance", "later_distance"), "earlier", "later"),
+        PLANE_PAIRS,
+    ),
+    ("POINTS", "The vertices to search.", "u64", (), POINTS),
+    ("VERTEX_SEARCHES", "The point to find.", "PointSearch", (("dimension", "count"), "wanted"), VERTEX_SEARCHES),
+    ("PLANES", "The hyperplanes to search: normal and distance.", "u64", (), PLANES),
+    (
+        "PLANE_SEARCHES",
+        "The hyperplane to find.",
+        "PlaneSearch",
+        (("dimension", "first", "count", "distance"), "wanted"),
+        PLANE_SEARCHES,
+    ),
+    ("NARROWINGS", "x, which is no NaN.", "u64", (), NARROWINGS),
 )
 
 
@@ -1122,17 +1135,42 @@ def laid_out(words):
     return textwrap.indent(textwrap.fill(", ".join(words) + ",", width, break_long_words=False), "    ") + "\n"
 
 
-def table_of(name, holds, rows):
-    words = words_of(rows)
-    return f"\n// {holds}\npub const {name}: [u64; {len(words)}] = [\n{laid_out(words)}];\n"
+def array_of(words):
+    """As `rt fmt` does it: in one line where that is short enough."""
+    inside = ", ".join(words)
+    return f"[{inside}]" if len(inside) <= 60 else "[\n" + textwrap.indent(",\n".join(words), "    ") + ",\n]"
+
+
+def fields_of(names, line):
+    return [f"{names}: {array_of(line)}"] if isinstance(names, str) else map("{}: {}".format, names, line)
+
+
+def case_of(kind, fields, case):
+    """A case of several words, in lines of its own."""
+    if not fields:
+        return array_of(words_of([case]))
+    inside = ",\n".join(field for names, line in zip(fields, case) for field in fields_of(names, line))
+    return f"{kind} {{\n{textwrap.indent(inside, '    ')},\n}}"
+
+
+def table_of(name, holds, kind, fields, rows):
+    if kind == "u64":
+        items = words_of(rows)
+        inside = laid_out(items)
+    else:
+        items = [case_of(kind, fields, case) for case in rows]
+        inside = textwrap.indent(",\n".join(items), "    ") + ",\n"
+    return f"\n// {holds}\npub const {name}: [{kind}; {len(items)}] = [\n{inside}];\n"
 
 
 def table_file():
-    words = {word for _, _, rows in TABLES for word in words_of(rows)}
+    words = {word for *_, rows in TABLES for word in words_of(rows)}
     names = sorted((word for word in words if not word.isdigit()), key=lambda w: (pattern(w) % SIGN, pattern(w)))
+    kinds = sorted(kind for _, _, kind, fields, _ in TABLES if fields)
     return (
         "// The inputs, by bit patterns. Written by tests/floats/make_expected.py: change them there.\n"
         "// NEG_x is x with the other sign; x_UP and x_DOWN are the next floats away from zero and towards it.\n"
+        f"use crate::cases::{{{', '.join(kinds)}}};\n"
         + "".join(constant_of(name) for name in names)
         + "".join(table_of(*table) for table in TABLES)
     )

@@ -15,6 +15,7 @@ import filecmp
 import pathlib
 import sys
 import tempfile
+import textwrap
 
 sys.dont_write_bytecode = True
 
@@ -80,58 +81,125 @@ def expected_output():
 # ---- the table of the program
 
 
-class Places:
-    """Lists laid end to end, and where each of them stands. A list that is there already is not laid again."""
+# The texts are laid out as `rt fmt` does it.
 
-    def __init__(self):
-        self.all = []
-        self.known = {}
-
-    def put(self, items):
-        """From and to, in four digits each."""
-        key = tuple(items)
-        if key not in self.known:
-            self.known[key] = (len(self.all), len(self.all) + len(key))
-            self.all += key
-        assert len(self.all) < 10000
-        return "{:04d}_{:04d}".format(*self.known[key])
+SLICES = ("Counts", "Points", "Planes", "Elements")
 
 
-def run_words(run):
+def struct(kind, **fields):
+    parts = [f"{name}: {value}" for name, value in fields.items()]
+    if sum(map(len, parts)) + 2 * (len(parts) - 1) <= 18:
+        return f"{kind} {{ {', '.join(parts)} }}"
+    inside = ",\n".join(parts)
+    return f"{kind} {{\n{textwrap.indent(inside, '    ')},\n}}"
+
+
+def slice_of(items):
+    inside = ", ".join(items)
+    if len(items) == 1 or len(inside) <= 60 and "\n" not in inside:
+        return f"&[{inside}]"
+    inside = ",\n".join(items)
+    return f"&[\n{textwrap.indent(inside, '    ')},\n]"
+
+
+def run_text(run):
     piece, position, value, times, stride, growth = run
-    return [f"{growth}_{stride:02d}_{times:05d}_{position:05d}_{piece}", hex(value)]
+    if times == 1:
+        return f"Word({SLICES[piece]}, {position}, {value:#x})"
+    steps = {"times": times, "stride": stride, "growth": growth}
+    return struct("Series", slice=SLICES[piece], position=position, value=hex(value), **steps)
 
 
-def case_words(case, names, runs):
-    base = bases.BASES[case.base]
-    return [
-        f"{names.put(case.line)}_{names.put(case.what)}",
-        f"{base.cube}_{runs.put(base.runs)}_{runs.put(case.runs)}",
-        "{}_{:04d}_{:03d}_{:05d}".format(*case.lengths),
-    ]
+def runs_text(runs):
+    return slice_of([run_text(run) for run in runs])
 
 
-def constant(name, holds, words):
-    body = "".join(f"    {word},\n" for word in words)
-    return f"\n// {holds}\npub const {name}: [u64; {len(words)}] = [\n{body}];\n"
+def base_words(name):
+    """A name of Rust's starts with no digit."""
+    return sorted(name.split(), key=str.isdigit)
+
+
+def base_variant(name):
+    return "".join(word[0].upper() + word[1:] for word in base_words(name))
+
+
+def base_constant_name(name):
+    return "_".join(base_words(name)).upper()
+
+
+def lengths_text(lengths):
+    return "ROOM" if lengths == model.ROOM else struct("Lengths", **dict(zip(model.SLICES, lengths)))
+
+
+def sound_text(case):
+    name = f'"{case.line}: {case.what}"'
+    base, runs = f"Base::{base_variant(case.base)}", runs_text(case.runs)
+    return struct("SoundCase", name=name, base=base, runs=runs, lengths=lengths_text(case.lengths))
+
+
+def cube_text(case):
+    name = f'"{case.line}: {case.what}"'
+    base, lengths = f"Base::{base_variant(case.base)}", lengths_text(case.lengths)
+    return struct("CubeCase", name=name, base=base, lengths=lengths, dimension=case.dimension, radius=hex(case.radius))
+
+
+def base_constant(name):
+    base = bases.BASES[name]
+    return f"\nconst {base_constant_name(name)}: Held = {struct('Held', cube=base.cube, runs=runs_text(base.runs))};\n"
+
+
+def base_type():
+    variants = "".join(f"    {base_variant(name)},\n" for name in bases.BASES)
+    arms = "".join(f"            Base::{base_variant(name)} => &{base_constant_name(name)},\n" for name in bases.BASES)
+    return (
+        "\n// The tables that cases start from.\n#[derive(Clone, Copy)]\n"
+        f"pub enum Base {{\n{variants}}}\n\nimpl Base {{\n"
+        f"    pub fn held(self) -> &'static Held {{\n        match self {{\n{arms}        }}\n    }}\n}}\n"
+    )
+
+
+def case_constant(name, holds, kind, texts):
+    inside = textwrap.indent(",\n".join(texts), "    ")
+    return f"\n// {holds}\npub const {name}: [{kind}; {len(texts)}] = [\n{inside},\n];\n"
+
+
+# A constant of all cases is larger than a proof takes, so each part begins with the first case of a line.
+PARTS = {
+    "dimension": ("NUMBERS", "The dimension, the room, coordinates and hyperplanes."),
+    "corners in order": ("CORNERS", "Vertex elements."),
+    "rank": ("BOUNDARIES", "Rank and boundary."),
+    "hyperplane named": ("HYPERPLANES", "Hyperplane and mark."),
+    "equal elements": ("UNUSED", "Equal elements, and what is past use."),
+    "several": ("SEVERAL", "Several lines."),
+    "none": ("SOUND", "Sound tables."),
+    "lengths": ("LENGTHS", "Every length about the right one."),
+}
+
+
+def parts_of(sound_cases):
+    parts = {}
+    for case in sound_cases:
+        part = PARTS.get(case.line, part) if parts else PARTS[case.line]
+        parts.setdefault(part, []).append(case)
+    assert sum(parts.values(), []) == sound_cases
+    return parts.items()
 
 
 def table_file():
-    names, runs = Places(), Places()
-    # the cases lay the runs and names, so they come first
-    sound = [word for case in cases.SOUND_CASES for word in case_words(case, names, runs)]
-    cubes = [
-        word
-        for case in cases.CUBE_CASES
-        for word in (*case_words(case, names, runs), case.dimension, hex(case.radius))
-    ]
-    run_table = [word for run in runs.all for word in run_words(run)]
+    assert not any(case.runs for case in cases.CUBE_CASES)
     return (
         "// The cases and what they put into memory. Written by tests/tables/make_expected.py: change them there.\n"
-        + constant("SOUND_CASES", "Name, in two parts; cube, the base's runs, its own runs; the four lengths.", sound)
-        + constant("CUBE_CASES", "The same; dimension, radius.", cubes)
-        + constant("RUNS", "Growth, stride, times, position, slice; value.", run_table)
-        + f"\n// The parts of the names.\npub const NAMES: [u8; {len(names.all)}] =\n    *b\"{''.join(names.all)}\";\n"
+        "use crate::cases::{CubeCase, SoundCase};\n"
+        "use crate::memory::Run::{Series, Word};\n"
+        f"use crate::memory::Slice::{{{', '.join(sorted(SLICES))}}};\n"
+        "use crate::memory::{Held, Lengths, ROOM};\n"
+        + base_type()
+        + "".join(map(base_constant, bases.BASES))
+        + "".join(
+            case_constant(name, holds, "SoundCase", [*map(sound_text, part)])
+            for (name, holds), part in parts_of(cases.SOUND_CASES)
+        )
+        + case_constant("CUBES", "What a cube is put over.", "CubeCase", [*map(cube_text, cases.CUBE_CASES)])
     )
 
 

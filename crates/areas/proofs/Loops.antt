@@ -1,28 +1,12 @@
 -- Loops over lists: what is left to go over, with what has been, makes up the whole. Laws over plain lists.
-use Rattle.std.proofs.Common.{◌≡◌, ℕ, suc, ◌+◌, ◌*◌, ◌^◌, ◌<◌, ◌≤◌, Bool, true, false, ◌&&◌, List, [], ◌∷◌, ◌++◌, map, length, get_or, take, drop, set, ℤ, ◌+ℤ◌, nat_abs, sym, ap, ◌∙◌, ap₂, le_trans}
+use Rattle.std.proofs.Common.{◌≡◌, ℕ, suc, ◌+◌, ◌*◌, ◌^◌, ◌<◌, ◌≤◌, List, [], ◌∷◌, ◌++◌, map, length, get_or, take, drop, set, ℤ, ◌+ℤ◌, nat_abs, sym, ap, ◌∙◌, ap₂, le_trans}
 use Rattle.std.proofs.Common.{le_of_eq, add-zero, add_assoc, zero-add, add-one, arith, drop_of_length-le, length-take-le, drop-cons, get_or-take}
 use lib.IntN.{+ℤ_assoc, +ℤ_idr}
 use lib.Ieee.{Float}
 use lib.Seq.{sets}
-use Rattle.rules.specs.Lists.{all}
 use Rattle.rules.specs.Areas.{units, sizes}
 use Rattle.rules.proofs.AreaSizes.{units_few, turn_few}
 use Rattle.areas.specs.Words.{first_of, second_of, corner_turn, turns_along, StepFits}
-
--- ---- a test of every entry
-
-module _ (p : ℕ → Bool) (xs : List ℕ) (b : Bool) (i x : ℕ) (f : x ≡ get_or xs i 0) (h : i < length xs) (w : b ≡ all p (drop i xs)) where
-  all_on : b ≡ (p x && all p (drop (i + 1) xs))
-  all_on = w ∙ ap (all p) (drop-cons xs i 0 h) ∙ ap₂ (λ (y k : ℕ). p y && all p (drop k xs)) (sym f) (sym (add-one i))
-
-  pub all_stop : p x ≡ false → false ≡ b
-  all_stop k = sym (all_on ∙ ap (λ (c : Bool). c && all p (drop (i + 1) xs)) k)
-
-  pub all_go : p x ≡ true → b ≡ all p (drop (i + 1) xs)
-  all_go k = all_on ∙ ap (λ (c : Bool). c && all p (drop (i + 1) xs)) k
-
-pub all_end : (p : ℕ → Bool) (xs : List ℕ) (b : Bool) (i : ℕ) → length xs ≤ i → b ≡ all p (drop i xs) → true ≡ b
-all_end p xs b i h w = sym (w ∙ ap (all p) (drop_of_length-le xs h))
 
 -- ---- the front of a list
 

@@ -1,5 +1,5 @@
 -- The reply of an area sheet, test by test: each way the code goes is a case of it.
-use Rattle.std.specs.Prelude.{if◌then◌else◌}
+use Rattle.std.specs.Prelude.{if◌then◌else◌, Ok, Err}
 use Rattle.std.proofs.Common.{◌≡◌, ℕ, zero, suc, ◌+◌, ◌*◌, ◌<◌, ◌≤◌, Bool, true, false, not, ◌&&◌, eqb, ltb, List, [], ◌∷◌, ◌++◌, map, length, get_or, drop, ℤ, sym, refl, ap, ◌∙◌, le_trans, le_of_eq}
 use Rattle.std.proofs.Common.{le_of_suc-le-suc, not-suc-le-zero, zero-add, length-append}
 use lib.ListN.{length-map}
@@ -14,8 +14,6 @@ use Rattle.rules.specs.Held.{Holds, memory_of}
 use Rattle.rules.specs.Questions.{Asked, no_answer, answer}
 use Rattle.rules.specs.Replies.{listed}
 use Rattle.rules.specs.Areas.{most_pieces, piece_on_grid, areas_reply}
-use Rattle.rules.specs.declared.ListReply.{ListReply}
-use Rattle.rules.specs.declared.ListReply.TheVariants.{Refused, Listed}
 use Rattle.rules.proofs.AreaReplies.{sheet_by, few, used, flat, sheet_by_lem}
 use Rattle.rules.proofs.Laws.{and_left, and_right, le_test, test_le, test_above, test_eq, not_eq}
 use Rattle.space.proofs.Room.{rank_word}
@@ -25,6 +23,8 @@ use Rattle.space.proofs.RowAdds.{readable_desk}
 use Rattle.soundness.proofs.AskedOnce as ask
 use Rattle.areas.specs.Words.{word_area, words_on_grid, word_sheet, sheet_asked, row_is_face, PiecesFit, PiecesUsed}
 use Rattle.areas.proofs.Sheets.{grids_are, sheet_is, all_fit}
+use Rattle.rules.specs.Refusals.{Reply}
+use Rattle.rules.specs.declared.Refusal.TheVariants.{ListLong, NotInUse, NotSound, OffGrid, Rank, RoomShort}
 
 -- ---- 25, 12 and the sheet, of the words
 
@@ -33,25 +33,25 @@ module _ (ps : List Float) (es fs : List ℕ) (room : List ℤ) where
   unfolding word_sheet
   long = length-append (map (word_area ps es) fs) _ ∙ ap (λ (k : ℕ). k + 2) (length-map fs (word_area ps es))
 
-  abbrev asked : Bool → ListReply × List ℤ
-  asked b = listed (if not b then no_answer 25 else answer (word_sheet ps es fs)) room
+  abbrev asked : Bool → Reply ℕ × List ℤ
+  asked b = listed (if not b then no_answer OffGrid else answer (word_sheet ps es fs)) room
 
-  abbrev choice : Bool → ListReply × List ℤ
-  choice b = if b then (Listed (length (word_sheet ps es fs)), word_sheet ps es fs ++ drop (length (word_sheet ps es fs)) room) else (Refused 12, room)
+  abbrev choice : Bool → Reply ℕ × List ℤ
+  choice b = if b then (Ok (length (word_sheet ps es fs)), word_sheet ps es fs ++ drop (length (word_sheet ps es fs)) room) else (Err RoomShort, room)
 
-  pub off_grid : all (words_on_grid ps es) fs ≡ false → (Refused 25, room) ≡ listed (sheet_asked ps es fs) room
+  pub off_grid : all (words_on_grid ps es) fs ≡ false → (Err OffGrid, room) ≡ listed (sheet_asked ps es fs) room
   off_grid q = ap asked (sym q)
 
   module _ (q : all (words_on_grid ps es) fs ≡ true) where
-    pub no_room : length room < length fs + 2 → (Refused 12, room) ≡ listed (sheet_asked ps es fs) room
+    pub no_room : length room < length fs + 2 → (Err RoomShort, room) ≡ listed (sheet_asked ps es fs) room
     no_room l = ap choice (sym (test_above (length (word_sheet ps es fs)) (length room) (le_trans l (le_of_eq (sym long))))) ∙ ap asked (sym q)
 
-    pub sheet_done : (n : ℕ) (out : List ℤ) → n ≡ length fs + 2 → length fs + 2 ≤ length room → out ≡ sets room 0 (word_sheet ps es fs) → (Listed n, out) ≡ listed (sheet_asked ps es fs) room
+    pub sheet_done : (n : ℕ) (out : List ℤ) → n ≡ length fs + 2 → length fs + 2 ≤ length room → out ≡ sets room 0 (word_sheet ps es fs) → (Ok n, out) ≡ listed (sheet_asked ps es fs) room
     sheet_done n out e l w =
         let k = length (word_sheet ps es fs) in
         let fit : k ≤ length room = le_trans (le_of_eq long) l in
         let start = zero-add k in
-        (λ i. (Listed ((e ∙ sym long) i), (w ∙ sets-eq (word_sheet ps es fs) room 0 (le_trans (le_of_eq start) fit) ∙ ap (λ (j : ℕ). word_sheet ps es fs ++ drop j room) start) i))
+        (λ i. (Ok ((e ∙ sym long) i), (w ∙ sets-eq (word_sheet ps es fs) room 0 (le_trans (le_of_eq start) fit) ∙ ap (λ (j : ℕ). word_sheet ps es fs ++ drop j room) start) i))
         ∙ ap choice (sym (test_le k (length room) fit)) ∙ ap asked (sym q)
 
 -- ---- test by test
@@ -60,7 +60,7 @@ module _ (cs : List ℕ) (ps hs : List Float) (es fs : List ℕ) (room : List �
   abbrev t : Table
   t = ask.table cs ps hs es
 
-  abbrev reply : ListReply × List ℤ
+  abbrev reply : Reply ℕ × List ℤ
   reply = areas_reply desk (memory_of cs ps hs es) fs room
 
   abbrev grid : Bool
@@ -70,7 +70,7 @@ module _ (cs : List ℕ) (ps hs : List Float) (es fs : List ℕ) (room : List �
   unfolding areas_reply
   by_tests a b c d p₁ p₂ p₃ p₄ = (λ i. listed (sheet_by t fs (sym p₁ i) (sym p₂ i) (sym p₃ i) (sym p₄ i) grid) room) ∙ ap (λ (x : Asked (List ℤ)). listed x room) (sym (sheet_by_lem desk (memory_of cs ps hs es) fs))
 
-  pub unsound : sound_memory desk (memory_of cs ps hs es) ≡ false → (Refused 3, room) ≡ reply
+  pub unsound : sound_memory desk (memory_of cs ps hs es) ≡ false → (Err NotSound, room) ≡ reply
   unsound s = by_tests false _ _ _ s refl refl refl
 
   module _ (s : sound_memory desk (memory_of cs ps hs es) ≡ true) where
@@ -80,7 +80,7 @@ module _ (cs : List ℕ) (ps hs : List Float) (es fs : List ℕ) (room : List �
     S : sound desk t ≡ true
     S = memory_sound_table desk readable_desk (memory_of cs ps hs es) s
 
-    pub too_many : most_pieces < length fs → (Refused 26, room) ≡ reply
+    pub too_many : most_pieces < length fs → (Err ListLong, room) ≡ reply
     too_many l = by_tests true false _ _ s (test_above (length fs) most_pieces l) refl refl
 
     module _ (l : length fs ≤ most_pieces) where
@@ -94,14 +94,14 @@ module _ (cs : List ℕ) (ps hs : List Float) (es fs : List ℕ) (room : List �
         use_is : (b : Bool) → b ≡ all (λ f. ltb f n) fs → used t fs ≡ b
         use_is b q = sym (q ∙ ap (λ (k : ℕ). all (λ f. ltb f k) fs) counted)
 
-        pub not_in_use : (b : Bool) → b ≡ all (λ f. ltb f n) fs → b ≡ false → (Refused 4, room) ≡ reply
+        pub not_in_use : (b : Bool) → b ≡ all (λ f. ltb f n) fs → b ≡ false → (Err NotInUse, room) ≡ reply
         not_in_use b q z = by_tests true true false _ s enough (use_is b q ∙ z) refl
 
         module _ (b : Bool) (q : b ≡ all (λ f. ltb f n) fs) (z : b ≡ true) where
           in_use_lem : used t fs ≡ true
           in_use_lem = use_is b q ∙ z
 
-          pub not_flat : (get_or cs 0 0 ≡ 2 → ⊥) → (Refused 6, room) ≡ reply
+          pub not_flat : (get_or cs 0 0 ≡ 2 → ⊥) → (Err Rank, room) ≡ reply
           not_flat w =
               by_tests true true true false s enough in_use_lem
               (ap (λ (x : Bool). x && all (λ f. eqb (rank t f) 2) fs) (not_eq t.dimension 2 (λ y. w (ask.dimension_known cs ps hs es s ∙ y))))
@@ -128,7 +128,7 @@ module _ (cs : List ℕ) (ps hs : List Float) (es fs : List ℕ) (room : List �
             face_is : (c : Bool) → c ≡ all (row_is_face es) fs → flat t fs ≡ c
             face_is c r = (λ i. test_eq t.dimension 2 plane i && sym (faces_are fs in_use_lem) i) ∙ sym r
 
-            pub no_face : (c : Bool) → c ≡ all (row_is_face es) fs → c ≡ false → (Refused 6, room) ≡ reply
+            pub no_face : (c : Bool) → c ≡ all (row_is_face es) fs → c ≡ false → (Err Rank, room) ≡ reply
             no_face c r y = by_tests true true true false s enough in_use_lem (face_is c r ∙ y)
 
             module _ (c : Bool) (r : c ≡ all (row_is_face es) fs) (y : c ≡ true) where
@@ -138,8 +138,8 @@ module _ (cs : List ℕ) (ps hs : List Float) (es fs : List ℕ) (room : List �
               pub pieces_fit : PiecesFit ps es fs
               pieces_fit = record { few = l; each = all_fit H S plane fs faces }
 
-              pub replied : {x : ListReply × List ℤ} → x ≡ listed (sheet_asked ps es fs) room → x ≡ reply
+              pub replied : {x : Reply ℕ × List ℤ} → x ≡ listed (sheet_asked ps es fs) room → x ≡ reply
               replied h =
                   h
-                  ∙ (λ i. listed (if not (grids_are H S plane fs faces i) then no_answer 25 else answer (sheet_is H S plane fs faces i)) room)
+                  ∙ (λ i. listed (if not (grids_are H S plane fs faces i) then no_answer OffGrid else answer (sheet_is H S plane fs faces i)) room)
                   ∙ by_tests true true true true s enough in_use_lem (face_is c r ∙ y)

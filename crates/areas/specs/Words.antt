@@ -10,6 +10,7 @@ use Rattle.rules.specs.Areas.{most_pieces, on_grid, units, turn, sizes}
 use Rattle.space.specs.Numbers.{point_slice, row_width}
 use Rattle.walk.specs.Boundaries.{row_boundary}
 use Rattle.walk.specs.Walks.{words_in_order, FaceFits}
+use Rattle.rules.specs.declared.Refusal.TheVariants.{OffGrid}
 
 -- ---- a vertex
 
@@ -47,7 +48,7 @@ word_sheet ps es fs = let areas = map (word_area ps es) fs in areas ++ pos (leng
 
 -- 25 where a piece is off the grid, and else the sheet
 abbrev pub sheet_asked : List Float → List ℕ → List ℕ → Asked (List ℤ)
-sheet_asked ps es fs = if not (all (words_on_grid ps es) fs) then no_answer 25 else answer (word_sheet ps es fs)
+sheet_asked ps es fs = if not (all (words_on_grid ps es) fs) then no_answer OffGrid else answer (word_sheet ps es fs)
 
 -- the row of element f has rank 2
 abbrev pub row_is_face : List ℕ → ℕ → Bool

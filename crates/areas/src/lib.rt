@@ -4,56 +4,39 @@
 pub mod grid;
 pub mod piece;
 
-ghost use Rattle.std.specs.Prelude.{◌≡◌, map, pos, nat_lt, unsigned_abs};
+ghost use Rattle.std.specs.Prelude.{◌≡◌, map, pos, unsigned_abs};
 ghost use Rattle.std.proofs.lemmas.List.Edits.{sets};
 ghost use Rattle.rules.specs.Limits.{desk};
 ghost use Rattle.rules.specs.Lists.{all};
-ghost use Rattle.rules.specs.Held.{memory_of};
 ghost use Rattle.rules.specs.Replies.{listed};
 ghost use Rattle.rules.specs.Areas.{areas_reply};
+ghost use Rattle.space.specs.Lent.{lent};
 ghost use Rattle.areas.specs.Words.{word_area, words_on_grid, word_sheet, sheet_asked, row_is_face, PiecesFit, PiecesUsed, SheetFits, Sized, AreasWritten};
 
 use crate::piece::{is_piece_on_grid, twice_area};
-use rules::{ElementId, ListReply};
+use rules::{ElementId, Refusal, Reply};
+use soundness::asked::all_used;
 use soundness::sound::memory_sound;
+use space::memory::Memory;
 use space::rows;
 use space::words::wide;
 
 const MOST_PIECES: usize = 16;
 
-fn are_in_use(n: usize, pieces: &[u16]) -> bool
-    ensures { result ≡ all (λ f. nat_lt f n) pieces.now }
-{
-    for i in 0..pieces.len() {
-        if n <= wide(pieces[i]) {
-            return false;
-        }
-    }
-    true
-}
-
 fn are_faces(elements: &[u16], pieces: &[u16]) -> bool
     requires { PiecesUsed elements.now pieces.now }
     ensures { result ≡ all (row_is_face elements.now) pieces.now }
 {
-    for i in 0..pieces.len() {
-        if rows::rank_of(elements, ElementId(wide(pieces[i]))) != 2 {
-            return false;
-        }
-    }
-    true
+    pieces
+        .iter()
+        .all(|&f| rows::rank_of(elements, ElementId(wide(f))) == 2)
 }
 
 fn are_on_grid(points: &[f64], elements: &[u16], pieces: &[u16]) -> bool
     requires { PiecesFit points.now elements.now pieces.now }
     ensures { result ≡ all (words_on_grid points.now elements.now) pieces.now }
 {
-    for i in 0..pieces.len() {
-        if !is_piece_on_grid(points, elements, ElementId(wide(pieces[i]))) {
-            return false;
-        }
-    }
-    true
+    pieces.iter().all(|&f| is_piece_on_grid(points, elements, ElementId(wide(f))))
 }
 
 // An area without its sign.
@@ -61,10 +44,7 @@ fn size_of(area: i64) -> i64
     requires { Sized area }
     ensures { result ≡ pos (unsigned_abs area) }
 {
-    if area < 0 {
-        return 0 - area;
-    }
-    area
+    area.abs()
 }
 
 // The areas, and the sum of their sizes.
@@ -73,8 +53,8 @@ fn write_areas(points: &[f64], elements: &[u16], pieces: &[u16], areas: &mut [i6
     ensures { AreasWritten (map (word_area points.now elements.now) pieces.now) areas.old areas.new result }
 {
     let mut sum = 0i64;
-    for i in 0..pieces.len() {
-        let area = twice_area(points, elements, ElementId(wide(pieces[i])));
+    for (i, &f) in pieces.iter().enumerate() {
+        let area = twice_area(points, elements, ElementId(wide(f)));
         areas[i] = area;
         sum = sum + size_of(area);
     }
@@ -92,46 +72,39 @@ fn write_sheet(points: &[f64], elements: &[u16], pieces: &[u16], areas: &mut [i6
 }
 
 // 25 of all pieces, then 12, and only then is the room written.
-fn sheet_of(points: &[f64], elements: &[u16], pieces: &[u16], areas: &mut [i64]) -> ListReply
+fn sheet_of(points: &[f64], elements: &[u16], pieces: &[u16], areas: &mut [i64]) -> Reply<usize>
     requires { PiecesFit points.now elements.now pieces.now }
     ensures { (result, areas.new) ≡ listed (sheet_asked points.now elements.now pieces.now) areas.old }
 {
     if !are_on_grid(points, elements, pieces) {
-        return ListReply::Refused(25);
+        return Err(Refusal::OffGrid);
     }
     let n = pieces.len() + 2;
     if areas.len() < n {
-        return ListReply::Refused(12);
+        return Err(Refusal::RoomShort);
     }
     write_sheet(points, elements, pieces, areas);
-    ListReply::Listed(n)
+    Ok(n)
 }
 
 // 3, 26, 4, 6, 25, 12, each of all pieces before the next; the room gets the areas, their count, and the sum of their sizes.
-pub fn areas(
-    counts: &[u16],
-    points: &[f64],
-    planes: &[f64],
-    elements: &[u16],
-    pieces: &[u16],
-    areas: &mut [i64],
-) -> ListReply
-    ensures { (result, areas.new) ≡ areas_reply desk (memory_of counts.now points.now planes.now elements.now) pieces.now areas.old }
+pub fn areas(memory: Memory, pieces: &[u16], areas: &mut [i64]) -> Reply<usize>
+    ensures { (result, areas.new) ≡ areas_reply desk (lent memory.entry) pieces.now areas.old }
 {
-    if !memory_sound(counts, points, planes, elements) {
-        return ListReply::Refused(3);
+    if !memory_sound(memory) {
+        return Err(Refusal::NotSound);
     }
     if MOST_PIECES < pieces.len() {
-        return ListReply::Refused(26);
+        return Err(Refusal::ListLong);
     }
-    if !are_in_use(wide(counts[1]), pieces) {
-        return ListReply::Refused(4);
+    if !all_used(pieces, memory.counts[1]) {
+        return Err(Refusal::NotInUse);
     }
-    if counts[0] != 2 {
-        return ListReply::Refused(6);
+    if memory.counts[0] != 2 {
+        return Err(Refusal::Rank);
     }
-    if !are_faces(elements, pieces) {
-        return ListReply::Refused(6);
+    if !are_faces(memory.elements, pieces) {
+        return Err(Refusal::Rank);
     }
-    sheet_of(points, elements, pieces, areas)
+    sheet_of(memory.points, memory.elements, pieces, areas)
 }

@@ -18,10 +18,7 @@ fn is_corner_on_grid(points: &[f64], v: VertexId) -> bool
     ensures { result ≡ corner_on_grid points.now v.0 }
 {
     let p = read_point(points, v);
-    if !is_on_grid(p[0]) {
-        return false;
-    }
-    is_on_grid(p[1])
+    is_on_grid(p[0]) && is_on_grid(p[1])
 }
 
 // Positive where the step from a to b turns from axis 0 towards axis 1.
@@ -38,12 +35,9 @@ fn are_corners_on_grid(points: &[f64], list: &[u16], n: usize) -> bool
     requires { CornersFit points.now list.now n }
     ensures { result ≡ all (corner_on_grid points.now) (take n list.now) }
 {
-    for i in 0..n {
-        if !is_corner_on_grid(points, VertexId(wide(list[i]))) {
-            return false;
-        }
-    }
-    true
+    list[..n]
+        .iter()
+        .all(|&v| is_corner_on_grid(points, VertexId(wide(v))))
 }
 
 // The turns of n steps.
@@ -52,6 +46,7 @@ fn turns_along(points: &[f64], list: &[u16], n: usize) -> i64
     ensures { result ≡ turns_along points.now (take (2 * n) list.now) }
 {
     let mut sum = 0i64;
+    // The step is counted, since its two places in the list are twice its number.
     for k in 0..n {
         let a = VertexId(wide(list[2 * k]));
         let b = VertexId(wide(list[2 * k + 1]));

@@ -1,10 +1,9 @@
 -- A table B that both carvings leave as it is has, renumbered, all that a cut adds to a table inside it, whichever sides that cut keeps; and so that cut is not refused.
 -- Here one step after another, and one entry; the rules of the cut are in ContainsCut.
-use Rattle.std.specs.Prelude.{if◌then◌else◌}
+use Rattle.std.specs.Prelude.{if◌then◌else◌, Option, Some, None}
 use Prim.Native.Nat.{ℕ, suc, ◌<◌, ◌≤◌}
 use mathlib.Core.Bool.{Bool, true, false}
 use mathlib.Core.List.{List, [], ◌∷◌, ◌++◌, append_assoc}
-use mathlib.Core.Option.{Option, none, some}
 use mathlib.Core.Path.{◌≡◌, refl, ap, sym, ◌∙◌, subst}
 use native.Mathlib.Nat.{le_refl, le_trans, zero-add, le_of_lt, suc_inj}
 use native.Mathlib.Omega.{arith}
@@ -19,8 +18,6 @@ use Rattle.rules.specs.Sound.{closed}
 use Rattle.rules.specs.Cut.{Outcome, done, refused, give, Step, next, with_point, add_element, add_polytope, share_vertex, add_vertex, given, with_element, share_element}
 use Rattle.rules.specs.Held.{Begins, Extends}
 use Rattle.carvings.specs.Renumbered.{renumbered, image}
-use Rattle.rules.specs.declared.ElementOrNone.{ElementOrNone}
-use Rattle.rules.specs.declared.ElementOrNone.TheVariants.{None}
 use Rattle.rules.proofs.Apart.{distinct_apart}
 use Rattle.rules.proofs.Built.{After, Builds}
 use Rattle.carvings.proofs.ClosedIn.{closed_in}
@@ -38,6 +35,8 @@ use Rattle.rules.proofs.Laws.{le_test, test_le, not_le, eq_test}
 use Rattle.carvings.proofs.LeftAsIs.{left_next, Poly, few, one, poly}
 use Rattle.rules.proofs.Selves.{point_self}
 use Rattle.carvings.proofs.SideBySide.{SetIs, OneIs}
+use Rattle.rules.specs.declared.ElementId.{ElementId}
+use Rattle.rules.specs.declared.Refusal.TheVariants.{ElementsFull, VerticesFull}
 
 -- ---- three runs side by side
 
@@ -125,8 +124,8 @@ module _ (L : Limits) (T B : Table) (fine : Fine T) (good : Good L B) (on : Exte
   unfolding add_element
   add_runs t f em y ry by j lj ej = go (find (same_element y) t.elements) refl
     where
-      room : (c : Bool) → ltb (element_count t) L.elements ≡ c → find (same_element y) t.elements ≡ none
-          → (i : ℕ) × (u : Table) × ((if c then done (element_count t) (with_element y t) else refused 9) ≡ done i u)
+      room : (c : Bool) → ltb (element_count t) L.elements ≡ c → find (same_element y) t.elements ≡ None
+          → (i : ℕ) × (u : Table) × ((if c then done (element_count t) (with_element y t) else refused ElementsFull) ≡ done i u)
       room true e q = (element_count t, with_element y t, refl)
       room false e q =
           let em' = embeds_new T B (distinct_apart B good.apart) t f em y ry by (not_there y t q) j lj ej in
@@ -137,8 +136,8 @@ module _ (L : Limits) (T B : Table) (fine : Fine T) (good : Good L B) (on : Exte
           absurd (let w : ⊥ = omega (arith, n, long, r, z) in w)
 
       go : (o : Option ℕ) → find (same_element y) t.elements ≡ o → (i : ℕ) × (u : Table) × (share_element L y o t ≡ done i u)
-      go (some i) e = (i, t, refl)
-      go none e = room (ltb (element_count t) L.elements) refl e
+      go (Some i) e = (i, t, refl)
+      go None e = room (ltb (element_count t) L.elements) refl e
 
   pub element_went : (t : Table) (f : ℕ → ℕ) → Embeds T B t f → (y : Element) → rises (boundary_of y) ≡ true → Below (element_count t) (boundary_of y)
       → (j : ℕ) → j < element_count B → element B j ≡ renumbered f y → Went t.points t f (add_element L y t) (λ i u g. (j ≡ g i) × (i < element_count u))
@@ -154,7 +153,7 @@ module _ (L : Limits) (T B : Table) (fine : Fine T) (good : Good L B) (on : Exte
       }
 
   pub poly_went : (t : Table) (f : ℕ → ℕ) → Embeds T B t f → (r : ℕ) (b b' : List ℕ) (h : Option ℕ) (m : Bool) → SetIs f (element_count t) b b'
-      → (a' : ElementOrNone) → add_polytope L r b' h m B ≡ done a' B → Went t.points t f (add_polytope L r b h m t) (λ a u g. OneIs g (element_count u) a a')
+      → (a' : Option ElementId) → add_polytope L r b' h m B ≡ done a' B → Went t.points t f (add_polytope L r b h m t) (λ a u g. OneIs g (element_count u) a a')
   unfolding add_polytope
   poly_went t f em r b b' h m s a' e' = go (poly L r b' h m B a' B e')
     where
@@ -209,25 +208,25 @@ module _ (L : Limits) (T B : Table) (fine : Fine T) (good : Good L B) (on : Exte
       search o q = subst (λ (x : Option ℕ). share_vertex L p x B ≡ done j B) q e'
 
       settle : ltb n L.vertices ≡ true → Went (t.points ++ p ∷ []) (with_point p t) f (add_element L (corner n) (with_point p t)) (λ i u g. (j ≡ g i) × (i < element_count u))
-          → Went (t.points ++ p ∷ []) t f (if ltb n L.vertices then add_element L (corner n) (with_point p t) else refused 8) (λ i u g. (j ≡ g i) × (i < element_count u))
+          → Went (t.points ++ p ∷ []) t f (if ltb n L.vertices then add_element L (corner n) (with_point p t) else refused VerticesFull) (λ i u g. (j ≡ g i) × (i < element_count u))
       settle room z = record {
         value = z.value;
         after = z.after;
-        runs = ap (λ (c : Bool). if c then add_element L (corner n) (with_point p t) else refused 8) room ∙ z.runs;
+        runs = ap (λ (c : Bool). if c then add_element L (corner n) (with_point p t) else refused VerticesFull) room ∙ z.runs;
         points = z.points;
         grown = record { map = z.grown.map; embeds = z.grown.embeds; agree = z.grown.agree; more = z.grown.more; value = z.grown.value };
       }
 
       go : (o : Option ℕ) → find (λ q. point_matches q p) t.points ≡ o → Begins (shared p t.points o) B.points
           → Went (shared p t.points o) t f (share_vertex L p o t) (λ i u g. (j ≡ g i) × (i < element_count u))
-      go (some v) q x =
-          let found : find (λ q. point_matches q p) B.points ≡ some v = ap (find (λ q. point_matches q p)) x.1 ∙ find_found (λ q. point_matches q p) 0 v t.points x.0 q in
-          let w = was_there (corner v) B j (added L (corner v) B j B (search (some v) found)) in
+      go (Some v) q x =
+          let found : find (λ q. point_matches q p) B.points ≡ Some v = ap (find (λ q. point_matches q p)) x.1 ∙ find_found (λ q. point_matches q p) 0 v t.points x.0 q in
+          let w = was_there (corner v) B j (added L (corner v) B j B (search (Some v) found)) in
           element_went t f em (corner v) refl tt j w.0 w.1
-      go none q x =
-          let found : find (λ q. point_matches q p) B.points ≡ some n =
-          (ap (find (λ q. point_matches q p)) (x.1 ∙ append_assoc t.points (p ∷ []) x.0) ∙ find_new (λ q. point_matches q p) 0 p t.points x.0 (point_self p) q ∙ ap {B = Option ℕ} some (zero-add n)) in
-          let w = was_there (corner n) B j (added L (corner n) B j B (search (some n) found)) in
+      go None q x =
+          let found : find (λ q. point_matches q p) B.points ≡ Some n =
+          (ap (find (λ q. point_matches q p)) (x.1 ∙ append_assoc t.points (p ∷ []) x.0) ∙ find_new (λ q. point_matches q p) 0 p t.points x.0 (point_self p) q ∙ ap {B = Option ℕ} Some (zero-add n)) in
+          let w = was_there (corner n) B j (added L (corner n) B j B (search (Some n) found)) in
           let em' : Embeds T B (with_point p t) f = record {
             content = em.content;
             used = em.used;

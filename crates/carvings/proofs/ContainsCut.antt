@@ -1,9 +1,8 @@
 -- Rules 4 to 7 on a table inside B: the cut of an element adds only what B has, and is not refused. By induction over the rank.
-use Rattle.std.specs.Prelude.{if◌then◌else◌}
+use Rattle.std.specs.Prelude.{if◌then◌else◌, Option, Some, None}
 use Prim.Native.Nat.{◌-◌, ℕ, suc, zero, ◌<◌, suc-le-suc, zero-le}
 use mathlib.Core.Bool.{Bool, true, false}
 use mathlib.Core.List.{List, [], ◌∷◌, map}
-use mathlib.Core.Option.{Option, none, some}
 use mathlib.Core.Path.{◌≡◌, refl, ap, sym, ◌∙◌, subst}
 use native.Mathlib.Nat.{le_trans}
 use lib.Dec.{eqb}
@@ -15,12 +14,8 @@ use Rattle.rules.specs.Table.{Element, Plane, Table, element, element_count, bou
 use Rattle.rules.specs.Cut.{done, give, keeping, Step, next, add_polytope, add_vertex, Cutting, Gathered, gathering, nothing_yet, including, side_of_cut, rule7, rule6, new_intersection}
 use Rattle.rules.specs.Cut.{plane_of_intersection, given, cross_edge, cut_ends, cut_edge, cut_boundary, cut_higher, cut_element, corner_answer, distance_of}
 use Rattle.rules.specs.Held.{Begins, Extends}
-use Rattle.rules.specs.declared.Crossing.{Crossing}
-use Rattle.rules.specs.declared.Crossing.TheVariants.{None as NoCrossing, At}
 use Rattle.rules.specs.declared.ElementAnswer.{ElementAnswer}
 use Rattle.rules.specs.declared.ElementCutOutput.TheVariants.{NonFlush}
-use Rattle.rules.specs.declared.ElementOrNone.{ElementOrNone}
-use Rattle.rules.specs.declared.ElementOrNone.TheVariants.{None}
 use Rattle.rules.proofs.Built.{after_next, Builds, unchanged, side_builds, rule7_builds, rule6_builds, cut_boundary_lem, cut_element_lem, cross_edge_lem, add_vertex_lem, add_polytope_lem}
 use Rattle.carvings.proofs.Contains.{Sim, grown_here, went_as, sim_give, sim_next, poly_went, vertex_went}
 use Rattle.carvings.proofs.Crossings.{Points, stay, points_with, points_crossed, points_of_ends, points_of_boundary, points_of_element, boundary_more, element_more}
@@ -29,19 +24,20 @@ use Rattle.rules.proofs.Extends.{Below, below_get, element_same, count_more, beg
 use Rattle.rules.proofs.Fine.{Fine, point_at_same, boundary_below}
 use Rattle.rules.proofs.Good.{Good}
 use Rattle.carvings.proofs.SideBySide.{SetIs, OneIs, IfKept, if_kept, set_more, one_more_lem, set_including, GatheredIs, AnswerIs, gathered_start, gathered_more, corner_is, gathered_later}
+use Rattle.rules.specs.declared.ElementId.{ElementId}
 
 module _ (L : Limits) (T B : Table) (fine : Fine T) (good : Good L B) (on : Extends T B) where
   module _ (h : Plane) (num : ℕ) (kI kO : Bool) where
     abbrev pub keep : Bool → Bool → Cutting
     keep i o = record { params = keeping h i o; number = num }
 
-    abbrev InsideIs : (ℕ → ℕ) → ℕ → ElementOrNone → ElementOrNone → ElementOrNone → Type 0
+    abbrev InsideIs : (ℕ → ℕ) → ℕ → Option ElementId → Option ElementId → Option ElementId → Type 0
     InsideIs f n i i₁ i₂ = IfKept kI (OneIs f n i i₁) × (i₂ ≡ None)
 
-    abbrev OutsideIs : (ℕ → ℕ) → ℕ → ElementOrNone → ElementOrNone → ElementOrNone → Type 0
+    abbrev OutsideIs : (ℕ → ℕ) → ℕ → Option ElementId → Option ElementId → Option ElementId → Type 0
     OutsideIs f n o o₁ o₂ = IfKept kO (OneIs f n o o₂) × (o₁ ≡ None)
 
-    side_inside : (k : Bool) (y : Element) (x x₁ x₂ : ElementOrNone) (s s₁ s₂ : List ℕ) (t : Table) (f : ℕ → ℕ) → Embeds T B t f → OneIs f (element_count t) x x₁
+    side_inside : (k : Bool) (y : Element) (x x₁ x₂ : Option ElementId) (s s₁ s₂ : List ℕ) (t : Table) (f : ℕ → ℕ) → Embeds T B t f → OneIs f (element_count t) x x₁
         → IfKept k (SetIs f (element_count t) s s₁) → Sim L T B fine good on stay (λ g n i i₁ i₂. IfKept k (OneIs g n i i₁) × (i₂ ≡ None)) t f (side_of_cut L k y x s t) (side_of_cut L true y x₁ s₁ B) (side_of_cut L false y x₂ s₂ B)
     side_inside true y x x₁ x₂ s s₁ s₂ t f em hx hs b₁ b₂ e₁ e₂ p =
         went_as L T B fine good on t.points t f (side_of_cut L true y x s t) (λ a u g. OneIs g (element_count u) a b₁) (λ a u g. OneIs g (element_count u) a b₁ × (b₂ ≡ None)) (λ a u g z. (z, sym (done_value e₂)))
@@ -49,7 +45,7 @@ module _ (L : Limits) (T B : Table) (fine : Fine T) (good : Good L B) (on : Exte
     side_inside false y x x₁ x₂ s s₁ s₂ t f em hx hs b₁ b₂ e₁ e₂ p =
         record { value = None; after = t; runs = refl; points = refl; grown = grown_here L T B fine good on t f em (λ g. Unit {0} × (b₂ ≡ None)) (tt, sym (done_value e₂)) }
 
-    side_outside : (k : Bool) (y : Element) (x x₁ x₂ : ElementOrNone) (s s₁ s₂ : List ℕ) (t : Table) (f : ℕ → ℕ) → Embeds T B t f → OneIs f (element_count t) x x₂
+    side_outside : (k : Bool) (y : Element) (x x₁ x₂ : Option ElementId) (s s₁ s₂ : List ℕ) (t : Table) (f : ℕ → ℕ) → Embeds T B t f → OneIs f (element_count t) x x₂
         → IfKept k (SetIs f (element_count t) s s₂) → Sim L T B fine good on stay (λ g n o o₁ o₂. IfKept k (OneIs g n o o₂) × (o₁ ≡ None)) t f (side_of_cut L k y x s t) (side_of_cut L false y x₁ s₁ B) (side_of_cut L true y x₂ s₂ B)
     side_outside true y x x₁ x₂ s s₁ s₂ t f em hx hs b₁ b₂ e₁ e₂ p =
         went_as L T B fine good on t.points t f (side_of_cut L true y x s t) (λ a u g. OneIs g (element_count u) a b₂) (λ a u g. OneIs g (element_count u) a b₂ × (b₁ ≡ None)) (λ a u g z. (z, sym (done_value e₁)))
@@ -58,14 +54,14 @@ module _ (L : Limits) (T B : Table) (fine : Fine T) (good : Good L B) (on : Exte
         record { value = None; after = t; runs = refl; points = refl; grown = grown_here L T B fine good on t f em (λ g. Unit {0} × (b₁ ≡ None)) (tt, sym (done_value e₁)) }
 
     -- rule 7 after the inside
-    abbrev lastly : Cutting → Element → Gathered → ElementOrNone → ElementOrNone → Step ElementAnswer
+    abbrev lastly : Cutting → Element → Gathered → Option ElementId → Option ElementId → Step ElementAnswer
     lastly c y w x i = λ t. next (side_of_cut L c.params.keep_outside y x w.outside t) (λ o. give (record { output = NonFlush i o x; warning = w.warning }))
 
-    lastly_builds : (c : Cutting) (y : Element) (w : Gathered) (x i : ElementOrNone) → Builds (lastly c y w x i)
+    lastly_builds : (c : Cutting) (y : Element) (w : Gathered) (x i : Option ElementId) → Builds (lastly c y w x i)
     lastly_builds c y w x i t =
         after_next t (side_of_cut L c.params.keep_outside y x w.outside t) (λ o. give (record { output = NonFlush i o x; warning = w.warning })) (side_builds L c c.params.keep_outside y x w.outside t) (λ o v. unchanged)
 
-    rule7_sim : (y : Element) (w w₁ w₂ : Gathered) (x x₁ x₂ : ElementOrNone) (t : Table) (f : ℕ → ℕ) → Embeds T B t f → OneIs f (element_count t) x x₁ → OneIs f (element_count t) x x₂
+    rule7_sim : (y : Element) (w w₁ w₂ : Gathered) (x x₁ x₂ : Option ElementId) (t : Table) (f : ℕ → ℕ) → Embeds T B t f → OneIs f (element_count t) x x₁ → OneIs f (element_count t) x x₂
         → GatheredIs kI kO f (element_count t) w w₁ w₂
         → Sim L T B fine good on stay (AnswerIs kI kO) t f (rule7 L (keep kI kO) y w x t) (rule7 L (keep true false) y w₁ x₁ B) (rule7 L (keep false true) y w₂ x₂ B)
     unfolding rule7
@@ -92,7 +88,7 @@ module _ (L : Limits) (T B : Table) (fine : Fine T) (good : Good L B) (on : Exte
           hi.1,
         )))
 
-    abbrev AcrossIs : (ℕ → ℕ) → ℕ → ElementOrNone → ElementOrNone → ElementOrNone → Type 0
+    abbrev AcrossIs : (ℕ → ℕ) → ℕ → Option ElementId → Option ElementId → Option ElementId → Type 0
     AcrossIs f n x x₁ x₂ = OneIs f n x x₁ × OneIs f n x x₂
 
     intersection_sim : (r : ℕ) (s s₁ s₂ : List ℕ) (t : Table) (f : ℕ → ℕ) → Embeds T B t f → SetIs f (element_count t) s s₁ → SetIs f (element_count t) s s₂
@@ -100,7 +96,7 @@ module _ (L : Limits) (T B : Table) (fine : Fine T) (good : Good L B) (on : Exte
     intersection_sim r s s₁ s₂ t f em h₁ h₂ b₁ b₂ e₁ e₂ p =
         let d : B.dimension ≡ t.dimension = on.dimension ∙ sym em.grown.dimension in
         let plane : Table → Option ℕ = λ v. plane_of_intersection v (keep kI kO) r in
-        let same : plane B ≡ plane t = ap (λ (k : ℕ). if eqb r k then some num else none) d in
+        let same : plane B ≡ plane t = ap (λ (k : ℕ). if eqb r k then Some num else None) d in
         let again : b₁ ≡ b₂ = done_value (sym e₁ ∙ ap (λ (l : List ℕ). add_polytope L (r - 1) l (plane B) false B) (h₁.is ∙ sym h₂.is) ∙ e₂) in
         went_as L T B fine good on t.points t f (new_intersection L (keep kI kO) r s t) (λ a u g. OneIs g (element_count u) a b₁) (λ a u g. AcrossIs g (element_count u) a b₁ b₂) (λ a u g z. (z, (z.0, sym again ∙ z.1)))
         (poly_went L T B fine good on t f em (r - 1) s s₁ (plane t) false h₁ b₁ (subst (λ (k : Option ℕ). add_polytope L (r - 1) s₁ k false B ≡ done b₁ B) same e₁))
@@ -142,10 +138,10 @@ module _ (L : Limits) (T B : Table) (fine : Fine T) (good : Good L B) (on : Exte
     abbrev crossed_at : Gathered → ℕ → Step Gathered
     crossed_at w v = give (record { flush = v ∷ []; inside = w.inside; outside = w.outside; intersections = w.intersections; warning = w.warning })
 
-    cross_sim : (p q : List Float) (x : Crossing) (w : Gathered) (t : Table) (f : ℕ → ℕ) → Embeds T B t f → GatheredIs kI kO f (element_count t) w w w
+    cross_sim : (p q : List Float) (x : Option Float) (w : Gathered) (t : Table) (f : ℕ → ℕ) → Embeds T B t f → GatheredIs kI kO f (element_count t) w w w
         → Sim L T B fine good on (points_crossed p q x) (GatheredIs kI kO) t f (cross_edge L p q x w t) (cross_edge L p q x w B) (cross_edge L p q x w B)
-    cross_sim p q NoCrossing w t f em hw = sim_give L T B fine good on (GatheredIs kI kO) t f em w w w hw
-    cross_sim p q (At s) w t f em hw =
+    cross_sim p q None w t f em hw = sim_give L T B fine good on (GatheredIs kI kO) t f em w w w hw
+    cross_sim p q (Some s) w t f em hw =
         let pt = crossing_point s p q in
         sim_next L T B fine good on VertexIs (points_with pt) stay (GatheredIs kI kO) t f (add_vertex L pt t) (add_vertex L pt B) (add_vertex L pt B) (crossed_at w) (crossed_at w) (crossed_at w)
         begins_refl (add_vertex_lem L pt B) (add_vertex_lem L pt B) (λ v u. unchanged) (λ v u. unchanged)

@@ -3,7 +3,6 @@
 use Prim.Native.Nat.{◌-◌, ℕ, suc, zero, ◌<◌, suc-le-suc, zero-le}
 use mathlib.Core.Bool.{Bool, true, false, not}
 use mathlib.Core.List.{List, [], ◌∷◌, ◌++◌}
-use mathlib.Core.Option.{Option, none, some}
 use mathlib.Core.Path.{◌≡◌, refl, ap, ap₂, sym, ◌∙◌, subst}
 use native.Mathlib.Nat.{le_trans}
 use lib.Dec.{ltb, leb}
@@ -17,13 +16,12 @@ use Rattle.rules.specs.Sound.{closed}
 use Rattle.rules.specs.Cut.{Outcome, done, refused, Step, next, with_point, share_element, add_element, add_polytope, share_vertex, add_vertex, Cutting, Gathered, gathering, nothing_yet, including}
 use Rattle.rules.specs.Cut.{side_of_cut, rule7, rule6, new_intersection, plane_of_intersection, given, cross_edge, cut_ends, cut_edge, cut_boundary, cut_higher, cut_element, cut_corner, distance_of}
 use Rattle.rules.specs.Held.{Begins, Extends}
-use Rattle.rules.specs.declared.Crossing.{Crossing}
-use Rattle.rules.specs.declared.Crossing.TheVariants.{None as NoCrossing, At}
 use Rattle.rules.specs.declared.ElementAnswer.{ElementAnswer}
-use Rattle.rules.specs.declared.ElementOrNone.{ElementOrNone}
 use Rattle.rules.proofs.Extends.{Below, begins_refl, begins_trans, below_get, extends_refl, extends_trans, grown_element, grown_point, element_same}
 use Rattle.rules.proofs.Fine.{Fine, point_at_same, boundary_below}
 use Rattle.rules.proofs.Laws.{either}
+use Rattle.rules.specs.declared.ElementId.{ElementId}
+use Rattle.std.specs.Prelude.{Option, Some, None}
 
 abbrev pub Points : Type 0
 Points = List (List Float)
@@ -32,15 +30,15 @@ Points = List (List Float)
 
 -- a match that was found, or the point appended
 abbrev pub shared : List Float → Points → Option ℕ → Points
-shared p ps (some v) = ps
-shared p ps none = ps ++ p ∷ []
+shared p ps (Some v) = ps
+shared p ps None = ps ++ p ∷ []
 
 abbrev pub points_with : List Float → Points → Points
 points_with p ps = shared p ps (find (λ q. point_matches q p) ps)
 
-abbrev pub points_crossed : List Float → List Float → Crossing → Points → Points
-points_crossed p q NoCrossing ps = ps
-points_crossed p q (At s) ps = points_with (crossing_point s p q) ps
+abbrev pub points_crossed : List Float → List Float → Option Float → Points → Points
+points_crossed p q None ps = ps
+points_crossed p q (Some s) ps = points_with (crossing_point s p q) ps
 
 abbrev pub points_of_ends : Plane → List Float → List Float → Points → Points
 points_of_ends h p q ps = points_crossed p q (crossing_of (signed_distance h.normal h.distance p) (signed_distance h.normal h.distance q)) ps
@@ -57,12 +55,12 @@ points_of_element T h (suc (suc r)) e ps = points_of_boundary (points_of_element
 -- points are only appended
 
 shared_more : (p : List Float) (ps : Points) (o : Option ℕ) → Begins ps (shared p ps o)
-shared_more p ps (some v) = begins_refl ps
-shared_more p ps none = (p ∷ [], refl)
+shared_more p ps (Some v) = begins_refl ps
+shared_more p ps None = (p ∷ [], refl)
 
-crossed_more : (p q : List Float) (x : Crossing) (ps : Points) → Begins ps (points_crossed p q x ps)
-crossed_more p q NoCrossing ps = begins_refl ps
-crossed_more p q (At s) ps = shared_more (crossing_point s p q) ps (find (λ r. point_matches r (crossing_point s p q)) ps)
+crossed_more : (p q : List Float) (x : Option Float) (ps : Points) → Begins ps (points_crossed p q x ps)
+crossed_more p q None ps = begins_refl ps
+crossed_more p q (Some s) ps = shared_more (crossing_point s p q) ps (find (λ r. point_matches r (crossing_point s p q)) ps)
 
 ends_more : (h : Plane) (p q : List Float) (ps : Points) → Begins ps (points_of_ends h p q ps)
 ends_more h p q ps = crossed_more p q (crossing_of (signed_distance h.normal h.distance p) (signed_distance h.normal h.distance q)) ps
@@ -112,8 +110,8 @@ moved_as F G t (done a u) e h = record { extends = h.extends; points = h.points 
 
 module _ (L : Limits) where
   share_element_lem : (y : Element) (o : Option ℕ) (t : Table) → Moved stay t (share_element L y o t)
-  share_element_lem y (some i) t = moves_none t
-  share_element_lem y none t = either (Moved stay t) (ltb (element_count t) L.elements) _ _ (record { extends = grown_element y t; points = refl; planes = refl }) tt
+  share_element_lem y (Some i) t = moves_none t
+  share_element_lem y None t = either (Moved stay t) (ltb (element_count t) L.elements) _ _ (record { extends = grown_element y t; points = refl; planes = refl }) tt
 
   pub add_element_lem : (y : Element) (t : Table) → Moved stay t (add_element L y t)
   unfolding add_element
@@ -128,8 +126,8 @@ module _ (L : Limits) where
       (moved_next stay stay t (add_element L (polytope r b h m) t) _ (add_element_lem (polytope r b h m) t) (λ i s x. moves_none s))))
 
   share_vertex_lem : (p : List Float) (o : Option ℕ) (t : Table) → Moved (λ ps. shared p ps o) t (share_vertex L p o t)
-  share_vertex_lem p (some v) t = add_element_lem (corner v) t
-  share_vertex_lem p none t =
+  share_vertex_lem p (Some v) t = add_element_lem (corner v) t
+  share_vertex_lem p None t =
       either (Moved (λ ps. ps ++ p ∷ []) t) (ltb (length t.points) L.vertices) _ _
       (moved_after (λ ps. ps ++ p ∷ []) stay t (with_point p t) (add_element L (corner (length t.points)) (with_point p t))
       (record { extends = grown_point p t; points = refl; planes = refl }) (add_element_lem (corner (length t.points)) (with_point p t))) tt
@@ -141,11 +139,11 @@ module _ (L : Limits) where
       moved_as (λ ps. shared p ps o) (points_with p) t (share_vertex L p o t) refl (share_vertex_lem p o t)
 
   module _ (c : Cutting) where
-    side_moved : (kept : Bool) (e : Element) (x : ElementOrNone) (s : List ℕ) (t : Table) → Moved stay t (side_of_cut L kept e x s t)
+    side_moved : (kept : Bool) (e : Element) (x : Option ElementId) (s : List ℕ) (t : Table) → Moved stay t (side_of_cut L kept e x s t)
     side_moved false e x s t = moves_none t
     side_moved true e x s t = add_polytope_lem (rank_of e) (including x s) (plane_of e) (is_primordial e) t
 
-    rule7_moved : (e : Element) (g : Gathered) (x : ElementOrNone) (t : Table) → Moved stay t (rule7 L c e g x t)
+    rule7_moved : (e : Element) (g : Gathered) (x : Option ElementId) (t : Table) → Moved stay t (rule7 L c e g x t)
     unfolding rule7
     rule7_moved e g x t =
         moved_next stay stay t (side_of_cut L c.params.keep_inside e x g.inside t) _ (side_moved c.params.keep_inside e x g.inside t) (λ i t₁ x₁.
@@ -159,9 +157,9 @@ module _ (L : Limits) where
     rule6_moved e g (f ∷ []) t = rule7_moved e g (given f) t
     rule6_moved e g (f ∷ f' ∷ fs) t = moves_none t
 
-    cross_moved : (p q : List Float) (x : Crossing) (g : Gathered) (t : Table) → Moved (points_crossed p q x) t (cross_edge L p q x g t)
-    cross_moved p q NoCrossing g t = moves_none t
-    cross_moved p q (At s) g t =
+    cross_moved : (p q : List Float) (x : Option Float) (g : Gathered) (t : Table) → Moved (points_crossed p q x) t (cross_edge L p q x g t)
+    cross_moved p q None g t = moves_none t
+    cross_moved p q (Some s) g t =
         moved_next (points_with (crossing_point s p q)) stay t (add_vertex L (crossing_point s p q) t) _ (add_vertex_lem (crossing_point s p q) t) (λ v u y. moves_none u)
 
     -- ---- old elements

@@ -1,10 +1,9 @@
 -- One table inside another, by a renumbering: each element of the first stands in the second with its boundary renumbered.
 -- It goes on when the first gets an element that the second has.
-use Rattle.std.specs.Prelude.{if◌then◌else◌}
+use Rattle.std.specs.Prelude.{if◌then◌else◌, Option, Some, None}
 use Prim.Native.Nat.{ℕ, suc, zero, ◌<◌, ◌≤◌}
 use mathlib.Core.Bool.{Bool, true, false, false≢true}
 use mathlib.Core.List.{List, [], ◌∷◌}
-use mathlib.Core.Option.{Option, none, some}
 use mathlib.Core.Path.{◌≡◌, refl, ap, sym, ◌∙◌, subst}
 use native.Mathlib.Nat.{le_refl, le_trans, le_of_lt, lt_irrefl, not-suc-le-zero, le_of_suc-le-suc}
 use native.Mathlib.Omega.{arith}
@@ -28,6 +27,8 @@ use Rattle.carvings.proofs.Images.{renumbered_agree, renumbered_once, renumbered
 use Rattle.rules.proofs.Laws.{if_true, if_false, eqb_self, not_eq}
 use Rattle.rules.proofs.Selves.{element_self, same_element_lem}
 use Rattle.rules.proofs.Stays.{found_element}
+use Rattle.rules.specs.declared.Refusal.TheVariants.{ElementsFull}
+use Rattle.rules.specs.declared.Refusal.{Refusal}
 
 -- ---- what adding an element did
 
@@ -35,7 +36,7 @@ pub data Added (y : Element) (t : Table) (i : ℕ) (u : Table) : Type 0 where
   there : u ≡ t → i < element_count t → element t i ≡ y → Added y t i u
   new : ((e : ℕ) → e < element_count t → element t e ≡ y → ⊥) → i ≡ element_count t → u ≡ with_element y t → Added y t i u
 
-pub none_passes : {A : Type 0} (p : A → Bool) (n : ℕ) (xs : List A) (d : A) → find_from n p xs ≡ none → (i : ℕ) → i < length xs → p (get_or xs i d) ≡ false
+pub none_passes : {A : Type 0} (p : A → Bool) (n : ℕ) (xs : List A) (d : A) → find_from n p xs ≡ None → (i : ℕ) → i < length xs → p (get_or xs i d) ≡ false
 none_passes p n [] d h i l = absurd (not-suc-le-zero l)
 none_passes p n (x ∷ xs) d h zero l = (if_none (p x) n (find_from (suc n) p xs) h).0
 none_passes p n (x ∷ xs) d h (suc i) l = none_passes p (suc n) xs d (if_none (p x) n (find_from (suc n) p xs) h).1 i (le_of_suc-le-suc l)
@@ -47,27 +48,27 @@ module _ {A : Type 0} where
   pub done_table : {a b : A} {t u : Table} → done a t ≡ done b u → t ≡ u
   done_table e = cc
 
-  pub not_done : {C : Type 0} {n : ℕ} {b : A} {u : Table} → ◌≡◌ {A = Outcome A} (refused n) (done b u) → C
+  pub not_done : {C : Type 0} {n : Refusal} {b : A} {u : Table} → ◌≡◌ {A = Outcome A} (refused n) (done b u) → C
   not_done e = absurd (let z : ◌≡◌ {A = ℕ} 0 1 = cc in let w : ⊥ = omega arith in w)
 
 -- what a search does not find is not there
-pub not_there : (y : Element) (t : Table) → find (same_element y) t.elements ≡ none → (e : ℕ) → e < element_count t → element t e ≡ y → ⊥
+pub not_there : (y : Element) (t : Table) → find (same_element y) t.elements ≡ None → (e : ℕ) → e < element_count t → element t e ≡ y → ⊥
 not_there y t e x l q = false≢true (sym (none_passes (same_element y) 0 t.elements (corner 0) e x l) ∙ ap (same_element y) q ∙ element_self y)
 
 pub added : (L : Limits) (y : Element) (t : Table) (i : ℕ) (u : Table) → add_element L y t ≡ done i u → Added y t i u
 unfolding add_element
 added L y t i u h = go (find (same_element y) t.elements) refl h
   where
-    room : (c : Bool) → find (same_element y) t.elements ≡ none → (if c then done (element_count t) (with_element y t) else refused 9) ≡ done i u → Added y t i u
+    room : (c : Bool) → find (same_element y) t.elements ≡ None → (if c then done (element_count t) (with_element y t) else refused ElementsFull) ≡ done i u → Added y t i u
     room true e k = new (not_there y t e) (sym (done_value k)) (sym (done_table k))
     room false e k = not_done k
 
     go : (o : Option ℕ) → find (same_element y) t.elements ≡ o → share_element L y o t ≡ done i u → Added y t i u
-    go (some j) e k =
+    go (Some j) e k =
         let f = found_element (same_element y) t j e in
         let q : j ≡ i = done_value k in
         there (sym (done_table k)) (subst (λ (x : ℕ). x < element_count t) q f.0) (subst (λ (x : ℕ). element t x ≡ y) q (sym (same_element_lem y (element t j) f.1)))
-    go none e k = room (ltb (element_count t) L.elements) e k
+    go None e k = room (ltb (element_count t) L.elements) e k
 
 -- where nothing was appended, it was there
 pub was_there : (y : Element) (t : Table) (i : ℕ) → Added y t i t → (i < element_count t) × (element t i ≡ y)

@@ -2,7 +2,6 @@
 use Prim.Native.Nat.{◌+◌, ℕ}
 use mathlib.Core.Bool.{Bool, true, false}
 use mathlib.Core.List.{List, [], ◌∷◌, ◌++◌, append-nil}
-use mathlib.Core.Option.{Option}
 use mathlib.Core.Path.{◌≡◌, refl, ap, ◌∙◌, subst}
 use native.Mathlib.Omega.{arith}
 use lib.Dec.{ltb, leb}
@@ -12,11 +11,11 @@ use Rattle.rules.specs.Table.{polytope, Table}
 use Rattle.rules.specs.Sound.{closed}
 use Rattle.rules.specs.Cut.{Outcome, done, refused, give, Step, next, add_element, add_polytope, given}
 use Rattle.rules.specs.Held.{Begins, Extends}
-use Rattle.rules.specs.declared.ElementOrNone.{ElementOrNone}
-use Rattle.rules.specs.declared.ElementOrNone.TheVariants.{None}
 use Rattle.rules.proofs.Built.{After, Builds, built_extends}
 use Rattle.carvings.proofs.Embeds.{Added, added, done_value, done_table, not_done}
 use Rattle.rules.proofs.LaterAppends.{polytope_by}
+use Rattle.rules.specs.declared.ElementId.{ElementId}
+use Rattle.std.specs.Prelude.{Option, None}
 
 -- ---- steps that leave a table as it is
 
@@ -55,11 +54,11 @@ left_next {X} B o k b ho hk e =
 
 -- ---- what adding a polytope did
 
-pub data Poly (L : Limits) (r : ℕ) (b : List ℕ) (h : Option ℕ) (m : Bool) (t : Table) (a : ElementOrNone) (u : Table) : Type 0 where
+pub data Poly (L : Limits) (r : ℕ) (b : List ℕ) (h : Option ℕ) (m : Bool) (t : Table) (a : Option ElementId) (u : Table) : Type 0 where
   few : leb (length b) r ≡ true → None ≡ a → t ≡ u → Poly L r b h m t a u
   one : leb (length b) r ≡ false → ltb L.boundary (length b) ≡ false → closed t r b ≡ true → (i : ℕ) → given i ≡ a → Added (polytope r b h m) t i u → Poly L r b h m t a u
 
-pub poly : (L : Limits) (r : ℕ) (b : List ℕ) (h : Option ℕ) (m : Bool) (t : Table) (a : ElementOrNone) (u : Table) → add_polytope L r b h m t ≡ done a u → Poly L r b h m t a u
+pub poly : (L : Limits) (r : ℕ) (b : List ℕ) (h : Option ℕ) (m : Bool) (t : Table) (a : Option ElementId) (u : Table) → add_polytope L r b h m t ≡ done a u → Poly L r b h m t a u
 unfolding add_polytope
 poly L r b h m t a u e = go (leb (length b) r) (ltb L.boundary (length b)) (closed t r b) refl refl refl e
   where

@@ -11,14 +11,14 @@ use Rattle.carvings.specs.Renumbered.{image, renumbered_place}
 use Rattle.rules.specs.declared.ElementCutOutput.{ElementCutOutput}
 use Rattle.rules.specs.declared.ElementCutOutput.TheVariants.{Flush, NonFlush}
 use Rattle.rules.specs.declared.ElementAnswer.{ElementAnswer}
-use Rattle.rules.specs.declared.ElementOrNone.{ElementOrNone}
-use Rattle.rules.specs.declared.ElementOrNone.TheVariants.{None, Some}
 use Rattle.rules.specs.declared.Side.{Side}
 use Rattle.rules.specs.declared.Side.TheVariants.{Inside, On, Outside}
 use Rattle.rules.proofs.Extends.{Below, below_more, below_with}
 use Rattle.rules.proofs.Fine.{SomeIn}
 use Rattle.carvings.proofs.Images.{image_with, image_agree}
 use Rattle.rules.proofs.Ranked.{rises_with}
+use Rattle.rules.specs.declared.ElementId.{ElementId}
+use Rattle.std.specs.Prelude.{Option, Some, None}
 
 -- ---- values side by side
 
@@ -28,7 +28,7 @@ pub record SetIs (f : ℕ → ℕ) (n : ℕ) (s s' : List ℕ) : Type 0 where
   pub under : Below n s
   pub is : s' ≡ image f s
 
-abbrev pub OneIs : (ℕ → ℕ) → ℕ → ElementOrNone → ElementOrNone → Type 0
+abbrev pub OneIs : (ℕ → ℕ) → ℕ → Option ElementId → Option ElementId → Type 0
 OneIs f n x x' = SomeIn x n × (x' ≡ renumbered_place f x)
 
 abbrev pub IfKept : Bool → Type 0 → Type 0
@@ -46,14 +46,14 @@ kept false a = tt
 pub set_more : (f g : ℕ → ℕ) (n m : ℕ) → ((e : ℕ) → e < n → g e ≡ f e) → n ≤ m → (s s' : List ℕ) → SetIs f n s s' → SetIs g m s s'
 set_more f g n m a l s s' h = record { rising = h.rising; under = below_more s l h.under; is = h.is ∙ sym (image_agree f g n a s h.under) }
 
-pub one_more_lem : (f g : ℕ → ℕ) (n m : ℕ) → ((e : ℕ) → e < n → g e ≡ f e) → n ≤ m → (x x' : ElementOrNone) → OneIs f n x x' → OneIs g m x x'
+pub one_more_lem : (f g : ℕ → ℕ) (n m : ℕ) → ((e : ℕ) → e < n → g e ≡ f e) → n ≤ m → (x x' : Option ElementId) → OneIs f n x x' → OneIs g m x x'
 one_more_lem f g n m a l None x' h = (tt, h.1)
 one_more_lem f g n m a l (Some e) x' h = (le_trans h.0 l, h.1 ∙ ap given (sym (a e.0 h.0)))
 
-pub set_including : (f : ℕ → ℕ) (n : ℕ) (x x' : ElementOrNone) (s s' : List ℕ) → OneIs f n x x' → SetIs f n s s' → SetIs f n (including x s) (including x' s')
-set_including f n None x' s s' h k = subst (λ (z : ElementOrNone). SetIs f n s (including z s')) (sym h.1) k
+pub set_including : (f : ℕ → ℕ) (n : ℕ) (x x' : Option ElementId) (s s' : List ℕ) → OneIs f n x x' → SetIs f n s s' → SetIs f n (including x s) (including x' s')
+set_including f n None x' s s' h k = subst (λ (z : Option ElementId). SetIs f n s (including z s')) (sym h.1) k
 set_including f n (Some e) x' s s' h k =
-    subst (λ (z : ElementOrNone). SetIs f n (with_member e.0 s) (including z s')) (sym h.1) (record {
+    subst (λ (z : Option ElementId). SetIs f n (with_member e.0 s) (including z s')) (sym h.1) (record {
       rising = rises_with e.0 s k.rising;
       under = below_with n e.0 s h.0 k.under;
       is = ap (with_member (f e.0)) k.is ∙ sym (image_with f e.0 s);

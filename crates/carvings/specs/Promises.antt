@@ -1,19 +1,18 @@
 -- What is promised of a slice and of two carvings, over any room (document 02, order 14): trainers show a cut as "keep the left, then keep the right".
 -- A slice keeps both sides; a carving keeps one. Definitions only; proofs/Promises.antt proves the record at the end.
-use Rattle.std.specs.Prelude.{ℕ, ◌≤◌, ◌<◌, ◌≡◌, true, false, map, set}
-use Rattle.std.proofs.Math.Option.{none}
+use Rattle.std.specs.Prelude.{ℕ, ◌≤◌, ◌<◌, ◌≡◌, true, false, map, set, None}
 use Rattle.rules.specs.Limits.{Limits}
 use Rattle.rules.specs.Table.{ElementNumber, Plane, Table, rank, element_count}
 use Rattle.rules.specs.Sound.{sound, sound_plane}
 use Rattle.rules.specs.Memory.{Memory, decode}
 use Rattle.rules.specs.Cut.{done, keeping, cut}
-use Rattle.rules.specs.Replies.{cut_number, cut_values, cut_warning, cut_by, cut_reply}
+use Rattle.rules.specs.Replies.{cut_values, cut_warning, cut_by, cut_reply}
 use Rattle.rules.specs.Promises.{Finite}
 use Rattle.rules.specs.declared.Hyperplane.{Hyperplane}
 use Rattle.rules.specs.declared.PolytopeFate.TheVariants.{Remove, Keep}
 use Rattle.rules.specs.declared.ElementAnswer.{ElementAnswer}
-use Rattle.rules.specs.declared.CutReply.{CutReply}
 use Rattle.carvings.specs.Renumbered.{Renumbering, AnswersCorrespond, renumbered_value}
+use Rattle.rules.specs.Refusals.{Reply, reply_number}
 
 -- a sound table, a finite divider of its dimension, and a root in use that is no corner
 pub record Sliceable (L : Limits) (h : Plane) (root : ElementNumber) (t : Table) : Type 0 where
@@ -41,14 +40,14 @@ SliceTakenAsCarvings L = (h : Plane) (root : ElementNumber) (t : Table) → Slic
 
 -- at the public replies: counts, vertices and hyperplanes are the same memory, word for word, and the elements differ by a renumbering of those appended;
 -- the values are the slice's, renumbered, with none for the side that each carving removes, and no values where the slice is flush; the warnings are the slice's
-pub record AsTwoCarvings (L : Limits) (m : Memory) (slice first second : CutReply × Memory) : Type 0 where
+pub record AsTwoCarvings (L : Limits) (m : Memory) (slice first second : Reply ElementAnswer × Memory) : Type 0 where
   pub counts : second.1.counts ≡ slice.1.counts
   pub points : second.1.points ≡ slice.1.points
   pub planes : second.1.planes ≡ slice.1.planes
   pub number : ElementNumber → ElementNumber
   pub elements : Renumbering (element_count (decode L m)) (decode L slice.1) (decode L second.1) number
-  pub inside : cut_values first.0 ≡ set (map (renumbered_value number) (cut_values slice.0)) 1 none
-  pub outside : cut_values second.0 ≡ set (map (renumbered_value number) (cut_values slice.0)) 0 none
+  pub inside : cut_values first.0 ≡ set (map (renumbered_value number) (cut_values slice.0)) 1 None
+  pub outside : cut_values second.0 ≡ set (map (renumbered_value number) (cut_values slice.0)) 0 None
   pub inside_warning : cut_warning first.0 ≡ cut_warning slice.0
   pub outside_warning : cut_warning second.0 ≡ cut_warning slice.0
 
@@ -57,7 +56,7 @@ SliceRepliesAsTwoCarvings L = (h : Hyperplane) (root : ElementNumber) (m : Memor
     → let slice = cut_reply L (cut_by h Keep Keep) root m in
     let first = cut_reply L (cut_by h Keep Remove) root m in
     let second = cut_reply L (cut_by h Remove Keep) root first.1 in
-    cut_number slice.0 ≡ 0 → AsTwoCarvings L m slice first second
+    reply_number slice.0 ≡ 0 → AsTwoCarvings L m slice first second
 
 -- and the slice's number is 0, done, exactly when both carvings' are
 abbrev pub SliceDoneAsCarvings : Limits → Type 0
@@ -65,8 +64,8 @@ SliceDoneAsCarvings L = (h : Hyperplane) (root : ElementNumber) (m : Memory) →
     → let slice = cut_reply L (cut_by h Keep Keep) root m in
     let first = cut_reply L (cut_by h Keep Remove) root m in
     let second = cut_reply L (cut_by h Remove Keep) root first.1 in
-    (cut_number slice.0 ≡ 0 → (cut_number first.0 ≡ 0) × (cut_number second.0 ≡ 0))
-    × (cut_number first.0 ≡ 0 → cut_number second.0 ≡ 0 → cut_number slice.0 ≡ 0)
+    (reply_number slice.0 ≡ 0 → (reply_number first.0 ≡ 0) × (reply_number second.0 ≡ 0))
+    × (reply_number first.0 ≡ 0 → reply_number second.0 ≡ 0 → reply_number slice.0 ≡ 0)
 
 -- a renumbering goes back, so neither table is the first: there is one from the second table to the first, and it undoes the other
 abbrev pub RenumberingGoesBack : Limits → Type 0

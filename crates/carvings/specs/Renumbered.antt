@@ -1,14 +1,12 @@
 -- Two tables that differ by a renumbering of appended elements, and answers that correspond (document 02, order 14). Definitions only.
-use Rattle.std.specs.Prelude.{ℕ, ◌≤◌, ◌<◌, ◌≡◌, List, [], ◌∷◌}
-use Rattle.std.proofs.Math.Option.{Option, none, some}
+use Rattle.std.specs.Prelude.{ℕ, ◌≤◌, ◌<◌, ◌≡◌, List, [], ◌∷◌, Option, Some, None}
 use Rattle.rules.specs.Lists.{with_member}
 use Rattle.rules.specs.Table.{ElementNumber, Element, corner, polytope, Table, element, element_count}
 use Rattle.rules.specs.Cut.{given}
-use Rattle.rules.specs.declared.ElementOrNone.{ElementOrNone}
-use Rattle.rules.specs.declared.ElementOrNone.TheVariants.{None, Some}
 use Rattle.rules.specs.declared.ElementCutOutput.{ElementCutOutput}
 use Rattle.rules.specs.declared.ElementCutOutput.TheVariants.{Flush, NonFlush}
 use Rattle.rules.specs.declared.ElementAnswer.{ElementAnswer}
+use Rattle.rules.specs.declared.ElementId.{ElementId}
 
 -- the new numbers of a set, as a set: each member renumbered, and all of them put in rising order again
 abbrev pub image : (ElementNumber → ElementNumber) → List ElementNumber → List ElementNumber
@@ -21,14 +19,14 @@ renumbered f (corner v) = corner v
 renumbered f (polytope r b h m) = polytope r (image f b) h m
 
 -- a place of an answer, renumbered
-abbrev pub renumbered_place : (ElementNumber → ElementNumber) → ElementOrNone → ElementOrNone
+abbrev pub renumbered_place : (ElementNumber → ElementNumber) → Option ElementId → Option ElementId
 renumbered_place f None = None
 renumbered_place f (Some e) = given (f e.0)
 
 -- and as a value
 abbrev pub renumbered_value : (ElementNumber → ElementNumber) → Option ElementNumber → Option ElementNumber
-renumbered_value f none = none
-renumbered_value f (some e) = some (f e)
+renumbered_value f None = None
+renumbered_value f (Some e) = Some (f e)
 
 -- two tables that differ by a renumbering of the elements appended to the first `old` ones: the same dimension, vertices and hyperplanes, number for number;
 -- f is one to one from the elements of t onto those of u, leaves the old ones and takes appended ones to appended ones, and each element of u is that of t, renumbered

@@ -1,17 +1,16 @@
 -- One element of the cube more: its row, and its point or its hyperplane, stand behind the others.
 -- How many come before it is its number, so nothing is counted twice.
-use Rattle.std.specs.Prelude.{if◌then◌else◌}
+use Rattle.std.specs.Prelude.{if◌then◌else◌, Option, Some, None}
 use Prim.Native.Nat.{ℕ, zero, suc, ◌+◌, ◌*◌, ◌^◌, ◌/◌, ◌-◌, ◌≤◌, ◌<◌}
 use mathlib.Core.Bool.{Bool, true, false, not, cond, ◌&&◌}
-use mathlib.Core.Option.{Option, some, none}
 use mathlib.Core.Path.{◌≡◌, refl, sym, ap, ap₂, subst, ◌∙◌}
 use mathlib.Core.List.{List, [], ◌∷◌, ◌++◌, map, append-nil}
 use native.Mathlib.Nat.{pow-le-pow_right, le_of_eq}
 use native.Mathlib.Numerals.{add-one}
 use native.Mathlib.Omega.{arith}
 use lib.Dec.{eqb}
-use lib.ListN.{length, get_or, set, take, drop, replicate, length-replicate, length-map, length-append, get_or-append}
-use lib.Seq.{sets, sets-eq, drop-length, take-suc, take-length, length-take-le, take-append_seam}
+use lib.ListN.{length, get_or, set, take, replicate, length-map, length-append, get_or-append}
+use lib.Seq.{sets, take-suc, take-length, length-take-le, take-append_seam}
 use lib.Ieee.{Float, neg}
 use Rattle.rules.specs.Limits.{desk, no_plane}
 use Rattle.rules.specs.Lists.{pad, up_to, keep}
@@ -25,7 +24,7 @@ use Rattle.rules.proofs.CubeCounts.{vertex_tally, facet_tally}
 use Rattle.rules.proofs.CubeDigits.{digits_length, digit_low, twos_length}
 use Rattle.rules.proofs.CubeElements.{boundary_of_lem}
 use Rattle.rules.proofs.CubeFaces.{face_numbers, faces_known}
-use Rattle.rules.proofs.Laws.{not_eq, test_eq}
+use Rattle.rules.proofs.Laws.{not_eq}
 use Rattle.rules.proofs.Growing.{keep_append}
 use Rattle.hypermath.proofs.Filling.{fill_next}
 use Rattle.cube.specs.Cubes.{FacesSoFar, coordinate_at, component_at}
@@ -50,9 +49,6 @@ rank_low d e l = let h = twos_length (digits d e) in let k = digits_length d e i
 
 pub faces_few : (d e : ℕ) (f : Faces) → d ≤ 4 → FacesSoFar f (map of_digits (faces (digits d e))) → f.n ≤ 8
 faces_few d e f l g = let h = faces_twice d e f g in let k = rank_low d e l in omega (arith, h, k)
-
-pub facet_no : (d e r : ℕ) → r ≡ twos (digits d e) → r ≡ 0 → false ≡ is_facet (digits d e)
-facet_no d e r q z = ap (λ (b : Bool). not b && eqb (suc (twos (digits d e))) (length (digits d e))) (sym (test_eq (twos (digits d e)) 0 (sym q ∙ z)))
 
 pub facet_is : (d e r : ℕ) → r ≡ twos (digits d e) → (r ≡ 0 → ⊥) → eqb (r + 1) d ≡ is_facet (digits d e)
 facet_is d e r q z =
@@ -88,7 +84,7 @@ facet_room d e low l p =
 abbrev element_by : ℕ → ℕ → Bool → Element
 element_by d e b =
     if b then corner (length (chosen is_vertex d e))
-    else polytope (twos (digits d e)) (map of_digits (faces (digits d e))) (if is_facet (digits d e) then some (length (chosen is_facet d e)) else none) (is_facet (digits d e))
+    else polytope (twos (digits d e)) (map of_digits (faces (digits d e))) (if is_facet (digits d e) then Some (length (chosen is_facet d e)) else None) (is_facet (digits d e))
 
 pub row_corner : (d e v : ℕ) → is_vertex (digits d e) ≡ true → v ≡ length (chosen is_vertex d e) → element_words desk (corner v) ≡ element_words desk (cube_element d e)
 unfolding cube_element
@@ -97,23 +93,23 @@ row_corner d e v p q =
     ∙ ap (λ (b : Bool). element_words desk (element_by d e b)) (sym p)
 
 pub row_polytope : (d e : ℕ) (f : Faces) (h : ℕ) (b : Bool) → is_vertex (digits d e) ≡ false → is_facet (digits d e) ≡ b → FacesSoFar f (map of_digits (faces (digits d e)))
-    → plane_named h ≡ (if b then some (length (chosen is_facet d e)) else none)
+    → plane_named h ≡ (if b then Some (length (chosen is_facet d e)) else None)
     → element_words desk (polytope (f.n / 2) (take f.n f.list) (plane_named h) b) ≡ element_words desk (cube_element d e)
 unfolding cube_element
 row_polytope d e f h b p q g n =
     ap₂ (λ (r : ℕ) (l : List ℕ). element_words desk (polytope r l (plane_named h) b)) (rank_half d e f g) list
     ∙ ap (λ (o : Option ℕ). element_words desk (polytope (twos (digits d e)) xs o b)) n
-    ∙ ap (λ (c : Bool). element_words desk (polytope (twos (digits d e)) xs (if c then some (length (chosen is_facet d e)) else none) c)) (sym q)
+    ∙ ap (λ (c : Bool). element_words desk (polytope (twos (digits d e)) xs (if c then Some (length (chosen is_facet d e)) else None) c)) (sym q)
     ∙ ap (λ (c : Bool). element_words desk (element_by d e c)) (sym p)
   where
     xs : List ℕ
     xs = map of_digits (faces (digits d e))
 
     list : take f.n f.list ≡ xs
-    list = ap₂ take g.size g.list ∙ take-append_seam xs (replicate (34 - length xs) 0)
+    list = ap₂ take g.size g.list ∙ take-append_seam xs (replicate (33 - length xs) 0)
 
-pub facet_named : (h n : ℕ) → h ≡ n → n < 9 → plane_named h ≡ some n
-facet_named h n q l = ap plane_named q ∙ ap (λ (b : Bool). if b then none else some n) (not_eq n no_plane (λ e. let z : ⊥ = omega (arith, l, e) in z))
+pub facet_named : (h n : ℕ) → h ≡ n → n < 9 → plane_named h ≡ Some n
+facet_named h n q l = ap plane_named q ∙ ap (λ (b : Bool). if b then None else Some n) (not_eq n no_plane (λ e. let z : ⊥ = omega (arith, l, e) in z))
 
 -- ---- floats worked out of digits
 
@@ -275,22 +271,8 @@ chosen_few p d (suc e) = subst (λ (n : ℕ). length (chosen p d n) ≤ n) (add-
 -- ---- the whole memory
 
 -- cleared room is that of no entries
-pub cleared : {A B : Type 0} (z : B) (f : A → List B) (l : List B) (n room : ℕ) → length l ≡ n → n ≡ room → sets l 0 (replicate n z) ≡ laid z room f []
-cleared {A} {B} z f l n room q s =
-    let r = length-replicate n z in
-    sets-eq (replicate n z) l 0 (let h : 0 + length (replicate n z) ≤ length l = omega (arith, q, r) in h)
-    ∙ ap (λ (m : ℕ). replicate n z ++ drop m l) (let h : 0 + length (replicate n z) ≡ length l = omega (arith, q, r) in h)
-    ∙ ap (λ (x : List B). replicate n z ++ x) (drop-length l)
-    ∙ append-nil (replicate n z)
-    ∙ ap (λ (m : ℕ). replicate m z) (let h : n ≡ room - 0 = omega (arith, s) in h)
-
-pub four_put : (cs : List ℕ) (d e v h : ℕ) → length cs ≡ 4 → set (set (set (set cs 0 d) 1 e) 2 v) 3 h ≡ d ∷ e ∷ v ∷ h ∷ []
-four_put [] d e v h q = absurd (let z : ⊥ = omega (arith, q) in z)
-four_put (a ∷ []) d e v h q = absurd (let z : ⊥ = omega (arith, q) in z)
-four_put (a ∷ b ∷ []) d e v h q = absurd (let z : ⊥ = omega (arith, q) in z)
-four_put (a ∷ b ∷ c ∷ []) d e v h q = absurd (let z : ⊥ = omega (arith, q) in z)
-four_put (a ∷ b ∷ c ∷ x ∷ []) d e v h q = refl
-four_put (a ∷ b ∷ c ∷ x ∷ y ∷ r) d e v h q = absurd (let z : ⊥ = omega (arith, q) in z)
+pub cleared : {A B : Type 0} (z : B) (f : A → List B) (n room : ℕ) → n ≡ room → replicate n z ≡ laid z room f []
+cleared z f n room s = ap (λ (m : ℕ). replicate m z) (let h : n ≡ room - 0 = omega (arith, s) in h)
 
 pub cube_put : (d : ℕ) (radius : Float) (cs : List ℕ) (ps hs : List Float) (es : List ℕ)
     → cs ≡ d ∷ 3 ^ d ∷ length (chosen is_vertex d (3 ^ d)) ∷ length (chosen is_facet d (3 ^ d)) ∷ [] → ps ≡ cube_points d radius (3 ^ d) → hs ≡ cube_planes d radius (3 ^ d) → es ≡ cube_elements d (3 ^ d)

@@ -157,10 +157,10 @@ across_two f k e step low q = record { of = λ xs g. subst (FacesSoFar _) (sym (
           size = let z = length-append xs ((e - 2 * step) ∷ (e - step) ∷ []) in omega (arith, s, z);
           list =
               ap₂ (λ (l : List ℕ) (n : ℕ). set (set l n (e - 2 * step)) (n + 1) (e - step)) g.list s
-              ∙ ap (λ (l : List ℕ). set l (length xs + 1) (e - step)) (fill_next 0 34 xs (e - 2 * step) (omega (arith, s, low)))
-              ∙ ap (λ (n : ℕ). set (pad 0 34 (xs ++ (e - 2 * step) ∷ [])) n (e - step)) (add-one (length xs) ∙ sym one)
-              ∙ fill_next 0 34 (xs ++ (e - 2 * step) ∷ []) (e - step) (omega (arith, s, low, one))
-              ∙ ap (pad 0 34) (append_assoc xs ((e - 2 * step) ∷ []) ((e - step) ∷ []));
+              ∙ ap (λ (l : List ℕ). set l (length xs + 1) (e - step)) (fill_next 0 33 xs (e - 2 * step) (omega (arith, s, low)))
+              ∙ ap (λ (n : ℕ). set (pad 0 33 (xs ++ (e - 2 * step) ∷ [])) n (e - step)) (add-one (length xs) ∙ sym one)
+              ∙ fill_next 0 33 (xs ++ (e - 2 * step) ∷ []) (e - step) (omega (arith, s, low, one))
+              ∙ ap (pad 0 33) (append_assoc xs ((e - 2 * step) ∷ []) ((e - step) ∷ []));
         }
 
 faces_short : (ks : List ℕ) → length (faces ks) ≤ 2 * length ks
@@ -183,7 +183,7 @@ pub record Descending (d e : ℕ) (ks : List ℕ) (f : Faces) (step axis : ℕ) 
   pub power : step ≡ 3 ^ axis
   pub gathered : FacesSoFar f (faces_from (digits d e) axis)
 
-pub descend_start : (d e : ℕ) (ks : List ℕ) (step : ℕ) → e < 3 ^ d → ks ≡ pad 0 4 (digits d e) → step ≡ 3 ^ d → Descending d e ks (record { list = replicate 34 0; n = 0 }) step d
+pub descend_start : (d e : ℕ) (ks : List ℕ) (step : ℕ) → e < 3 ^ d → ks ≡ pad 0 4 (digits d e) → step ≡ 3 ^ d → Descending d e ks (record { list = replicate 33 0; n = 0 }) step d
 descend_start d e ks step low read power = record {
   read = read;
   number = of_digits_lem d e low;

@@ -28,7 +28,7 @@ pub record CubeRank (d e r : ℕ) : Type 0 where
 -- some numbers stand in the front, and zeros after them
 pub record FacesSoFar (f : Faces) (xs : List ℕ) : Type 0 where
   pub size : f.n ≡ length xs
-  pub list : f.list ≡ pad 0 34 xs
+  pub list : f.list ≡ pad 0 33 xs
 
 -- across an axis with digit 2, the face at 0 and the face at 1
 abbrev pub across : ℕ → ℕ → ℕ → List ℕ

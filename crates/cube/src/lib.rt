@@ -1,7 +1,7 @@
 // The primordial cube, entry by entry.
 #![tactic(auto)]
 
-ghost use Rattle.std.specs.Prelude.{◌+◌, ◌^◌, ◌<◌, ◌≤◌, cond, ◌≡◌, [], ◌∷◌, map, length};
+ghost use Rattle.std.specs.Prelude.{◌+◌, ◌^◌, ◌<◌, ◌≤◌, ◌≡◌, [], ◌∷◌, map, length};
 ghost use Rattle.rules.specs.Limits.{desk};
 ghost use Rattle.rules.specs.Lists.{pad};
 ghost use Rattle.rules.specs.Floats.{plus_zero};
@@ -13,11 +13,12 @@ ghost use Rattle.cube.specs.Writing.{PointsRoom, PlanesRoom, ElementsRoom, RoomR
 ghost use Rattle.cube.specs.Writing.{CornerPut, PointsPut, FacetPut, PlanesPut, CubePut};
 ghost use Rattle.rules.specs.Replies.{cube_reply};
 
-use rules::{ElementId, Hyperplane, HyperplaneId, VertexId};
+use rules::{ElementId, Hyperplane, HyperplaneId, Refusal, Reply, VertexId};
+use space::memory::Memory;
 use space::words::{AXES, NO_PLANE, PLANE_WIDTH, SET, WIDTH, right_size};
-use space::{memo, restore, rows};
+use space::{memo, rows};
 
-// Some numbers of a boundary, in the front of their room.
+// Some numbers of a boundary, in the front of their room: there is no heap, and how many there are is known only at run time.
 #[derive(Clone, Copy)]
 struct Faces {
     list: [u16; SET],
@@ -31,7 +32,7 @@ fn cube_size(d: usize) -> u16
 {
     let mut size = 1u16;
     for axis in 0..d {
-        size = size * 3;
+        size *= 3;
     }
     size
 }
@@ -45,7 +46,7 @@ fn digits_of(d: usize, e: u16) -> [u16; 4]
     let mut rest = e;
     for axis in 0..d {
         ks[axis] = rest % 3;
-        rest = rest / 3;
+        rest /= 3;
     }
     ks
 }
@@ -78,10 +79,8 @@ fn faces_of(d: usize, e: u16) -> Faces
         n: 0,
     };
     let mut step = cube_size(d);
-    let mut axis = d;
-    while 0 < axis {
-        axis -= 1;
-        step = step / 3;
+    for axis in (0..d).rev() {
+        step /= 3;
         f = faces_across(f, ks[axis], e, step);
     }
     f
@@ -109,10 +108,7 @@ fn is_facet(d: usize, e: u16) -> bool
     ensures { result ≡ is_facet (digits d e) }
 {
     let rank = cube_rank(d, e);
-    if rank == 0 {
-        return false;
-    }
-    rank + 1 == d
+    rank != 0 && rank + 1 == d
 }
 
 // The row of an element; its vertex, or its hyperplane, has as number how many come before.
@@ -125,12 +121,12 @@ fn cube_row(d: usize, e: ElementId, v: VertexId, h: HyperplaneId) -> [u16; 36]
         return memo::corner_row(v);
     }
     let f = faces_of(d, number);
-    let list = f.list;
+    let list = &f.list[..f.n];
     let rank = f.n / 2;
     if is_facet(d, number) {
-        return rows::polytope_row(rank, &list, f.n, h.0 as u16, true);
+        return rows::polytope_row(rank, list, h.0 as u16, true);
     }
-    rows::polytope_row(rank, &list, f.n, NO_PLANE, false)
+    rows::polytope_row(rank, list, NO_PLANE, false)
 }
 
 // A corner's coordinate: the digit tells which end.
@@ -194,6 +190,7 @@ fn put_corner(points: &mut [f64], d: usize, radius: f64, e: ElementId, v: Vertex
     VertexId(v.0 + 1)
 }
 
+// One by one, as the facets below: what is put differs, and what is counted.
 fn put_corners(points: &mut [f64], d: usize, radius: f64) -> usize
     requires { PointsReady d radius points.old }
     ensures { PointsPut d radius result points.new }
@@ -242,16 +239,6 @@ fn put_facets(planes: &mut [f64], d: usize, radius: f64) -> usize
     h.0
 }
 
-fn one_more_if(n: usize, b: bool) -> usize
-    requires { n < 65536 }
-    ensures { result ≡ n + cond b 1 0 }
-{
-    if b {
-        return n + 1;
-    }
-    n
-}
-
 // How many vertices and hyperplanes there are so far are the numbers of the next.
 fn put_elements(elements: &mut [u16], d: usize)
     requires { ElementsReady d elements.old }
@@ -263,8 +250,8 @@ fn put_elements(elements: &mut [u16], d: usize)
     for e in 0..size {
         let row = cube_row(d, ElementId(e as usize), VertexId(v), HyperplaneId(h));
         rows::put_row(elements, e as usize * WIDTH, &row);
-        v = one_more_if(v, is_corner(d, e));
-        h = one_more_if(h, is_facet(d, e));
+        v += usize::from(is_corner(d, e));
+        h += usize::from(is_facet(d, e));
     }
 }
 
@@ -272,18 +259,14 @@ fn put_counts(counts: &mut [u16], d: u16, e: u16, v: u16, h: u16)
     requires { length counts.old ≡ 4 }
     ensures { counts.new ≡ d ∷ e ∷ v ∷ h ∷ [] }
 {
-    counts[0] = d;
-    counts[1] = e;
-    counts[2] = v;
-    counts[3] = h;
+    counts.copy_from_slice(&[d, e, v, h]);
 }
 
 fn put_points(points: &mut [f64], d: usize, radius: f64) -> u16
     requires { PointsRoom d points.old }
     ensures { PointsPut d radius result points.new }
 {
-    let n = points.len();
-    restore::clear_floats(points, 0, n);
+    points.fill(0.0);
     put_corners(points, d, radius) as u16
 }
 
@@ -291,8 +274,7 @@ fn put_planes(planes: &mut [f64], d: usize, radius: f64) -> u16
     requires { PlanesRoom d planes.old }
     ensures { PlanesPut d radius result planes.new }
 {
-    let n = planes.len();
-    restore::clear_floats(planes, 0, n);
+    planes.fill(0.0);
     put_facets(planes, d, radius) as u16
 }
 
@@ -300,8 +282,7 @@ fn put_rows(elements: &mut [u16], d: usize)
     requires { ElementsRoom d elements.old }
     ensures { elements.new ≡ cube_elements d (3 ^ d) }
 {
-    let n = elements.len();
-    restore::clear_numbers(elements, 0, n);
+    elements.fill(0);
     put_elements(elements, d);
 }
 
@@ -327,10 +308,7 @@ fn put_cube(
 fn radius_fits(radius: f64) -> bool
     ensures { result ≡ radius_fits radius }
 {
-    if !(1.0 <= radius) {
-        return false;
-    }
-    radius <= 65536.0
+    1.0 <= radius && radius <= 65536.0
 }
 
 // A cube of 1 to 4 dimensions and radius 1 to 65,536, in place of all that the memory had; or 1, 2 or 3, and nothing is written.
@@ -341,22 +319,25 @@ pub fn with_primordial_cube_radius(
     points: &mut [f64],
     planes: &mut [f64],
     elements: &mut [u16],
-) -> u8
+) -> Reply<()>
     ensures { (result, memory_of counts.new points.new planes.new elements.new)
         ≡ cube_reply desk dimension radius (memory_of counts.old points.old planes.old elements.old) }
 {
-    if dimension < 1 {
-        return 1;
-    }
-    if 4 < dimension {
-        return 1;
+    if dimension < 1 || 4 < dimension {
+        return Err(Refusal::Dimension);
     }
     if !radius_fits(radius) {
-        return 2;
+        return Err(Refusal::Radius);
     }
-    if !right_size(counts, points, planes, elements) {
-        return 3;
+    let memory = Memory {
+        counts,
+        points,
+        planes,
+        elements,
+    };
+    if !right_size(memory) {
+        return Err(Refusal::NotSound);
     }
     put_cube(counts, points, planes, elements, dimension as usize, radius);
-    0
+    Ok(())
 }

@@ -8,18 +8,17 @@ use Rattle.rules.specs.Limits.{desk}
 use Rattle.rules.specs.Promises.{OneBelow, NamesBelow}
 use Rattle.rules.specs.Replies.{element_word, warning_word, output_word}
 use Rattle.rules.specs.declared.ElementId.{ElementId}
-use Rattle.rules.specs.declared.ElementOrNone.{ElementOrNone}
-use Rattle.rules.specs.declared.ElementOrNone.TheVariants.{None, Some}
 use Rattle.rules.specs.declared.ElementCutOutput.{ElementCutOutput}
 use Rattle.rules.specs.declared.ElementCutOutput.TheVariants.{Flush, NonFlush}
 use Rattle.space.specs.Numbers.{NumberBelow}
+use Rattle.std.specs.Prelude.{Option, Some, None}
 
 -- ---- one number
 
-pub word_none : (e : ElementOrNone) → e ≡ None → NumberBelow 0xffff (element_word e) 65536
+pub word_none : (e : Option ElementId) → e ≡ None → NumberBelow 0xffff (element_word e) 65536
 word_none e q = record { value = sym (ap element_word q); bound = lit≤ tt }
 
-pub word_some : (e : ElementOrNone) (id : ElementId) → e ≡ Some id → OneBelow desk.elements e → NumberBelow id.0 (element_word e) 65536
+pub word_some : (e : Option ElementId) (id : ElementId) → e ≡ Some id → OneBelow desk.elements e → NumberBelow id.0 (element_word e) 65536
 word_some e id q h = record {
   value = sym (ap element_word q);
   bound = (let l : id.0 < desk.elements = subst (OneBelow desk.elements) q h in let z : id.0 < 65536 = omega (arith, l) in z);
@@ -33,7 +32,7 @@ warning_off w q = record { value = sym (ap warning_word q); bound = lit≤ tt }
 
 -- ---- three numbers
 
-module _ (a : ElementCutOutput) (i o x : ElementOrNone) (q : a ≡ NonFlush i o x) where
+module _ (a : ElementCutOutput) (i o x : Option ElementId) (q : a ≡ NonFlush i o x) where
   pub record PlacesLow : Type 0 where
     pub inside : OneBelow desk.elements i
     pub outside : OneBelow desk.elements o

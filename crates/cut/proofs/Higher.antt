@@ -22,7 +22,7 @@ use Rattle.rules.proofs.Fewer.{less_gathered, none_dropped}
 use Rattle.rules.proofs.Fine.{GatheredIn, boundary_below}
 use Rattle.rules.proofs.Good.{sound_good, good_sound}
 use Rattle.rules.proofs.Later.{Later, Replays}
-use Rattle.rules.proofs.Laws.{or_none, or_shift}
+use Rattle.rules.proofs.Laws.{not_both, or_none, or_shift}
 use Rattle.rules.proofs.Ranked.{sets_none}
 use Rattle.rules.proofs.Repeat as repeat
 use Rattle.rules.proofs.Stays.{Stays, Kept}
@@ -30,30 +30,32 @@ use Rattle.rules.proofs.StaysCut.{boundary_stays}
 use Rattle.rules.proofs.Warned.{Done, Warns, gathering_warns, rule6_warns}
 use Rattle.space.specs.Ready.{ElementReady}
 use Rattle.space.proofs.Slices.{slices}
-use Rattle.gathered.specs.declared.answer.ElementReply.{ElementReply}
-use Rattle.gathered.specs.declared.answer.ElementReply.TheVariants as reply
 use Rattle.gathered.specs.Sets.{Gathers, Cleared, OutputInRoom, OutputGathered, warning_in}
+use Rattle.gathered.specs.declared.sets.Room.{Room}
 use Rattle.gathered.specs.Cutting.{cut_of, answered_by, Fit, Told, Rule6Fit, Rule6Ready, Rule6Done}
 use Rattle.gathered.proofs.Steps.{told_by}
 use Rattle.cut.specs.Known.{known_at, output_at, Repeats, KeepReady, ReplyKept, Knows, KnownTo}
 use Rattle.cut.specs.Rounds.{AskReady, went, stopped, ElementEnded, ElementAsked, BoundaryEnded, BoundaryCut}
 use Rattle.cut.specs.Higher.{HigherFit, GatherReady, Filled, KnownGathered, HigherReady, HigherAsked}
 use Rattle.cut.proofs.StaysKnown.{asked_room, kept_ended, kept_still, reply_in_room, still_trans, noted_now}
-use Rattle.cut.proofs.Rounds.{boundary_not_0, ask, ask_stays, ep, owner, size_is, size_most, within, number_of, ranked_of, opened_at, cut_higher_lem}
+use Rattle.cut.proofs.Rounds.{ask, ask_stays, ep, owner, size_is, size_most, within, number_of, ranked_of, opened_at, cut_higher_lem}
+use Rattle.rules.specs.Refusals.{Reply}
+use Rattle.std.specs.Prelude.{Err, Ok}
+use Rattle.rules.specs.declared.Refusal.{Refusal}
 
 -- ---- the boundary is gathered from what is known
 
 -- how far: what the rules have gathered, what is left, and the cut's warning w has theirs
-pub record FillingAt (w : Bool) (r : ℕ) (more : 1 < r) (e : ℕ) (k : Cutter) (t : Table) (i : ℕ) (s : List (List ℕ)) : Type 0 where
+pub record FillingAt (w : Bool) (r : ℕ) (more : 1 < r) (e : ℕ) (k : Cutter) (t : Table) (i : ℕ) (s : Room) : Type 0 where
   pub gathered : Gathered
   pub rest : cut_boundary (ask r more e k t.dimension) (boundary t e) nothing_yet t ≡ cut_boundary (ask r more e k t.dimension) (drop i (boundary t e)) gathered t
   pub gathers : Gathers s gathered
   pub noted : (w || gathered.warning) ≡ w
 
-pub record Filling (es ms : List ℕ) (e i : ℕ) (s : List (List ℕ)) : Type 0 where
+pub record Filling (es ms : List ℕ) (e i : ℕ) (s : Room) : Type 0 where
   pub of : (w : Bool) (cs : List ℕ) (ps hs : List Float) (r : ℕ) (k : Cutter) (t : Table) (H : HigherFit cs ps hs es ms w r e k t) → FillingAt w r H.more e k t i s
 
-module _ {es ms : List ℕ} {s : List (List ℕ)} {e : ℕ} (R : GatherReady es ms s e) where
+module _ {es ms : List ℕ} {s : Room} {e : ℕ} (R : GatherReady es ms s e) where
   pub gather_row : ElementReady es e
   gather_row = record { elements = (slices R.fit.fit.holds).elements; room = le_trans R.fit.fit.used R.fit.fit.holds.fits.element_room }
 
@@ -61,7 +63,7 @@ module _ {es ms : List ℕ} {s : List (List ℕ)} {e : ℕ} (R : GatherReady es 
   gather_most n h = size_most R.fit.more R.fit.fit n h
 
 module _ {es ms : List ℕ} {e : ℕ} where
-  pub filling_start : {s₀ s : List (List ℕ)} → Cleared s₀ s → Filling es ms e 0 s
+  pub filling_start : {s₀ s : Room} → Cleared s₀ s → Filling es ms e 0 s
   filling_start C = record { of = λ w cs ps hs r k t H. record { gathered = nothing_yet; rest = refl; gathers = C.nothing.of; noted = or_none w } }
 
   module _ (n : ℕ) (size : n ≡ get_or es (e * 36 + 3) 0) {i : ℕ} (l : i < n) (b : ℕ) (read : b ≡ get_or es (e * 36 + (4 + i)) 0) where
@@ -89,7 +91,7 @@ module _ {es ms : List ℕ} {e : ℕ} where
       again : ask r H.more e k t.dimension b t ≡ done known t
       again = ap (λ (m : ℕ). cut_element desk (cut_of t.dimension k) m b t) (let q = ranked.1 in let z : r - 1 ≡ rank t b = omega (arith, q) in z) ∙ repeats.again
 
-    pub filling_on : {s s' : List (List ℕ)} → Filling es ms e i s → (a : ElementCutOutput) → a ≡ output_at ms b → OutputGathered s b a s' → Filling es ms e (i + 1) s'
+    pub filling_on : {s s' : Room} → Filling es ms e i s → (a : ElementCutOutput) → a ≡ output_at ms b → OutputGathered s b a s' → Filling es ms e (i + 1) s'
     filling_on {s} {s'} G a told D = record { of = λ w cs ps hs r k t H. go H (G.of w cs ps hs r k t H) }
       where
         go : {w : Bool} {cs : List ℕ} {ps hs : List Float} {r : ℕ} {k : Cutter} {t : Table} (H : HigherFit cs ps hs es ms w r e k t) → FillingAt w r H.more e k t i s
@@ -106,7 +108,7 @@ module _ {es ms : List ℕ} {e : ℕ} where
         }
 
   -- all of it
-  pub filled : (n : ℕ) → n ≡ get_or es (e * 36 + 3) 0 → {i : ℕ} {s : List (List ℕ)} → n ≤ i → i ≤ n → Filling es ms e i s
+  pub filled : (n : ℕ) → n ≡ get_or es (e * 36 + 3) 0 → {i : ℕ} {s : Room} → n ≤ i → i ≤ n → Filling es ms e i s
       → (w : Bool) (cs : List ℕ) (ps hs : List Float) (r : ℕ) (k : Cutter) (t : Table) → HigherFit cs ps hs es ms w r e k t → Filled w r e k t s
   filled n size {i} h j G w cs ps hs r k t H =
       let A = G.of w cs ps hs r k t H in
@@ -143,11 +145,11 @@ boundary_kept {r = r} {e} {k} {t} more F g u o =
     (boundary_stays desk c (r - 1) (cut_element desk c (r - 1)) (λ b v good n l z. ask_stays r more e k t.dimension b v good n l z) (boundary t e) nothing_yet t
     (sound_good desk t F.sound) F.plane (owner more F).bounds (sets_none (r - 1) t))
 
-pub higher_gathers : {cs es ix ms : List ℕ} {s : List (List ℕ)} {r e : ℕ} {k : Cutter} → HigherReady cs es ix ms s r e k → GatherReady es ms s e
+pub higher_gathers : {cs es ix ms : List ℕ} {s : Room} {r e : ℕ} {k : Cutter} → HigherReady cs es ix ms s r e k → GatherReady es ms s e
 higher_gathers {cs} {r = r} {k = k} R =
-    record { counts = cs; points = R.points; planes = R.planes; rank = r; cutter = k; table = R.table; fit = R.fit; shaped = R.shaped }
+    record { counts = cs; points = R.points; planes = R.planes; rank = r; cutter = k; table = R.table; fit = R.fit }
 
-module _ {cs es ms : List ℕ} {s s₁ : List (List ℕ)} {r e : ℕ} {k : Cutter} (G : KnownGathered es ms s e s₁) where
+module _ {cs es ms : List ℕ} {s s₁ : Room} {r e : ℕ} {k : Cutter} (G : KnownGathered es ms s e s₁) where
   module _ {ps hs : List Float} {t : Table} (H : HigherFit cs ps hs es ms (warning_in s) r e k t) where
     abbrev all : Filled (warning_in s) r e k t s₁
     all = G.of cs ps hs r k t H
@@ -164,7 +166,7 @@ module _ {cs es ms : List ℕ} {s s₁ : List (List ℕ)} {r e : ℕ} {k : Cutte
   pub rule6_ready : {ix : List ℕ} → HigherReady cs es ix ms s r e k → Rule6Ready cs es ix r e k s₁
   rule6_ready R = record { points = R.points; planes = R.planes; table = R.table; gathered = (all R.fit).gathered; fit = rule6_fit R.fit; indexed = R.indexed }
 
-  module _ {x : ElementReply} {cs' es' ix' : List ℕ} {s₂ : List (List ℕ)} (D : Rule6Done cs es r e k s₁ x cs' es' ix' s₂) where
+  module _ {x : Reply ElementCutOutput} {cs' es' ix' : List ℕ} {s₂ : Room} (D : Rule6Done cs es r e k s₁ x cs' es' ix' s₂) where
     told : {ps hs : List Float} {t : Table} → HigherFit cs ps hs es ms (warning_in s) r e k t
         → Told (Holds desk cs' ps hs es') t (cut_element desk (cut_of t.dimension k) r e t) x (warning_in s) (warning_in s₂)
     told {ps} {hs} {t} H =
@@ -173,16 +175,15 @@ module _ {cs es ms : List ℕ} {s s₁ : List (List ℕ)} {r e : ℕ} {k : Cutte
         told_by (λ a u o.
         D.used.warning ∙ G.warning ∙ sym F.noted
         ∙ ap (λ (b : Bool). warning_in s || b) (sym (rule6_warning (cut_of t.dimension k) (element t e) F.gathered t (sym whole ∙ o))))
-        (subst (λ (o : Outcome ElementAnswer). Came answered_by reply.Refused (Holds desk cs' ps hs es') t o x) (sym whole) (D.of ps hs t F.gathered (rule6_fit H)))
+        (subst (λ (o : Outcome ElementAnswer). Came answered_by Err (Holds desk cs' ps hs es') t o x) (sym whole) (D.of ps hs t F.gathered (rule6_fit H)))
 
     pub higher_keep : {ix : List ℕ} → HigherReady cs es ix ms s r e k → KeepReady e x
     higher_keep R = record { low = le_trans R.fit.fit.used R.fit.fit.holds.fits.element_room; room = reply_in_room R.fit.fit (told R.fit) }
 
-    pub higher_asked : {ix : List ℕ} → HigherReady cs es ix ms s r e k → {y : ℕ} {ms' : List ℕ} → ReplyKept ms e x y ms' → HigherAsked cs es ms s r e k y cs' es' ix' ms' s₂
+    pub higher_asked : {ix : List ℕ} → HigherReady cs es ix ms s r e k → {y : Reply (Unit {0})} {ms' : List ℕ} → ReplyKept ms e x y ms' → HigherAsked cs es ms s r e k y cs' es' ix' ms' s₂
     higher_asked R N = record {
       of = λ ps hs t H. kept_ended H.fit (told H) H.knows N;
       indexed = D.indexed;
-      shaped = D.used.shaped;
       still = kept_still R.fit.fit R.fit.knows N;
     }
 
@@ -203,16 +204,16 @@ boundary_again {r = r} {e} {k} {t} more F g u o =
     subst (Later (less_gathered none_dropped) GatheredIn t (cut_boundary (cut_element desk c (r - 1)) (boundary t e) nothing_yet)) o (again (r - 2) (ep r more)) in
     R.replay u (extends_refl u)
 
-module _ {cs : List ℕ} {ps : List Float} {es ms : List ℕ} {s : List (List ℕ)} {r e : ℕ} {k : Cutter} {y : ℕ} {cs' : List ℕ} {ps' : List Float} {es' ix' ms' : List ℕ} {s' : List (List ℕ)}
+module _ {cs : List ℕ} {ps : List Float} {es ms : List ℕ} {s : Room} {r e : ℕ} {k : Cutter} {y : Reply (Unit {0})} {cs' : List ℕ} {ps' : List Float} {es' ix' ms' : List ℕ} {s' : Room}
     (more : 1 < r) (B : BoundaryCut cs ps es ms s r e k y cs' ps' es' ix' ms' s') where
-  pub element_refused : (y ≡ 0 → ⊥) → ElementAsked cs ps es ms s r e k y cs' ps' es' ix' ms' s'
-  element_refused q = record { of = λ hs t F K. go hs t (B.of hs t F K); indexed = B.indexed; shaped = B.shaped; still = B.still }
+  pub element_refused : (x : Refusal) → y ≡ Err x → ElementAsked cs ps es ms s r e k (Err x) cs' ps' es' ix' ms' s'
+  element_refused x q = record { of = λ hs t F K. go hs t (B.of hs t F K); indexed = B.indexed; still = B.still }
     where
-      go : (hs : List Float) (t : Table) → BoundaryEnded cs' ps' hs es' ms' (warning_in s') r e k y (warning_in s) t → ElementEnded cs' ps' hs es' ms' (warning_in s') r e k y (warning_in s) t
-      go hs t (went g u o d w H) = absurd (q d)
-      go hs t (stopped j u o d x H) = stopped j u (higher_by k r e t more o) d x H
+      go : (hs : List Float) (t : Table) → BoundaryEnded cs' ps' hs es' ms' (warning_in s') r e k y (warning_in s) t → ElementEnded cs' ps' hs es' ms' (warning_in s') r e k (Err x) (warning_in s) t
+      go hs t (went g u o d w H) = not_both (sym q ∙ d)
+      go hs t (stopped j u o d z H) = stopped j u (higher_by k r e t more o) (sym q ∙ d) z H
 
-  module _ (q : y ≡ 0) where
+  module _ (q : y ≡ Ok tt) where
     -- where the round ended
     record End (hs : List Float) (t : Table) : Type 0 where
       pub table : Table
@@ -226,7 +227,7 @@ module _ {cs : List ℕ} {ps : List Float} {es ms : List ℕ} {s : List (List �
     end hs t F K = go (B.of hs t F K)
       where
         go : BoundaryEnded cs' ps' hs es' ms' (warning_in s') r e k y (warning_in s) t → End hs t
-        go (stopped j u o d x H) = absurd (boundary_not_0 (cut_of t.dimension k) (r - 1) e t o d q)
+        go (stopped j u o d x H) = not_both (sym d ∙ q)
         go (went g u o d w H) =
             let S = boundary_kept more F g u o in
             let same = element_same t u e S.extends F.used in
@@ -271,13 +272,12 @@ module _ {cs : List ℕ} {ps : List Float} {es ms : List ℕ} {s : List (List �
     pub higher_ready : {ix : List ℕ} → AskReady cs ps es ix ms s r e k → HigherReady cs' es' ix' ms' s' r e k
     higher_ready R =
         let M = E R.planes R.table R.fit R.knows in
-        record { points = ps'; planes = R.planes; table = M.table; fit = M.ready; indexed = B.indexed; shaped = B.shaped }
+        record { points = ps'; planes = R.planes; table = M.table; fit = M.ready; indexed = B.indexed }
 
-    pub element_answered : {x : ℕ} {cs'' es'' ix'' ms'' : List ℕ} {s'' : List (List ℕ)} → HigherAsked cs' es' ms' s' r e k x cs'' es'' ix'' ms'' s'' → ElementAsked cs ps es ms s r e k x cs'' ps' es'' ix'' ms'' s''
+    pub element_answered : {x : Reply (Unit {0})} {cs'' es'' ix'' ms'' : List ℕ} {s'' : Room} → HigherAsked cs' es' ms' s' r e k x cs'' es'' ix'' ms'' s'' → ElementAsked cs ps es ms s r e k x cs'' ps' es'' ix'' ms'' s''
     element_answered {x} {cs''} {es''} {ix''} {ms''} {s''} D = record {
       of = λ hs t F K. go hs t F K (D.of ps' hs (E hs t F K).table (E hs t F K).ready);
       indexed = D.indexed;
-      shaped = D.shaped;
       still = still_trans B.still D.still;
     }
       where

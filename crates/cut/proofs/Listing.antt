@@ -18,20 +18,20 @@ use Rattle.rules.specs.Replies.{output_word, fate_of, cut_by, cut_reply}
 use Rattle.rules.specs.CutLists.{most_cuts, CutList, list_fits, cut_at, cuts_of, going_on, cuts_from, cut_list_reply, answers_written}
 use Rattle.rules.specs.declared.Hyperplane.{Hyperplane}
 use Rattle.rules.specs.declared.PolytopeFate.{PolytopeFate}
-use Rattle.rules.specs.declared.ElementCutOutput.{ElementCutOutput}
 use Rattle.rules.specs.declared.CutParams.{CutParams}
-use Rattle.rules.specs.declared.CutReply.{CutReply}
-use Rattle.rules.specs.declared.CutReply.TheVariants as reply
 use Rattle.rules.specs.declared.CutListReply.{CutListReply}
 use Rattle.rules.specs.declared.CutListReply.TheVariants.{Refused, Stopped, Answered}
 use Rattle.rules.proofs.AfterList.{list_by, list_by_lem}
 use Rattle.rules.proofs.CutLists.{cut_list_is_cuts}
-use Rattle.rules.proofs.Laws.{and_left, and_right, eq_test, test_eq, not_eq, le_test, test_le, test_above}
+use Rattle.rules.proofs.Laws.{not_both, and_left, and_right, eq_test, test_eq, not_eq, le_test, test_le, test_above}
 use Rattle.hypermath.specs.Answers.{row_hyperplane}
 use Rattle.cut.specs.Whole.{SoundCut}
 use Rattle.cut.specs.Lists.{cut_list_of, RowReady, params_at, ListReady, PositionReady, after_made, CutMade, CutsMade}
-use Rattle.cut.specs.declared.lists.Made.{Made}
-use Rattle.cut.specs.declared.lists.Made.TheVariants as made
+use Rattle.rules.specs.Refusals.{Reply}
+use Rattle.rules.specs.declared.ElementAnswer.{ElementAnswer}
+use Rattle.rules.specs.declared.Refusal.TheVariants.{ListLong, NotSound, RoomShort}
+use Rattle.std.specs.Prelude.{Err, Ok}
+use Rattle.rules.specs.declared.Refusal.{Refusal}
 
 abbrev Result : Type 0
 Result = CutListReply × List ℕ × Memory
@@ -89,23 +89,23 @@ params_are ds ks i p q r j = cut_by (p j) (q j) (r j)
 -- ---- the cut at a position
 
 module _ {cs : List ℕ} {ps hs : List Float} {es : List ℕ} (ds : List Float) (ks rs : List ℕ) (i : ℕ) {p : CutParams} {root : ℕ} (pe : p ≡ params_at ds ks i) (re : root ≡ get_or rs i 0)
-    {r : CutReply} {cs' : List ℕ} {ps' hs' : List Float} {es' ix' : List ℕ} (S : SoundCut cs ps hs es p root r cs' ps' hs' es' ix') where
+    {r : Reply ElementAnswer} {cs' : List ℕ} {ps' hs' : List Float} {es' ix' : List ℕ} (S : SoundCut cs ps hs es p root r cs' ps' hs' es' ix') where
   goes_as : (x : List ℕ) (rest : List ℕ → Memory → Result) → going_on i x (r, memory_of cs' ps' hs' es') rest
       ≡ going_on i x (cut_reply desk (cut_at desk (cut_list_of ds ks rs) i).params (cut_at desk (cut_list_of ds ks rs) i).root (memory_of cs ps hs es)) rest
   goes_as x rest = (λ j. going_on i x (S.reply j) rest) ∙ (λ j. going_on i x (cut_reply desk (pe j) (re j) (memory_of cs ps hs es)) rest)
 
-  pub made_refused : {room : List ℕ} (n : ℕ) → r ≡ reply.Refused n → CutMade cs ps hs es (cut_list_of ds ks rs) room i (made.Refused n) cs' ps' hs' es' ix' room
+  pub made_refused : {room : List ℕ} (n : Refusal) → r ≡ Err n → CutMade cs ps hs es (cut_list_of ds ks rs) room i (Err n) cs' ps' hs' es' ix' room
   made_refused {room} n q = record {
     goes = λ rest. (λ j. going_on i room (sym q j, memory_of cs' ps' hs' es') rest) ∙ goes_as room rest;
-    again = λ e. let z : ◌≡◌ {A = ℕ} 0 1 = cc in absurd (omega arith);
+    again = λ e. not_both e;
   }
 
-  pub made_answered : {ix room : List ℕ} (a : ElementCutOutput) (w : Bool) {word : ℕ} → r ≡ reply.Answered a w → word ≡ output_word a w
-      → PositionReady cs ps hs es ix (cut_list_of ds ks rs) room i → CutMade cs ps hs es (cut_list_of ds ks rs) room i made.Answered cs' ps' hs' es' ix' (set room i word)
-  made_answered {room = room} a w {word} q told P = record {
+  pub made_answered : {ix room : List ℕ} (a : ElementAnswer) {word : ℕ} → r ≡ Ok a → word ≡ output_word a.output a.warning
+      → PositionReady cs ps hs es ix (cut_list_of ds ks rs) room i → CutMade cs ps hs es (cut_list_of ds ks rs) room i (Ok tt) cs' ps' hs' es' ix' (set room i word)
+  made_answered {room = room} a {word} q told P = record {
     goes = λ rest. (λ j. rest (set room i (told j)) (memory_of cs' ps' hs' es')) ∙ (λ j. going_on i room (sym q j, memory_of cs' ps' hs' es') rest) ∙ goes_as room rest;
     again = λ e. record {
-      memory = S.indexed (record { output = a; warning = w }) q;
+      memory = S.indexed a q;
       fits = P.list.fits;
       enough = le_trans P.list.enough (le_of_eq (sym (length-set room i word)));
     };
@@ -140,7 +140,7 @@ module _ {cs : List ℕ} {ps hs : List Float} {es : List ℕ} {l : CutList} {roo
               ∙ R.same;
         }
 
-    module _ (h : i < length l.roots) {x : Made} {cs₂ : List ℕ} {ps₂ hs₂ : List Float} {es₂ ix₂ room₂ : List ℕ} (M : CutMade cs₁ ps₁ hs₁ es₁ l room₁ i x cs₂ ps₂ hs₂ es₂ ix₂ room₂) where
+    module _ (h : i < length l.roots) {x : Reply (Unit {0})} {cs₂ : List ℕ} {ps₂ hs₂ : List Float} {es₂ ix₂ room₂ : List ℕ} (M : CutMade cs₁ ps₁ hs₁ es₁ l room₁ i x cs₂ ps₂ hs₂ es₂ ix₂ room₂) where
       -- the cuts after this one
       later : List ℕ → Memory → Result
       later = cuts_from desk (map (cut_at desk l) (up_from (suc i) (length l.roots - suc i))) (suc i)
@@ -152,10 +152,10 @@ module _ {cs : List ℕ} {ps hs : List Float} {es : List ℕ} {l : CutList} {roo
           ∙ ap (λ (n : ℕ). cuts_from desk (map (cut_at desk l) (up_from i n)) i room₁ (memory_of cs₁ ps₁ hs₁ es₁)) (let z : suc (length l.roots - suc i) ≡ length l.roots - i = omega (arith, h) in z)
           ∙ R.same
 
-      pub running_stopped : (n : ℕ) → x ≡ made.Refused n → CutsMade cs ps hs es l room (Stopped n i) cs₂ ps₂ hs₂ es₂ room₂
+      pub running_stopped : (n : Refusal) → x ≡ Err n → CutsMade cs ps hs es l room (Stopped n i) cs₂ ps₂ hs₂ es₂ room₂
       running_stopped n q = record { of = (λ j. after_made i (sym q j) room₂ (memory_of cs₂ ps₂ hs₂ es₂) later) ∙ onward }
 
-      pub running_again : x ≡ made.Answered → Running cs ps hs es l room cs₂ ps₂ hs₂ es₂ ix₂ room₂ (i + 1)
+      pub running_again : x ≡ Ok tt → Running cs ps hs es l room cs₂ ps₂ hs₂ es₂ ix₂ room₂ (i + 1)
       unfolding later
       running_again q =
           subst (Running cs ps hs es l room cs₂ ps₂ hs₂ es₂ ix₂ room₂) (sym (add-one i))
@@ -167,15 +167,15 @@ module _ (l : CutList) (room : List ℕ) (m : Memory) where
   listed : (s f k : Bool) → sound_memory desk m ≡ s → list_fits desk l ≡ f → ltb (length room) (length l.roots) ≡ k → list_by desk l room m s f k ≡ cut_list_reply desk l room m
   listed s f k p q r = (λ j. list_by desk l room m (sym p j) (sym q j) (sym r j)) ∙ sym (list_by_lem desk l room m)
 
-  pub list_unsound : sound_memory desk m ≡ false → ◌≡◌ {A = Result} (Refused 3, room, m) (cut_list_reply desk l room m)
+  pub list_unsound : sound_memory desk m ≡ false → ◌≡◌ {A = Result} (Refused NotSound, room, m) (cut_list_reply desk l room m)
   list_unsound s = listed false _ _ s refl refl
 
   module _ (s : sound_memory desk m ≡ true) where
-    pub list_unfit : list_fits desk l ≡ false → ◌≡◌ {A = Result} (Refused 26, room, m) (cut_list_reply desk l room m)
+    pub list_unfit : list_fits desk l ≡ false → ◌≡◌ {A = Result} (Refused ListLong, room, m) (cut_list_reply desk l room m)
     list_unfit f = listed true false _ s f refl
 
     module _ (f : list_fits desk l ≡ true) where
-      pub list_short : length room < length l.roots → ◌≡◌ {A = Result} (Refused 12, room, m) (cut_list_reply desk l room m)
+      pub list_short : length room < length l.roots → ◌≡◌ {A = Result} (Refused RoomShort, room, m) (cut_list_reply desk l room m)
       list_short h = listed true true true s f (lt-ltb (length room) (length l.roots) h)
 
       pub list_made : length l.roots ≤ length room → {r : Result} → r ≡ cuts_from desk (cuts_of desk l) 0 room m → r ≡ cut_list_reply desk l room m

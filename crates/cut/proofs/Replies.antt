@@ -19,10 +19,7 @@ use Rattle.rules.specs.Cut.{Params, cut, cut_at_distance, cut_finite, given}
 use Rattle.rules.specs.Replies.{divider_of, params_of, written, cut_reply}
 use Rattle.rules.specs.declared.Hyperplane.{Hyperplane}
 use Rattle.rules.specs.declared.ElementCutOutput.TheVariants.{NonFlush}
-use Rattle.rules.specs.declared.ElementOrNone.TheVariants.{None}
 use Rattle.rules.specs.declared.CutParams.{CutParams}
-use Rattle.rules.specs.declared.CutReply.{CutReply}
-use Rattle.rules.specs.declared.CutReply.TheVariants as reply
 use Rattle.rules.proofs.Good.{sound_good}
 use Rattle.rules.proofs.Laws.{and_left, and_right, and_true, test_eq, le_test}
 use Rattle.rules.proofs.Selves.{same_float}
@@ -36,6 +33,11 @@ use Rattle.soundness.specs.declared.asked.Asking.{Asking}
 use Rattle.soundness.specs.declared.asked.Asking.TheVariants as asking
 use Rattle.soundness.proofs.AskedOnce.{held, answered, replied, asked_law, TestsPassed, asked_passed, asked_finite}
 use Rattle.cut.specs.Whole.{CutFit, CutReady, WholeCut}
+use Rattle.rules.specs.Refusals.{Reply}
+use Rattle.rules.specs.declared.ElementAnswer.{ElementAnswer}
+use Rattle.std.specs.Prelude.{None, Err, Ok}
+use Rattle.rules.specs.Replies.{answer_with}
+use Rattle.rules.specs.declared.Refusal.{Refusal}
 
 -- ---- zero bits past the dimension
 
@@ -74,15 +76,15 @@ module _ (p : CutParams) (root : ℕ) (cs : List ℕ) (ps hs : List Float) (es :
   abbrev params : Params
   params = params_of t.dimension p
 
-  abbrev infinite : Bool → CutReply × Memory
+  abbrev infinite : Bool → Reply ElementAnswer × Memory
   infinite s = written desk m (cut_at_distance desk params (inf s) root t)
 
-  abbrev finite : CutReply × Memory
+  abbrev finite : Reply ElementAnswer × Memory
   finite = written desk m (cut_finite desk params root t)
 
   -- what is made of an answer
-  abbrev made : Asking → CutReply × Memory
-  made a = answered (λ n. (reply.Refused n, m)) (infinite false) (infinite true) finite a
+  abbrev made : Reply Asking → Reply ElementAnswer × Memory
+  made a = answered (λ n. (Err n, m)) (infinite false) (infinite true) finite a
 
   by_distance : (x : Float) → at_distance (infinite false) (infinite true) finite x ≡ written desk m (cut_at_distance desk params x root t)
   by_distance nan = refl
@@ -90,29 +92,29 @@ module _ (p : CutParams) (root : ℕ) (cs : List ℕ) (ps hs : List Float) (es :
   by_distance (inf true) = refl
   by_distance (fin s a b) = refl
 
-  made_is : {a : Asking} → a ≡ asked m h root → made a ≡ cut_reply desk p root m
+  made_is : {a : Reply Asking} → a ≡ asked m h root → made a ≡ cut_reply desk p root m
   unfolding cut_reply cut
   made_is q =
-      ap made q ∙ asked_law (λ n. (reply.Refused n, m)) (infinite false) (infinite true) finite m h root
-      ∙ ap (λ (x : CutReply × Memory). replied (λ n. (reply.Refused n, m)) x m h root) (by_distance h.distance)
+      ap made q ∙ asked_law (λ n. (Err n, m)) (infinite false) (infinite true) finite m h root
+      ∙ ap (λ (x : Reply ElementAnswer × Memory). replied (λ n. (Err n, m)) x m h root) (by_distance h.distance)
 
-  same_memory_lem : {a : Asking} → a ≡ asked m h root → answered {A = ℕ} (λ n. 1) 0 0 0 a ≡ 0 → m ≡ encode desk t
+  same_memory_lem : {a : Reply Asking} → a ≡ asked m h root → answered {A = ℕ} (λ n. 1) 0 0 0 a ≡ 0 → m ≡ encode desk t
   same_memory_lem q z = holds_memory desk readable_desk (held cs ps hs es (asked_passed m h root q z).sound)
 
-  pub refused : (n : ℕ) → asking.Refused n ≡ asked m h root → (reply.Refused n, m) ≡ cut_reply desk p root m
+  pub refused : (n : Refusal) → Err n ≡ asked m h root → (Err n, m) ≡ cut_reply desk p root m
   refused n q = made_is q
 
   -- rule 1
-  pub all_inside : {r : CutReply} → asking.AllInside ≡ asked m h root → r ≡ reply.Answered (NonFlush (given root) None None) false
+  pub all_inside : {r : Reply ElementAnswer} → Ok asking.AllInside ≡ asked m h root → r ≡ Ok (answer_with (NonFlush (given root) None None) false)
       → (r, m) ≡ cut_reply desk p root m
   all_inside q told = (λ j. (told j, same_memory_lem q refl j)) ∙ made_is q
 
-  pub all_outside : {r : CutReply} → asking.AllOutside ≡ asked m h root → r ≡ reply.Answered (NonFlush None (given root) None) false
+  pub all_outside : {r : Reply ElementAnswer} → Ok asking.AllOutside ≡ asked m h root → r ≡ Ok (answer_with (NonFlush None (given root) None) false)
       → (r, m) ≡ cut_reply desk p root m
   all_outside q told = (λ j. (told j, same_memory_lem q refl j)) ∙ made_is q
 
   -- the rules from 2 on
-  module _ (q : asking.Finite ≡ asked m h root) where
+  module _ (q : Ok asking.Finite ≡ asked m h root) where
     passed : TestsPassed m h root
     passed = asked_passed m h root q refl
 
@@ -136,6 +138,6 @@ module _ (p : CutParams) (root : ℕ) (cs : List ℕ) (ps hs : List Float) (es :
     pub cut_ready : {ix : List ℕ} → (sound_memory desk m ≡ true → Indexed es (get_or cs 1 0) ix) → CutReady cs ps hs es ix h root
     cut_ready X = record { table = t; fit = cut_fit; indexed = X passed.sound }
 
-    pub cut_made : {r : CutReply} {cs' : List ℕ} {ps' hs' : List Float} {es' ix' : List ℕ} → WholeCut cs ps hs es p root r cs' ps' hs' es' ix'
+    pub cut_made : {r : Reply ElementAnswer} {cs' : List ℕ} {ps' hs' : List Float} {es' ix' : List ℕ} → WholeCut cs ps hs es p root r cs' ps' hs' es' ix'
         → (r, memory_of cs' ps' hs' es') ≡ cut_reply desk p root m
     cut_made W = W.of t cut_fit ∙ made_is q

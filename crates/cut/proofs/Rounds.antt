@@ -14,14 +14,13 @@ use lib.Ieee.{Float}
 use Rattle.rules.specs.Limits.{Limits, desk}
 use Rattle.rules.specs.Table.{Element, corner, Table, rank_of, boundary_of, element_count, rank, boundary, element}
 use Rattle.rules.specs.Held.{Extends, Holds, Ranked, AnswerOf}
-use Rattle.rules.specs.Cut.{Outcome, refused, done, next, Step, Cutting, Gathered, nothing_yet, gathering, rule6, cut_element, cut_boundary, cut_higher}
+use Rattle.rules.specs.Cut.{Outcome, done, next, Step, Cutting, Gathered, nothing_yet, gathering, rule6, cut_element, cut_boundary, cut_higher}
 use Rattle.rules.specs.declared.ElementAnswer.{ElementAnswer}
 use Rattle.rules.specs.declared.Cutter.{Cutter}
-use Rattle.rules.proofs.Built.{RuleNumber, After, cut_boundary_lem, cut_element_lem}
 use Rattle.rules.proofs.Extends.{extends_refl, extends_trans, element_same, count_more, begins_length}
 use Rattle.rules.proofs.Good.{Good, sound_good, good_sound}
 use Rattle.rules.proofs.Growing.{all_get}
-use Rattle.rules.proofs.Laws.{le_test, eq_test, test_eq, or_none, or_shift}
+use Rattle.rules.proofs.Laws.{not_both, le_test, eq_test, test_eq, or_none, or_shift}
 use Rattle.rules.proofs.Ranked.{ranked_later}
 use Rattle.rules.proofs.Stays.{Stays, Kept}
 use Rattle.rules.proofs.StaysCut.{Facts, facts, ranked_get, element_stays}
@@ -29,29 +28,21 @@ use Rattle.rules.proofs.Warned.{gathering_warns}
 use Rattle.space.specs.Chains.{Indexed}
 use Rattle.space.proofs.Room.{list_of, size_bound, list_bound, size_word_lem, list_word_lem}
 use Rattle.space.proofs.Slices.{slices}
-use Rattle.gathered.specs.Sets.{Shaped, warning_in}
+use Rattle.gathered.specs.Sets.{warning_in}
+use Rattle.gathered.specs.declared.sets.Room.{Room}
 use Rattle.gathered.specs.Cutting.{cut_of, Fit}
 use Rattle.cut.specs.Known.{known_at, Knows, KnownStill, KnownTo}
 use Rattle.cut.specs.Rounds.{AskReady, RoundReady, Ended, went, stopped, AnswerKept, ElementEnded, BoundaryEnded}
-
--- ---- no refusal of the rules is 0
-
-not_0 : {A : Type 0} (t : Table) (o : Outcome A) {n x : ℕ} → After t o → o ≡ refused n → x ≡ n → x ≡ 0 → ⊥
-not_0 t o h m d q = subst RuleNumber (sym d ∙ q) (subst (After t) m h)
-
-pub element_not_0 : (c : Cutting) (r e : ℕ) (t : Table) {n x : ℕ} → cut_element desk c r e t ≡ refused n → x ≡ n → x ≡ 0 → ⊥
-element_not_0 c r e t = not_0 t (cut_element desk c r e t) (cut_element_lem desk c r e t)
-
-pub boundary_not_0 : (c : Cutting) (r e : ℕ) (t : Table) {n x : ℕ} → cut_boundary (cut_element desk c r) (boundary t e) nothing_yet t ≡ refused n → x ≡ n → x ≡ 0 → ⊥
-boundary_not_0 c r e t =
-    not_0 t (cut_boundary (cut_element desk c r) (boundary t e) nothing_yet t) (cut_boundary_lem desk c (cut_element desk c r) (cut_element_lem desk c r) (boundary t e) nothing_yet t)
+use Rattle.rules.specs.Refusals.{Reply}
+use Rattle.rules.specs.declared.Refusal.{Refusal}
+use Rattle.std.specs.Prelude.{Ok, Err}
 
 -- ---- a table that may be cut
 
 good_of : {cs : List ℕ} {ps hs : List Float} {es : List ℕ} {r e : ℕ} {k : Cutter} {t : Table} → Fit cs ps hs es r e k t → Good desk t
 good_of {t = t} F = sound_good desk t F.sound
 
-pub ready_words : {cs : List ℕ} {ps : List Float} {es ix ms : List ℕ} {s : List (List ℕ)} {r e : ℕ} {k : Cutter} → AskReady cs ps es ix ms s r e k → length es ≡ 18432
+pub ready_words : {cs : List ℕ} {ps : List Float} {es ix ms : List ℕ} {s : Room} {r e : ℕ} {k : Cutter} → AskReady cs ps es ix ms s r e k → length es ≡ 18432
 ready_words R = (slices R.fit.holds).elements
 
 -- ---- the rank is 2 or more
@@ -123,7 +114,7 @@ opened_at ask bs i b g t l q =
     ap (λ (m : List ℕ). cut_boundary ask m g t) (drop-cons bs i 0 l)
     ∙ ap₂ (λ (x j : ℕ). next (ask x t) (λ a. cut_boundary ask (drop j bs) (gathering x a g))) (sym q) (sym (add-one i))
 
-pub round_most : {cs : List ℕ} {ps : List Float} {es ix ms : List ℕ} {s : List (List ℕ)} {r e : ℕ} {k : Cutter} → RoundReady cs ps es ix ms s r e k → (n : ℕ) → n ≡ get_or es (e * 36 + 3) 0 → n ≤ 32
+pub round_most : {cs : List ℕ} {ps : List Float} {es ix ms : List ℕ} {s : Room} {r e : ℕ} {k : Cutter} → RoundReady cs ps es ix ms s r e k → (n : ℕ) → n ≡ get_or es (e * 36 + 3) 0 → n ≤ 32
 round_most R n h = size_most R.more R.ready.fit n h
 
 -- one more is known
@@ -203,9 +194,9 @@ module _ {r : ℕ} (more : 1 < r) {e : ℕ} {k : Cutter} {cs₀ : List ℕ} {ps�
             A.rest ∙ opened_at (ask r more e k t.dimension) (boundary t e) i b A.gathered A.table inside number
             ∙ ap (λ (c : Outcome ElementAnswer). next c (λ a. cut_boundary (ask r more e k t.dimension) (drop (i + 1) (boundary t e)) (gathering b a A.gathered))) o
 
-    pub next_ready : {s₀ s : List (List ℕ)} {ix₀ ix : List ℕ} → v ≡ warning_in s₀ → w ≡ warning_in s → AskReady cs₀ ps₀ es₀ ix₀ ms₀ s₀ r e k → i < n → (b : ℕ) → b ≡ get_or es (e * 36 + (4 + i)) 0
-        → Indexed es (get_or cs 1 0) ix → Shaped s → AskReady cs ps es ix ms s (r - 1) b k
-    next_ready hv hw R l b read X S =
+    pub next_ready : {s₀ s : Room} {ix₀ ix : List ℕ} → v ≡ warning_in s₀ → w ≡ warning_in s → AskReady cs₀ ps₀ es₀ ix₀ ms₀ s₀ r e k → i < n → (b : ℕ) → b ≡ get_or es (e * 36 + (4 + i)) 0
+        → Indexed es (get_or cs 1 0) ix → AskReady cs ps es ix ms s (r - 1) b k
+    next_ready hv hw R l b read X =
         let K : Knows k ms₀ v R.table = subst (λ (x : Bool). Knows k ms₀ x R.table) (sym hv) R.knows in
         let N = A R.fit K in
         record {
@@ -214,27 +205,26 @@ module _ {r : ℕ} (more : 1 < r) {e : ℕ} {k : Cutter} {cs₀ : List ℕ} {ps�
           fit = fit_next R.fit K l b read;
           knows = subst (λ (x : Bool). Knows k ms x N.table) hw N.knows;
           indexed = X;
-          shaped = S;
         }
 
     -- how asking element b ended, seen from the first table
-    abbrev NextEnded : ℕ → ℕ → List ℕ → List Float → List ℕ → List ℕ → Bool → {hs : List Float} {t : Table} → Fit cs₀ ps₀ hs es₀ r e k t → Knows k ms₀ v t → Type 0
+    abbrev NextEnded : ℕ → Reply (Unit {0}) → List ℕ → List Float → List ℕ → List ℕ → Bool → {hs : List Float} {t : Table} → Fit cs₀ ps₀ hs es₀ r e k t → Knows k ms₀ v t → Type 0
     NextEnded b x cs' ps' es' ms' w' {hs} {t} F K =
         Ended (λ a. a.warning) (AnswerKept cs' ps' hs es' ms' w' b k) (Holds desk cs' ps' hs es') (A F K).table (ask r more e k t.dimension b (A F K).table) x w w'
 
-    module _ (l : i < n) (b : ℕ) (read : b ≡ get_or es (e * 36 + (4 + i)) 0) {x : ℕ} {cs' : List ℕ} {ps' : List Float} {es' ms' : List ℕ} {w' : Bool} where
+    module _ (l : i < n) (b : ℕ) (read : b ≡ get_or es (e * 36 + (4 + i)) 0) {x : Reply (Unit {0})} {cs' : List ℕ} {ps' : List Float} {es' ms' : List ℕ} {w' : Bool} where
       module _ (C : (hs : List Float) (u : Table) → Fit cs ps hs es (r - 1) b k u → Knows k ms w u → ElementEnded cs' ps' hs es' ms' w' (r - 1) b k x w u) where
         next_one : {hs : List Float} {t : Table} (F : Fit cs₀ ps₀ hs es₀ r e k t) (K : Knows k ms₀ v t) → NextEnded b x cs' ps' es' ms' w' F K
         next_one {hs} {t} F K =
             subst (λ (d : ℕ). Ended (λ a. a.warning) (AnswerKept cs' ps' hs es' ms' w' b k) (Holds desk cs' ps' hs es') (A F K).table (cut_element desk (cut_of d k) (r - 1) b (A F K).table) x w w')
             (A F K).extends.dimension (C hs (A F K).table (fit_next F K l b read) (A F K).knows)
 
-        pub round_refused : (x ≡ 0 → ⊥) → (hs : List Float) (t : Table) → Fit cs₀ ps₀ hs es₀ r e k t → Knows k ms₀ v t → BoundaryEnded cs' ps' hs es' ms' w' r e k x v t
-        round_refused q hs t F K = go (next_one F K)
+        pub round_refused : (y : Refusal) → x ≡ Err y → (hs : List Float) (t : Table) → Fit cs₀ ps₀ hs es₀ r e k t → Knows k ms₀ v t → BoundaryEnded cs' ps' hs es' ms' w' r e k (Err y) v t
+        round_refused q z hs t F K = go (next_one F K)
           where
-            go : NextEnded b x cs' ps' es' ms' w' F K → BoundaryEnded cs' ps' hs es' ms' w' r e k x v t
-            go (went a u o d y H) = absurd (q d)
-            go (stopped j u o d y H) = stopped j u (opened_by F K l b read o) d (extends_trans (A F K).extends y) H
+            go : NextEnded b x cs' ps' es' ms' w' F K → BoundaryEnded cs' ps' hs es' ms' w' r e k (Err q) v t
+            go (went a u o d y H) = not_both (sym z ∙ d)
+            go (stopped j u o d y H) = stopped j u (opened_by F K l b read o) (sym z ∙ d) (extends_trans (A F K).extends y) H
 
         kept : {hs : List Float} {t : Table} (F : Fit cs₀ ps₀ hs es₀ r e k t) (K : Knows k ms₀ v t) (a : ElementAnswer) (u : Table)
             → ask r more e k t.dimension b (A F K).table ≡ done a u → Kept desk (AnswerOf (r - 1)) (A F K).table a u
@@ -243,11 +233,11 @@ module _ {r : ℕ} (more : 1 < r) {e : ℕ} {k : Cutter} {cs₀ : List ℕ} {ps�
             subst (Stays desk (AnswerOf (r - 1)) (A F K).table) o (ask_stays r more e k t.dimension b (A F K).table (A F K).good f.plane f.used f.ranked)
 
         -- an answer
-        pub going_on_lem : x ≡ 0 → KnownStill ms ms' → Going r more e k cs₀ ps₀ es₀ ms₀ v (i + 1) cs' ps' es' ms' w'
+        pub going_on_lem : x ≡ Ok tt → KnownStill ms ms' → Going r more e k cs₀ ps₀ es₀ ms₀ v (i + 1) cs' ps' es' ms' w'
         going_on_lem q still = record { of = λ hs t F K. go hs t F K (next_one F K) }
           where
             go : (hs : List Float) (t : Table) (F : Fit cs₀ ps₀ hs es₀ r e k t) (K : Knows k ms₀ v t) → NextEnded b x cs' ps' es' ms' w' F K → At r more e k hs t v (i + 1) cs' ps' es' ms' w'
-            go hs t F K (stopped j u o d y H) = absurd (element_not_0 (cut_of t.dimension k) (r - 1) b (A F K).table o d q)
+            go hs t F K (stopped j u o d y H) = not_both (sym d ∙ q)
             go hs t F K (went a u o d y H) =
                 let N = A F K in
                 let S = kept F K a u o in
@@ -265,7 +255,7 @@ module _ {r : ℕ} (more : 1 < r) {e : ℕ} {k : Cutter} {cs₀ : List ℕ} {ps�
                   rest = opened_by F K l b read o;
                 }
 
-    pub round_done : n ≤ i → i ≤ n → (hs : List Float) (t : Table) → Fit cs₀ ps₀ hs es₀ r e k t → Knows k ms₀ v t → BoundaryEnded cs ps hs es ms w r e k 0 v t
+    pub round_done : n ≤ i → i ≤ n → (hs : List Float) (t : Table) → Fit cs₀ ps₀ hs es₀ r e k t → Knows k ms₀ v t → BoundaryEnded cs ps hs es ms w r e k (Ok tt) v t
     round_done h j hs t F K =
         let N = A F K in
         let q : i ≡ length (boundary t e) = (let m = size_is more F n size in omega (arith, m, h, j)) in

@@ -12,13 +12,9 @@ use Rattle.rules.specs.Limits.{desk}
 use Rattle.rules.specs.Table.{Table, element_count, rank}
 use Rattle.rules.specs.Held.{Extends, Holds}
 use Rattle.rules.specs.Cut.{done, cut_element}
-use Rattle.rules.specs.declared.ElementOrNone.{ElementOrNone}
-use Rattle.rules.specs.declared.ElementOrNone.TheVariants.{None, Some}
 use Rattle.rules.specs.declared.ElementCutOutput.{ElementCutOutput}
 use Rattle.rules.specs.declared.ElementCutOutput.TheVariants.{Flush, NonFlush}
 use Rattle.rules.specs.declared.ElementAnswer.{ElementAnswer}
-use Rattle.gathered.specs.declared.answer.ElementReply.{ElementReply}
-use Rattle.gathered.specs.declared.answer.ElementReply.TheVariants as reply
 use Rattle.rules.proofs.Corners.{good_fine}
 use Rattle.rules.proofs.Extends.{extends_refl, extends_trans, count_more, rank_same}
 use Rattle.rules.proofs.Fine.{SomeIn, OutputIn, AnswerIn}
@@ -27,6 +23,7 @@ use Rattle.rules.proofs.Later.{Later, Replays, same}
 use Rattle.rules.proofs.Laws.{eq_test, test_eq, or_none}
 use Rattle.rules.proofs.Repeat.{cut_any}
 use Rattle.gathered.specs.Sets.{InRoom, OutputInRoom}
+use Rattle.gathered.specs.declared.sets.Room.{Room}
 use Rattle.gathered.specs.Cutting as told
 use Rattle.gathered.specs.Cutting.{cut_of, Fit, Told}
 use Rattle.rules.specs.declared.Cutter.{Cutter}
@@ -34,6 +31,9 @@ use Rattle.ends.specs.Elements.{LowAsked, LowLeft}
 use Rattle.cut.specs.Known.{known_at, output_at, with_answer, with_reply, ReplyInRoom, asked_by, KeepReady, ReplyKept, Repeats, Knows, KnownStill}
 use Rattle.cut.specs.Rounds.{AskReady, LowReady, ElementAsked, ElementEnded, went, stopped}
 use Rattle.cut.proofs.Words.{zeros_unknown, kept_long, kept_same, kept_known, kept_other_known, kept_other}
+use Rattle.rules.specs.declared.ElementId.{ElementId}
+use Rattle.std.specs.Prelude.{Option, Some, None, Ok, Err}
+use Rattle.rules.specs.Refusals.{Reply}
 
 -- nothing is known at first
 pub knows_nothing : (k : Cutter) (w : Bool) (t : Table) → Knows k (replicate 512 0) w t
@@ -82,7 +82,7 @@ module _ (k : Cutter) (e : ℕ) (a : ElementAnswer) {t u : Table} (g : Good desk
   pub asked_room : element_count u ≤ 512 → OutputInRoom a.output
   asked_room m = go a.output replays.value
     where
-      one : (x : ElementOrNone) → SomeIn x (element_count u) → InRoom x
+      one : (x : Option ElementId) → SomeIn x (element_count u) → InRoom x
       one None h = tt
       one (Some d) h = le_trans h m
 
@@ -121,9 +121,9 @@ pub still_trans : {ms ms₁ ms₂ : List ℕ} → KnownStill ms ms₁ → KnownS
 still_trans A B = record { of = λ j h. B.of j (A.of j h) }
 
 -- an answer is kept beside it
-still_kept : (ms : List ℕ) (e : ℕ) (x : ElementReply) → e < length ms → KnownStill ms (with_reply ms e x)
-still_kept ms e (reply.Refused n) l = still_refl ms
-still_kept ms e (reply.Answered a) l = record { of = λ j h. go j h (eqb j e) refl }
+still_kept : (ms : List ℕ) (e : ℕ) (x : Reply ElementCutOutput) → e < length ms → KnownStill ms (with_reply ms e x)
+still_kept ms e (Err n) l = still_refl ms
+still_kept ms e (Ok a) l = record { of = λ j h. go j h (eqb j e) refl }
   where
     go : (j : ℕ) → known_at ms j ≡ true → (c : Bool) → eqb j e ≡ c → known_at (with_answer ms e a) j ≡ true
     go j h true p = ap (known_at (with_answer ms e a)) (eq_test j e p) ∙ kept_known ms e a l
@@ -142,7 +142,7 @@ module _ {cs : List ℕ} {ps hs : List Float} {es : List ℕ} {r e : ℕ} {k : C
   ranked_cut : {u : Table} {a : ElementAnswer} → cut_element desk (cut_of t.dimension k) r e t ≡ done a u → cut_element desk (cut_of t.dimension k) (rank t e) e t ≡ done a u
   ranked_cut o = ap (λ (n : ℕ). cut_element desk (cut_of t.dimension k) n e t) F.ranked ∙ o
 
-  module _ {cs' : List ℕ} {ps' : List Float} {es' : List ℕ} {x : ElementReply} {v w : Bool} (T : Told (Holds desk cs' ps' hs es') t (cut_element desk (cut_of t.dimension k) r e t) x v w) where
+  module _ {cs' : List ℕ} {ps' : List Float} {es' : List ℕ} {x : Reply ElementCutOutput} {v w : Bool} (T : Told (Holds desk cs' ps' hs es') t (cut_element desk (cut_of t.dimension k) r e t) x v w) where
     -- it is within the room
     pub reply_in_room : ReplyInRoom x
     reply_in_room = go T
@@ -151,7 +151,7 @@ module _ {cs : List ℕ} {ps hs : List Float} {es : List ℕ} {r e : ℕ} {k : C
         go (told.went a u o q n H) = subst ReplyInRoom (sym q) (asked_room k e a good F.used (ranked_cut o) H.fits.element_room)
         go (told.stopped n u o q y H) = subst ReplyInRoom (sym q) tt
 
-    pub kept_ended : {ms ms' : List ℕ} {y : ℕ} → Knows k ms v t → ReplyKept ms e x y ms' → ElementEnded cs' ps' hs es' ms' w r e k y v t
+    pub kept_ended : {ms ms' : List ℕ} {y : Reply (Unit {0})} → Knows k ms v t → ReplyKept ms e x y ms' → ElementEnded cs' ps' hs es' ms' w r e k y v t
     kept_ended {ms} {ms'} {y} K N = go T
       where
         go : Told (Holds desk cs' ps' hs es') t (cut_element desk (cut_of t.dimension k) r e t) x v w → ElementEnded cs' ps' hs es' ms' w r e k y v t
@@ -170,41 +170,39 @@ module _ {cs : List ℕ} {ps hs : List Float} {es : List ℕ} {r e : ℕ} {k : C
               output = ap (λ (m : List ℕ). output_at m e) words ∙ kept_same ms e a.output (asked_room k e a good F.used (ranked_cut o) H.fits.element_room) fits;
             })
 
-  pub kept_still : {ms ms' : List ℕ} {x : ElementReply} {y : ℕ} {v : Bool} → Knows k ms v t → ReplyKept ms e x y ms' → KnownStill ms ms'
+  pub kept_still : {ms ms' : List ℕ} {x : Reply ElementCutOutput} {y : Reply (Unit {0})} {v : Bool} → Knows k ms v t → ReplyKept ms e x y ms' → KnownStill ms ms'
   kept_still {ms} {x = x} K N =
       let long = K.long in
       subst (KnownStill ms) (sym N.words) (still_kept ms e x (let z : e < length ms = omega (arith, low, long) in z))
 
 -- ---- what the code needs
 
-module _ {cs : List ℕ} {ps : List Float} {es ms : List ℕ} {s : List (List ℕ)} {r e : ℕ} {k : Cutter} where
+module _ {cs : List ℕ} {ps : List Float} {es ms : List ℕ} {s : Room} {r e : ℕ} {k : Cutter} where
   pub ask_low : {ix : List ℕ} → AskReady cs ps es ix ms s r e k → e < 512
   ask_low R = low R.fit
 
   pub low_asks : {ix : List ℕ} → LowReady cs ps es ix ms s r e k → LowAsked cs ps es ix r e k s
-  low_asks A = let R = A.ready in record { ready = record { planes = R.planes; table = R.table; fit = R.fit }; low = A.low; indexed = R.indexed; shaped = R.shaped }
+  low_asks A = let R = A.ready in record { ready = record { planes = R.planes; table = R.table; fit = R.fit }; low = A.low; indexed = R.indexed }
 
   -- a known answer is the answer
-  pub known_asked : {ix : List ℕ} (y : Bool) → AskReady cs ps es ix ms s r e k → y ≡ known_at ms e → y ≡ true → ElementAsked cs ps es ms s r e k 0 cs ps es ix ms s
+  pub known_asked : {ix : List ℕ} (y : Bool) → AskReady cs ps es ix ms s r e k → y ≡ known_at ms e → y ≡ true → ElementAsked cs ps es ms s r e k (Ok tt) cs ps es ix ms s
   known_asked y R p q = record {
     of = λ hs t F K.
         (let A = K.of e (ask_low R) (sym p ∙ q) in
         went (record { output = output_at ms e; warning = A.warning }) t (ap (λ (n : ℕ). cut_element desk (cut_of t.dimension k) n e t) (sym F.ranked) ∙ A.again) refl (sym A.noted)
         (record { holds = F.holds; knows = K; known = sym p ∙ q; output = refl }));
     indexed = R.indexed;
-    shaped = R.shaped;
     still = still_refl ms;
   }
 
   -- a vertex element or an edge
-  module _ {x : ElementReply} {cs' : List ℕ} {ps' : List Float} {es' ix' : List ℕ} {s' : List (List ℕ)} (C : LowLeft cs ps es r e k s x cs' ps' es' ix' s') where
+  module _ {x : Reply ElementCutOutput} {cs' : List ℕ} {ps' : List Float} {es' ix' : List ℕ} {s' : Room} (C : LowLeft cs ps es r e k s x cs' ps' es' ix' s') where
     pub low_keep : {ix : List ℕ} → AskReady cs ps es ix ms s r e k → KeepReady e x
     low_keep R = record { low = ask_low R; room = reply_in_room R.fit (C.cut.of R.planes R.table R.fit) }
 
-    pub low_asked : {ix : List ℕ} → AskReady cs ps es ix ms s r e k → {y : ℕ} {ms' : List ℕ} → ReplyKept ms e x y ms' → ElementAsked cs ps es ms s r e k y cs' ps' es' ix' ms' s'
+    pub low_asked : {ix : List ℕ} → AskReady cs ps es ix ms s r e k → {y : Reply (Unit {0})} {ms' : List ℕ} → ReplyKept ms e x y ms' → ElementAsked cs ps es ms s r e k y cs' ps' es' ix' ms' s'
     low_asked R N = record {
       of = λ hs t F K. kept_ended F (C.cut.of hs t F) K N;
       indexed = C.indexed;
-      shaped = C.shaped;
       still = kept_still R.fit R.knows N;
     }

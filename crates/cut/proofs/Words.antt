@@ -9,24 +9,23 @@ use lib.Arith.{digits_div, digits_mod}
 use lib.Dec.{ltb, lit≤}
 use lib.ListN.{length, get_or, length-set, replicate, get_or-replicate}
 use lib.Seq.{get_or-set_same, get_or-set_other}
-use Rattle.rules.specs.declared.ElementOrNone.{ElementOrNone}
-use Rattle.rules.specs.declared.ElementOrNone.TheVariants.{None, Some}
 use Rattle.rules.specs.declared.ElementCutOutput.{ElementCutOutput}
 use Rattle.rules.specs.declared.ElementCutOutput.TheVariants.{Flush, NonFlush}
 use Rattle.rules.specs.declared.ElementId.{ElementId}
-use Rattle.gathered.specs.declared.answer.ElementReply.{ElementReply}
-use Rattle.gathered.specs.declared.answer.ElementReply.TheVariants as reply
 use Rattle.gathered.specs.Sets.{InRoom, SidesInRoom, OutputInRoom}
 use Rattle.gathered.proofs.Gathering.{some_room}
 use Rattle.space.specs.Numbers.{NumberBelow}
 use Rattle.cut.specs.Known.{field_size, field_of, some_of, output_of, packed, output_in, known_at, output_at, fields_at, with_answer, with_reply, ReplyInRoom, asked_by}
+use Rattle.std.specs.Prelude.{Option, Some, None, Ok, Err}
+use Rattle.rules.specs.Refusals.{Reply}
+use Rattle.rules.specs.declared.Refusal.{Refusal}
 
 -- ---- a field and its element
 
-pub field_none : (x : ElementOrNone) → x ≡ None → NumberBelow 1 (field_of x) field_size
+pub field_none : (x : Option ElementId) → x ≡ None → NumberBelow 1 (field_of x) field_size
 field_none x q = record { value = ap field_of (sym q); bound = lit≤ tt }
 
-pub field_some : (x : ElementOrNone) (e : ElementId) → x ≡ Some e → InRoom x → NumberBelow (e.0 + 2) (field_of x) field_size
+pub field_some : (x : Option ElementId) (e : ElementId) → x ≡ Some e → InRoom x → NumberBelow (e.0 + 2) (field_of x) field_size
 field_some x e q h = record {
   value = (let z : e.0 + 2 ≡ suc (suc e.0) = omega arith in z) ∙ ap field_of (sym q);
   bound = (let l = some_room e q h in let z : e.0 + 2 < field_size = omega (arith, l) in z);
@@ -42,15 +41,15 @@ some_is zero n h q = absurd (omega arith)
 some_is (suc zero) n h q = absurd (omega arith)
 some_is (suc (suc e)) n h q = let z : n ≡ e = omega (arith, q) in ap (λ (i : ℕ). Some (record { 0 = i })) z
 
-some_field : (x : ElementOrNone) → some_of (field_of x) ≡ x
+some_field : (x : Option ElementId) → some_of (field_of x) ≡ x
 some_field None = refl
 some_field (Some e) = refl
 
-field_above : (x : ElementOrNone) → 0 < field_of x
+field_above : (x : Option ElementId) → 0 < field_of x
 field_above None = omega arith
 field_above (Some e) = omega arith
 
-field_below : (x : ElementOrNone) → InRoom x → field_of x < field_size
+field_below : (x : Option ElementId) → InRoom x → field_of x < field_size
 field_below None h = lit≤ tt
 field_below (Some e) h = omega (arith, h)
 
@@ -64,14 +63,14 @@ sides_of_lem : (a b c : ℕ) → 0 < b → NonFlush (some_of a) (some_of b) (som
 sides_of_lem a zero c q = absurd (omega arith)
 sides_of_lem a (suc b) c q = refl
 
-field_output : (i o x : ElementOrNone) → output_of (field_of i) (field_of o) (field_of x) ≡ NonFlush i o x
+field_output : (i o x : Option ElementId) → output_of (field_of i) (field_of o) (field_of x) ≡ NonFlush i o x
 field_output i o x = sym (sides_of_lem (field_of i) (field_of o) (field_of x) (field_above o)) ∙ (λ l. NonFlush (some_field i l) (some_field o l) (some_field x l))
 
 pub output_flush : (ms : List ℕ) (e : ℕ) → get_or ms e 0 / field_size % field_size ≡ 0 → Flush ≡ output_at ms e
 unfolding output_at
 output_flush ms e q = let w = get_or ms e 0 in flush_of (w % field_size) (w / field_size % field_size) (w / field_size / field_size) q
 
-pub output_sides : (ms : List ℕ) (e : ℕ) (i o x : ElementOrNone) → 0 < get_or ms e 0 / field_size % field_size → i ≡ some_of (get_or ms e 0 % field_size)
+pub output_sides : (ms : List ℕ) (e : ℕ) (i o x : Option ElementId) → 0 < get_or ms e 0 / field_size % field_size → i ≡ some_of (get_or ms e 0 % field_size)
     → o ≡ some_of (get_or ms e 0 / field_size % field_size) → x ≡ some_of (get_or ms e 0 / field_size / field_size) → NonFlush i o x ≡ output_at ms e
 unfolding output_at
 output_sides ms e i o x q hi ho hx =
@@ -154,29 +153,29 @@ module _ (ms : List ℕ) (e : ℕ) where
   kept_known (NonFlush i o x) h = fields_known ms e (field_of i) (field_of o) (field_of x) (field_above i) h
 
   -- a reply, by what it is
-  pub reply_refused : (x : ElementReply) (n : ℕ) → x ≡ reply.Refused n → ms ≡ with_reply ms e x
+  pub reply_refused : (x : Reply ElementCutOutput) (n : Refusal) → x ≡ Err n → ms ≡ with_reply ms e x
   reply_refused x n q = ap (with_reply ms e) (sym q)
 
-  pub reply_answered : (x : ElementReply) (a : ElementCutOutput) (ms' : List ℕ) → x ≡ reply.Answered a → ms' ≡ with_answer ms e a → ms' ≡ with_reply ms e x
+  pub reply_answered : (x : Reply ElementCutOutput) (a : ElementCutOutput) (ms' : List ℕ) → x ≡ Ok a → ms' ≡ with_answer ms e a → ms' ≡ with_reply ms e x
   reply_answered x a ms' q h = h ∙ ap (with_reply ms e) (sym q)
 
   -- the fields of an answer, by what it is
   pub answer_flush_kept : (a : ElementCutOutput) (ms' : List ℕ) → a ≡ Flush → ms' ≡ fields_at ms e 1 0 0 → ms' ≡ with_answer ms e a
   answer_flush_kept a ms' p h = h ∙ ap (with_answer ms e) (sym p)
 
-  pub answer_sides_kept : (a : ElementCutOutput) (i o y : ElementOrNone) (u v w : ℕ) (ms' : List ℕ) → a ≡ NonFlush i o y → u ≡ field_of i → v ≡ field_of o → w ≡ field_of y
+  pub answer_sides_kept : (a : ElementCutOutput) (i o y : Option ElementId) (u v w : ℕ) (ms' : List ℕ) → a ≡ NonFlush i o y → u ≡ field_of i → v ≡ field_of o → w ≡ field_of y
       → ms' ≡ fields_at ms e u v w → ms' ≡ with_answer ms e a
   answer_sides_kept a i o y u v w ms' p hu hv hw h = h ∙ (λ l. fields_at ms e (hu l) (hv l) (hw l)) ∙ ap (with_answer ms e) (sym p)
 
 -- how asking ended, by what it is
-pub asked_refused : (x : ElementReply) (n : ℕ) → x ≡ reply.Refused n → n ≡ asked_by x
+pub asked_refused : (x : Reply ElementCutOutput) (n : Refusal) → x ≡ Err n → Err n ≡ asked_by x
 asked_refused x n q = ap asked_by (sym q)
 
-pub asked_done : (x : ElementReply) (a : ElementCutOutput) → x ≡ reply.Answered a → 0 ≡ asked_by x
+pub asked_done : (x : Reply ElementCutOutput) (a : ElementCutOutput) → x ≡ Ok a → Ok tt ≡ asked_by x
 asked_done x a q = ap asked_by (sym q)
 
-pub reply_room : (x : ElementReply) (a : ElementCutOutput) → x ≡ reply.Answered a → ReplyInRoom x → OutputInRoom a
+pub reply_room : (x : Reply ElementCutOutput) (a : ElementCutOutput) → x ≡ Ok a → ReplyInRoom x → OutputInRoom a
 reply_room x a q h = subst ReplyInRoom q h
 
-pub sides_room : (x : ElementCutOutput) (i o y : ElementOrNone) → x ≡ NonFlush i o y → OutputInRoom x → SidesInRoom i o y
+pub sides_room : (x : ElementCutOutput) (i o y : Option ElementId) → x ≡ NonFlush i o y → OutputInRoom x → SidesInRoom i o y
 sides_room x i o y p h = subst OutputInRoom p h

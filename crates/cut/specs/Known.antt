@@ -1,17 +1,15 @@
 -- What a cut remembers: the words of the answers given so far, and when they are true of a table. Definitions only.
-use Rattle.std.specs.Prelude.{ℕ, zero, suc, ◌+◌, ◌*◌, ◌/◌, ◌%◌, ◌<◌, ◌≡◌, Bool, true, ◌||◌, List, ltb, length, get_or, set}
+use Rattle.std.specs.Prelude.{ℕ, zero, suc, ◌+◌, ◌*◌, ◌/◌, ◌%◌, ◌<◌, ◌≡◌, Bool, true, ◌||◌, List, ltb, length, get_or, set, Option, Some, None, Ok, Err}
 use Rattle.rules.specs.Limits.{desk}
 use Rattle.rules.specs.Table.{Table, rank, element_count}
 use Rattle.rules.specs.Cut.{done, given, cut_element}
-use Rattle.rules.specs.declared.ElementOrNone.{ElementOrNone}
-use Rattle.rules.specs.declared.ElementOrNone.TheVariants.{None, Some}
 use Rattle.rules.specs.declared.ElementCutOutput.{ElementCutOutput}
 use Rattle.rules.specs.declared.ElementCutOutput.TheVariants.{Flush, NonFlush}
-use Rattle.gathered.specs.declared.answer.ElementReply.{ElementReply}
-use Rattle.gathered.specs.declared.answer.ElementReply.TheVariants as reply
 use Rattle.gathered.specs.Sets.{OutputInRoom}
 use Rattle.gathered.specs.Cutting.{cut_of}
 use Rattle.rules.specs.declared.Cutter.{Cutter}
+use Rattle.rules.specs.declared.ElementId.{ElementId}
+use Rattle.rules.specs.Refusals.{Reply}
 
 -- ---- one word of three fields an element
 
@@ -20,12 +18,12 @@ abbrev pub field_size : ℕ
 field_size = 1024
 
 -- none is 1, and an element is two above its number
-abbrev pub field_of : ElementOrNone → ℕ
+abbrev pub field_of : Option ElementId → ℕ
 field_of None = 1
 field_of (Some e) = suc (suc e.0)
 
 -- the element of a field, or none
-abbrev pub some_of : ℕ → ElementOrNone
+abbrev pub some_of : ℕ → Option ElementId
 some_of zero = None
 some_of (suc zero) = None
 some_of (suc (suc e)) = given e
@@ -61,21 +59,21 @@ with_answer ms e Flush = fields_at ms e 1 0 0
 with_answer ms e (NonFlush i o x) = fields_at ms e (field_of i) (field_of o) (field_of x)
 
 -- a refusal is not kept
-abbrev pub with_reply : List ℕ → ℕ → ElementReply → List ℕ
-with_reply ms e (reply.Refused n) = ms
-with_reply ms e (reply.Answered a) = with_answer ms e a
+abbrev pub with_reply : List ℕ → ℕ → Reply ElementCutOutput → List ℕ
+with_reply ms e (Err n) = ms
+with_reply ms e (Ok a) = with_answer ms e a
 
 -- the elements that a reply names are within the room
-abbrev pub ReplyInRoom : ElementReply → Type 0
-ReplyInRoom (reply.Refused n) = Unit {0}
-ReplyInRoom (reply.Answered a) = OutputInRoom a
+abbrev pub ReplyInRoom : Reply ElementCutOutput → Type 0
+ReplyInRoom (Err n) = Unit {0}
+ReplyInRoom (Ok a) = OutputInRoom a
 
 -- ---- a reply, kept in the words
 
--- how asking ended: the number of the refusal, or 0 where there is an answer
-abbrev pub asked_by : ElementReply → ℕ
-asked_by (reply.Refused n) = n
-asked_by (reply.Answered a) = 0
+-- how asking ended: the refusal, or done where there is an answer
+abbrev pub asked_by : Reply ElementCutOutput → Reply (Unit {0})
+asked_by (Err n) = Err n
+asked_by (Ok a) = Ok tt
 
 -- what writing the fields of element e asks
 pub record FieldsReady (e a b c : ℕ) : Type 0 where
@@ -90,12 +88,12 @@ pub record AnswerReady (e : ℕ) (a : ElementCutOutput) : Type 0 where
   pub room : OutputInRoom a
 
 -- what keeping a reply to element e asks
-pub record KeepReady (e : ℕ) (x : ElementReply) : Type 0 where
+pub record KeepReady (e : ℕ) (x : Reply ElementCutOutput) : Type 0 where
   pub low : e < 512
   pub room : ReplyInRoom x
 
 -- and what it does: how asking ended, and the words after it
-pub record ReplyKept (ms : List ℕ) (e : ℕ) (x : ElementReply) (y : ℕ) (ms' : List ℕ) : Type 0 where
+pub record ReplyKept (ms : List ℕ) (e : ℕ) (x : Reply ElementCutOutput) (y : Reply (Unit {0})) (ms' : List ℕ) : Type 0 where
   pub asked : y ≡ asked_by x
   pub words : ms' ≡ with_reply ms e x
 

@@ -1,5 +1,5 @@
 -- A list of cuts under way: the lent slices as one list, and what the cut at a position does. Definitions only.
-use Rattle.std.specs.Prelude.{ℕ, ◌+◌, ◌*◌, ◌≤◌, ◌<◌, ◌≡◌, true, List, [], length, Float}
+use Rattle.std.specs.Prelude.{ℕ, ◌+◌, ◌*◌, ◌≤◌, ◌<◌, ◌≡◌, true, List, [], length, Float, Err, Ok}
 use Rattle.rules.specs.Limits.{desk}
 use Rattle.rules.specs.Memory.{Memory, plane_width}
 use Rattle.rules.specs.Held.{memory_of}
@@ -9,8 +9,7 @@ use Rattle.rules.specs.declared.CutParams.{CutParams}
 use Rattle.rules.specs.declared.CutListReply.{CutListReply}
 use Rattle.rules.specs.declared.CutListReply.TheVariants.{Stopped}
 use Rattle.cut.specs.Whole.{SoundIndexed}
-use Rattle.cut.specs.declared.lists.Made.{Made}
-use Rattle.cut.specs.declared.lists.Made.TheVariants as made
+use Rattle.rules.specs.Refusals.{Reply}
 
 -- the three slices as one list
 abbrev pub cut_list_of : List Float → List ℕ → List ℕ → CutList
@@ -37,16 +36,16 @@ pub record PositionReady (cs : List ℕ) (ps hs : List Float) (es ix : List ℕ)
   pub low : i < length l.roots
 
 -- a list that goes on after the cut at position i, or stops there
-abbrev pub after_made : ℕ → Made → List ℕ → Memory → (List ℕ → Memory → CutListReply × List ℕ × Memory) → CutListReply × List ℕ × Memory
-after_made i (made.Refused n) room m rest = (Stopped n i, room, m)
-after_made i made.Answered room m rest = rest room m
+abbrev pub after_made : ℕ → Reply (Unit {0}) → List ℕ → Memory → (List ℕ → Memory → CutListReply × List ℕ × Memory) → CutListReply × List ℕ × Memory
+after_made i (Err n) room m rest = (Stopped n i, room, m)
+after_made i (Ok x) room m rest = rest room m
 
 -- the cut at position i, whatever comes after it; after an answer the list may go on
-pub record CutMade (cs : List ℕ) (ps hs : List Float) (es : List ℕ) (l : CutList) (room : List ℕ) (i : ℕ) (x : Made)
+pub record CutMade (cs : List ℕ) (ps hs : List Float) (es : List ℕ) (l : CutList) (room : List ℕ) (i : ℕ) (x : Reply (Unit {0}))
     (cs' : List ℕ) (ps' hs' : List Float) (es' ix' room' : List ℕ) : Type 0 where
   pub goes : (rest : List ℕ → Memory → CutListReply × List ℕ × Memory)
       → after_made i x room' (memory_of cs' ps' hs' es') rest ≡ going_on i room (cut_reply desk (cut_at desk l i).params (cut_at desk l i).root (memory_of cs ps hs es)) rest
-  pub again : x ≡ made.Answered → ListReady cs' ps' hs' es' ix' l room'
+  pub again : x ≡ Ok tt → ListReady cs' ps' hs' es' ix' l room'
 
 -- what the cuts of a list do, all of them in turn
 pub record CutsMade (cs : List ℕ) (ps hs : List Float) (es : List ℕ) (l : CutList) (room : List ℕ) (r : CutListReply)

@@ -5,15 +5,15 @@ ghost use Rattle.rules.specs.Promises.{OneBelow, NamesBelow};
 ghost use Rattle.rules.specs.Replies.{element_word, warning_word, output_word};
 ghost use Rattle.space.specs.Numbers.{NumberBelow};
 
-use rules::{ElementCutOutput, ElementOrNone};
+use rules::{ElementCutOutput, ElementId};
 
-fn element_word(e: ElementOrNone) -> u64
+fn element_word(e: Option<ElementId>) -> u64
     requires { OneBelow desk.elements e }
     ensures { NumberBelow result (element_word e) 65536 }
 {
     match e {
-        ElementOrNone::None => 0xffff,
-        ElementOrNone::Some(id) => id.0 as u64,
+        None => 0xffff,
+        Some(id) => id.0 as u64,
     }
 }
 

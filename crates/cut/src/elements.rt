@@ -3,13 +3,13 @@ ghost use Rattle.cut.specs.Rounds.{AskReady, RoundReady, ElementAsked, BoundaryC
 
 use crate::known::{KNOWN, is_known};
 use crate::ranks::{answer_higher, answer_low};
-use gathered::sets::ROOM;
-use rules::{Cutter, ElementId};
+use gathered::sets::Room;
+use rules::{Cutter, ElementId, Reply};
 use space::chains::INDEX;
 use space::rows;
-use space::words::{COUNTS, SET, wide};
+use space::words::{COUNTS, wide};
 
-// The number of the refusal, or 0 where the answer is known from then on.
+// A refusal, or the answer is known from then on.
 #[cycle(cut_boundary_cut_element)]
 pub fn cut_element(
     counts: &mut [u16; COUNTS],
@@ -17,25 +17,22 @@ pub fn cut_element(
     elements: &mut [u16],
     index: &mut [u16; INDEX],
     known: &mut [u32; KNOWN],
-    room: &mut [[u16; SET]; ROOM],
+    room: &mut Room,
     e: ElementId,
     rank: usize,
     k: Cutter,
-) -> u8
+) -> Reply<()>
     requires { AskReady counts.old points.old elements.old index.old known.old room.old rank e.0 k }
     ensures { ElementAsked counts.old points.old elements.old known.old room.old rank e.0 k result
         counts.new points.new elements.new index.new known.new room.new }
 {
     if is_known(known, e) {
-        return 0;
+        return Ok(());
     }
     if rank < 2 {
         return answer_low(counts, points, elements, index, known, room, e, rank, k);
     }
-    let asked = cut_boundary(counts, points, elements, index, known, room, e, rank, k);
-    if asked != 0 {
-        return asked;
-    }
+    cut_boundary(counts, points, elements, index, known, room, e, rank, k)?;
     answer_higher(counts, elements, index, known, room, e, rank, k)
 }
 
@@ -47,11 +44,11 @@ fn cut_boundary(
     elements: &mut [u16],
     index: &mut [u16; INDEX],
     known: &mut [u32; KNOWN],
-    room: &mut [[u16; SET]; ROOM],
+    room: &mut Room,
     e: ElementId,
     rank: usize,
     k: Cutter,
-) -> u8
+) -> Reply<()>
     requires { RoundReady counts.old points.old elements.old index.old known.old room.old rank e.0 k }
     ensures { BoundaryCut counts.old points.old elements.old known.old room.old rank e.0 k result
         counts.new points.new elements.new index.new known.new room.new }
@@ -59,10 +56,7 @@ fn cut_boundary(
     let n = rows::size_of(elements, e);
     for i in 0..n {
         let b = ElementId(wide(rows::boundary_at(elements, e, i)));
-        let step = cut_element(counts, points, elements, index, known, room, b, rank - 1, k);
-        if step != 0 {
-            return step;
-        }
+        cut_element(counts, points, elements, index, known, room, b, rank - 1, k)?;
     }
-    0
+    Ok(())
 }

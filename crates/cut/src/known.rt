@@ -4,35 +4,34 @@ ghost use Rattle.gathered.specs.Sets.{InRoom};
 ghost use Rattle.space.specs.Numbers.{NumberBelow};
 ghost use Rattle.cut.specs.Known.{field_size, field_of, some_of, known_at, output_at, fields_at, with_answer, FieldsReady, AnswerReady, KeepReady, ReplyKept};
 
-use gathered::answer::ElementReply;
-use rules::{ElementCutOutput, ElementId, ElementOrNone};
+use rules::{ElementCutOutput, ElementId, Reply};
 use space::words::ELEMENTS;
 
-// A word for each element.
+// A word for each element: an array of answers as an enum takes 28 KB of the stack, these words take 2, and a cut has 8.
 pub const KNOWN: usize = ELEMENTS;
 
 // How many numbers a field of a word can be.
 const FIELD: u32 = 1024;
 
 // None is 1, and an element is two above its number, so that 0 tells flush, and what was not asked.
-fn field_of(x: ElementOrNone) -> u32
+fn field_of(x: Option<ElementId>) -> u32
     requires { InRoom x }
     ensures { NumberBelow result (field_of x) field_size }
 {
     match x {
-        ElementOrNone::None => 1,
-        ElementOrNone::Some(e) => e.0 as u32 + 2,
+        None => 1,
+        Some(e) => e.0 as u32 + 2,
     }
 }
 
-fn some_of(field: u32) -> ElementOrNone
+fn some_of(field: u32) -> Option<ElementId>
     ensures { result ≡ some_of field }
 {
     if field < 2 {
-        return ElementOrNone::None;
+        return None;
     }
     let number = (field - 2) as usize;
-    ElementOrNone::Some(ElementId(number))
+    Some(ElementId(number))
 }
 
 // Whether an element was asked before.
@@ -95,16 +94,11 @@ fn keep_answer(known: &mut [u32; KNOWN], e: ElementId, answer: ElementCutOutput)
     }
 }
 
-// An answer is kept: the number of a refusal, or 0.
-pub fn keep(known: &mut [u32; KNOWN], e: ElementId, reply: ElementReply) -> u8
+// An answer is kept, and a refusal handed on.
+pub fn keep(known: &mut [u32; KNOWN], e: ElementId, reply: Reply<ElementCutOutput>) -> Reply<()>
     requires { KeepReady e.0 reply }
     ensures { ReplyKept known.old e.0 reply result known.new }
 {
-    match reply {
-        ElementReply::Refused(no) => no,
-        ElementReply::Answered(answer) => {
-            keep_answer(known, e, answer);
-            0
-        }
-    }
+    keep_answer(known, e, reply?);
+    Ok(())
 }

@@ -14,10 +14,11 @@ ghost use Rattle.rules.specs.Limits.{desk};
 ghost use Rattle.rules.specs.Held.{memory_of};
 ghost use Rattle.rules.specs.Replies.{cut_by, cut_reply};
 
-use rules::{CutParams, CutReply, ElementId, Hyperplane, PolytopeFate};
+use rules::{CutParams, ElementAnswer, ElementId, Hyperplane, PolytopeFate, Refusal, Reply};
 use sound::cut_sound;
 use soundness::sound::memory_indexed;
 use space::chains::INDEX;
+use space::memory::Memory;
 
 // 3, and then a cut of a sound memory.
 pub fn cut(
@@ -27,13 +28,19 @@ pub fn cut(
     elements: &mut [u16],
     params: CutParams,
     root: ElementId,
-) -> CutReply
+) -> Reply<ElementAnswer>
     ensures { (result, memory_of counts.new points.new planes.new elements.new)
         ≡ cut_reply desk params root.0 (memory_of counts.old points.old planes.old elements.old) }
 {
     let mut index = [0u16; INDEX];
-    if !memory_indexed(counts, points, planes, elements, &mut index) {
-        return CutReply::Refused(3);
+    let memory = Memory {
+        counts,
+        points,
+        planes,
+        elements,
+    };
+    if !memory_indexed(memory, &mut index) {
+        return Err(Refusal::NotSound);
     }
     cut_sound(counts, points, planes, elements, &mut index, params, root)
 }
@@ -46,7 +53,7 @@ pub fn carve(
     elements: &mut [u16],
     divider: Hyperplane,
     root: ElementId,
-) -> CutReply
+) -> Reply<ElementAnswer>
     ensures { (result, memory_of counts.new points.new planes.new elements.new)
         ≡ cut_reply desk (cut_by divider PolytopeFate.Keep PolytopeFate.Remove) root.0 (memory_of counts.old points.old planes.old elements.old) }
 {
@@ -66,7 +73,7 @@ pub fn slice(
     elements: &mut [u16],
     divider: Hyperplane,
     root: ElementId,
-) -> CutReply
+) -> Reply<ElementAnswer>
     ensures { (result, memory_of counts.new points.new planes.new elements.new)
         ≡ cut_reply desk (cut_by divider PolytopeFate.Keep PolytopeFate.Keep) root.0 (memory_of counts.old points.old planes.old elements.old) }
 {

@@ -2,27 +2,20 @@
 ghost use Rattle.std.specs.Prelude.{◌≡◌};
 ghost use Rattle.rules.specs.Limits.{desk};
 ghost use Rattle.rules.specs.Held.{memory_of};
-ghost use Rattle.rules.specs.Replies.{fate_of};
 ghost use Rattle.rules.specs.CutLists.{list_fits, cut_list_reply};
 ghost use Rattle.cut.specs.Lists.{cut_list_of, RowReady, params_at, ListReady, PositionReady, CutMade, CutsMade};
 
 use crate::answers::output_word;
 use crate::sound::cut_sound;
 use hypermath::hyperplane_at;
-use rules::{CutListReply, CutParams, CutReply, ElementId, HyperplaneId, PolytopeFate};
+use rules::{CutListReply, CutParams, ElementId, HyperplaneId, PolytopeFate, Refusal, Reply};
 use soundness::sound::memory_indexed;
 use space::chains::INDEX;
+use space::memory::Memory;
 use space::words::{PLANE_WIDTH, wide};
 
 // A list has no more cuts.
 const MOST_CUTS: usize = 64;
-
-// Whether the cut at a position was refused, or its answer is written.
-#[derive(Clone, Copy)]
-pub enum Made {
-    Refused(u8),
-    Answered,
-}
 
 // 26: more cuts than the limit, or slices that do not belong together.
 fn list_fits(dividers: &[f64], kept: &[u8], roots: &[u16]) -> bool
@@ -38,15 +31,6 @@ fn list_fits(dividers: &[f64], kept: &[u8], roots: &[u16]) -> bool
     false
 }
 
-fn fate_of(keep: bool) -> PolytopeFate
-    ensures { result ≡ fate_of keep }
-{
-    if keep {
-        return PolytopeFate::Keep;
-    }
-    PolytopeFate::Remove
-}
-
 // Bit 0 of the byte keeps the inside, bit 1 the outside.
 fn params_at(dividers: &[f64], kept: &[u8], i: usize) -> CutParams
     requires { RowReady dividers.now kept.now i }
@@ -54,8 +38,8 @@ fn params_at(dividers: &[f64], kept: &[u8], i: usize) -> CutParams
 {
     let divider = hyperplane_at(dividers, HyperplaneId(i));
     let byte = kept[i];
-    let inside = fate_of(byte % 2 == 1);
-    let outside = fate_of(byte / 2 % 2 == 1);
+    let inside = PolytopeFate::from(byte % 2 == 1);
+    let outside = PolytopeFate::from(byte / 2 % 2 == 1);
     CutParams {
         divider,
         inside,
@@ -63,7 +47,7 @@ fn params_at(dividers: &[f64], kept: &[u8], i: usize) -> CutParams
     }
 }
 
-// The cut at a position: an answer is written there, as one number.
+// The cut at a position is refused, or its answer is written there, as one number.
 fn cut_at(
     counts: &mut [u16],
     points: &mut [f64],
@@ -75,7 +59,7 @@ fn cut_at(
     roots: &[u16],
     answers: &mut [u64],
     i: usize,
-) -> Made
+) -> Reply<()>
     requires { PositionReady counts.old points.old planes.old elements.old index.old (cut_list_of dividers.now kept.now roots.now) answers.old i }
     ensures { CutMade counts.old points.old planes.old elements.old
         (cut_list_of dividers.now kept.now roots.now) answers.old i result
@@ -83,14 +67,9 @@ fn cut_at(
 {
     let params = params_at(dividers, kept, i);
     let root = ElementId(wide(roots[i]));
-    let reply = cut_sound(counts, points, planes, elements, index, params, root);
-    match reply {
-        CutReply::Refused(number) => Made::Refused(number),
-        CutReply::Answered { output, warning } => {
-            answers[i] = output_word(output, warning);
-            Made::Answered
-        }
-    }
+    let answer = cut_sound(counts, points, planes, elements, index, params, root)?;
+    answers[i] = output_word(answer.output, answer.warning);
+    Ok(())
 }
 
 // The cuts in turn; the first that is refused ends them.
@@ -115,14 +94,11 @@ fn cuts_in_turn(
         let made = cut_at(
             counts, points, planes, elements, index, dividers, kept, roots, answers, i,
         );
-        match made {
-            Made::Refused(number) => {
-                return CutListReply::Stopped {
-                    number,
-                    position: i,
-                };
-            }
-            Made::Answered => {}
+        if let Err(refusal) = made {
+            return CutListReply::Stopped {
+                refusal,
+                position: i,
+            };
         }
     }
     CutListReply::Answered(n)
@@ -144,14 +120,20 @@ pub fn cut_all(
         (memory_of counts.old points.old planes.old elements.old) }
 {
     let mut index = [0u16; INDEX];
-    if !memory_indexed(counts, points, planes, elements, &mut index) {
-        return CutListReply::Refused(3);
+    let memory = Memory {
+        counts,
+        points,
+        planes,
+        elements,
+    };
+    if !memory_indexed(memory, &mut index) {
+        return CutListReply::Refused(Refusal::NotSound);
     }
     if !list_fits(dividers, kept, roots) {
-        return CutListReply::Refused(26);
+        return CutListReply::Refused(Refusal::ListLong);
     }
     if answers.len() < roots.len() {
-        return CutListReply::Refused(12);
+        return CutListReply::Refused(Refusal::RoomShort);
     }
     cuts_in_turn(
         counts, points, planes, elements, &mut index, dividers, kept, roots, answers,

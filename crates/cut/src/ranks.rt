@@ -3,12 +3,12 @@ ghost use Rattle.cut.specs.Rounds.{LowReady, ElementAsked};
 ghost use Rattle.cut.specs.Higher.{GatherReady, KnownGathered, HigherReady, HigherAsked};
 
 use crate::known::{KNOWN, keep, output_at};
-use gathered::sets::ROOM;
-use gathered::{answer, sets};
-use rules::{Cutter, ElementId};
+use gathered::answer;
+use gathered::sets::Room;
+use rules::{Cutter, ElementId, Reply};
 use space::chains::INDEX;
 use space::rows;
-use space::words::{COUNTS, SET, wide};
+use space::words::{COUNTS, wide};
 
 // A vertex element or an edge.
 pub fn answer_low(
@@ -17,11 +17,11 @@ pub fn answer_low(
     elements: &mut [u16],
     index: &mut [u16; INDEX],
     known: &mut [u32; KNOWN],
-    room: &mut [[u16; SET]; ROOM],
+    room: &mut Room,
     e: ElementId,
     rank: usize,
     k: Cutter,
-) -> u8
+) -> Reply<()>
     requires { LowReady counts.old points.old elements.old index.old known.old room.old rank e.0 k }
     ensures { ElementAsked counts.old points.old elements.old known.old room.old rank e.0 k result
         counts.new points.new elements.new index.new known.new room.new }
@@ -31,16 +31,16 @@ pub fn answer_low(
 }
 
 // What the boundary of element e has answered, from what is known.
-fn gather_known(elements: &[u16], known: &[u32; KNOWN], room: &mut [[u16; SET]; ROOM], e: ElementId)
+fn gather_known(elements: &[u16], known: &[u32; KNOWN], room: &mut Room, e: ElementId)
     requires { GatherReady elements.now known.now room.old e.0 }
     ensures { KnownGathered elements.now known.now room.old e.0 room.new }
 {
-    sets::clear(room);
+    room.clear();
     let n = rows::size_of(elements, e);
     for i in 0..n {
         let b = ElementId(wide(rows::boundary_at(elements, e, i)));
         let a = output_at(known, b);
-        sets::gather_in(room, b, a);
+        room.gather_in(b, a);
     }
 }
 
@@ -50,11 +50,11 @@ pub fn answer_higher(
     elements: &mut [u16],
     index: &mut [u16; INDEX],
     known: &mut [u32; KNOWN],
-    room: &mut [[u16; SET]; ROOM],
+    room: &mut Room,
     e: ElementId,
     rank: usize,
     k: Cutter,
-) -> u8
+) -> Reply<()>
     requires { HigherReady counts.old elements.old index.old known.old room.old rank e.0 k }
     ensures { HigherAsked counts.old elements.old known.old room.old rank e.0 k result
         counts.new elements.new index.new known.new room.new }

@@ -4,13 +4,13 @@ ghost use Rattle.cut.specs.Whole.{CutReady, CutTried, WholeCut};
 
 use crate::elements::cut_element;
 use crate::known::{KNOWN, output_at};
-use gathered::sets::{ROOM, has_warning};
-use rules::{CutParams, CutReply, Cutter, ElementId};
+use gathered::sets::Room;
+use rules::{CutParams, Cutter, ElementAnswer, ElementId, Reply};
 use space::chains::INDEX;
-use space::memo::{PlacedHyperplane, add_hyperplane};
+use space::memo::add_hyperplane;
 use space::restore::restore;
 use space::rows::rank_of;
-use space::words::{COUNTS, SET};
+use space::words::COUNTS;
 
 // The counts in an array: lent so, they cost each rank of the cut one word.
 fn counts_of(counts: &[u16]) -> [u16; COUNTS]
@@ -40,33 +40,25 @@ fn cut_named(
     index: &mut [u16; INDEX],
     params: CutParams,
     root: ElementId,
-) -> CutReply
+) -> Reply<ElementAnswer>
     requires { CutReady counts.old points.old planes.old elements.old index.old params.divider root.0 }
     ensures { CutTried counts.old points.old planes.old elements.old params root.0 result
         counts.new points.new planes.new elements.new index.new }
 {
-    let divider = params.divider;
-    let named = add_hyperplane(counts, planes, divider);
-    match named {
-        PlacedHyperplane::Refused(no) => CutReply::Refused(no),
-        PlacedHyperplane::At(number) => {
-            let rank = rank_of(elements, root);
-            let k = Cutter { params, number };
-            let mut known = [0u32; KNOWN];
-            let mut room = [[0u16; SET]; ROOM];
-            let mut used = counts_of(counts);
-            let asked = cut_element(
-                &mut used, points, elements, index, &mut known, &mut room, root, rank, k,
-            );
-            put_counts(counts, used);
-            if asked != 0 {
-                return CutReply::Refused(asked);
-            }
-            let output = output_at(&known, root);
-            let warning = has_warning(&room);
-            CutReply::Answered { output, warning }
-        }
-    }
+    let number = add_hyperplane(counts, planes, params.divider)?;
+    let rank = rank_of(elements, root);
+    let k = Cutter { params, number };
+    let mut known = [0u32; KNOWN];
+    let mut room = Room::new();
+    let mut used = counts_of(counts);
+    let asked = cut_element(
+        &mut used, points, elements, index, &mut known, &mut room, root, rank, k,
+    );
+    put_counts(counts, used);
+    asked?;
+    let output = output_at(&known, root);
+    let warning = room.has_warning();
+    Ok(ElementAnswer { output, warning })
 }
 
 // A refusal clears what was appended, the hyperplane of rule 2 included.
@@ -78,7 +70,7 @@ pub fn cut_finite(
     index: &mut [u16; INDEX],
     params: CutParams,
     root: ElementId,
-) -> CutReply
+) -> Reply<ElementAnswer>
     requires { CutReady counts.old points.old planes.old elements.old index.old params.divider root.0 }
     ensures { WholeCut counts.old points.old planes.old elements.old params root.0 result
         counts.new points.new planes.new elements.new index.new }
@@ -86,12 +78,11 @@ pub fn cut_finite(
     let e = counts[1];
     let v = counts[2];
     let p = counts[3];
-    let reply = cut_named(counts, points, planes, elements, index, params, root);
-    match reply {
-        CutReply::Refused(no) => {
+    match cut_named(counts, points, planes, elements, index, params, root) {
+        Err(refusal) => {
             restore(counts, points, planes, elements, e, v, p);
-            CutReply::Refused(no)
+            Err(refusal)
         }
-        CutReply::Answered { output, warning } => CutReply::Answered { output, warning },
+        Ok(answer) => Ok(answer),
     }
 }

@@ -9,8 +9,9 @@ use Rattle.rules.specs.declared.CutListReply.{CutListReply}
 use Rattle.rules.specs.declared.CutListReply.TheVariants.{Stopped, Answered}
 use Rattle.cut.proofs.Listing.{few_written}
 use Rattle.desk.specs.Words.{written_word, cut_list_word}
+use Rattle.rules.specs.declared.Refusal.{Refusal}
 
-pub stopped_low : {r : CutListReply} (n i : ℕ) → r ≡ Stopped n i → answers_written r ≤ most_cuts → i ≤ most_cuts
+pub stopped_low : {r : CutListReply} (n : Refusal) (i : ℕ) → r ≡ Stopped n i → answers_written r ≤ most_cuts → i ≤ most_cuts
 stopped_low n i q h = subst (λ (x : CutListReply). answers_written x ≤ most_cuts) q h
 
 pub answered_low : {r : CutListReply} (k : ℕ) → r ≡ Answered k → answers_written r ≤ most_cuts → k ≤ most_cuts

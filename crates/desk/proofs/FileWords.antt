@@ -1,5 +1,5 @@
 -- A file has few enough bytes for their count to stand above the reply's number.
-use Rattle.std.specs.Prelude.{if◌then◌else◌}
+use Rattle.std.specs.Prelude.{if◌then◌else◌, Ok, Err}
 use Prim.Native.Nat.{ℕ, ◌≤◌}
 use mathlib.Core.Bool.{Bool, true, false, not}
 use mathlib.Core.List.{List, ◌++◌}
@@ -11,10 +11,10 @@ use Rattle.rules.specs.Memory.{Memory, decode, sound_memory}
 use Rattle.rules.specs.Questions.{no_answer, answer}
 use Rattle.rules.specs.Replies.{listed}
 use Rattle.rules.specs.Files.{file_of, save_reply}
-use Rattle.rules.specs.declared.ListReply.{ListReply}
-use Rattle.rules.specs.declared.ListReply.TheVariants.{Refused, Listed}
 use Rattle.files.proofs.SavedTable.{file_short}
 use Rattle.desk.specs.Words.{longest, SizeFits}
+use Rattle.rules.specs.Refusals.{Reply}
+use Rattle.rules.specs.declared.Refusal.TheVariants.{NotInUse, NotSound, RoomShort}
 
 pub file_fits : (m : Memory) (room : List ℕ) → SizeFits (save_reply desk m room).0
 unfolding save_reply
@@ -23,10 +23,10 @@ file_fits m room = go (sound_memory desk m) refl
     file : List ℕ
     file = file_of (decode desk m)
 
-    done : (b : Bool) → length file ≤ longest → SizeFits (if◌then◌else◌ {A = ListReply × List ℕ} b (Listed (length file), file ++ drop (length file) room) (Refused 12, room)).0
+    done : (b : Bool) → length file ≤ longest → SizeFits (if◌then◌else◌ {A = Reply ℕ × List ℕ} b (Ok (length file), file ++ drop (length file) room) (Err RoomShort, room)).0
     done true h = h
     done false h = tt
 
-    go : (s : Bool) → sound_memory desk m ≡ s → SizeFits (listed (if not s then no_answer 3 else if not true then no_answer 4 else answer file) room).0
+    go : (s : Bool) → sound_memory desk m ≡ s → SizeFits (listed (if not s then no_answer NotSound else if not true then no_answer NotInUse else answer file) room).0
     go false q = tt
     go true q = done (leb (length file) (length room)) (file_short m.counts m.points m.planes m.elements q)

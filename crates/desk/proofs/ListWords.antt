@@ -1,5 +1,5 @@
 -- No list that a question gives has more numbers than there is room for elements, and no file more bytes than two of them count: its size fits above the reply's number.
-use Rattle.std.specs.Prelude.{if◌then◌else◌}
+use Rattle.std.specs.Prelude.{if◌then◌else◌, Ok, Err}
 use Prim.Native.Nat.{ℕ, zero, suc, ◌*◌, ◌≤◌, ◌<◌}
 use mathlib.Core.Bool.{Bool, true, false, not, ◌&&◌}
 use mathlib.Core.List.{List, [], ◌∷◌, ◌++◌, map}
@@ -15,8 +15,6 @@ use Rattle.rules.specs.Memory.{Memory, decode, sound_memory}
 use Rattle.rules.specs.Questions.{Asked, no_answer, answer, is_below, sub_elements, with_rank, vertex_set, common_with_rank, some_or, greatest_from, greatest_common, pairs, edges_in_order}
 use Rattle.rules.specs.Walk.{walk, first_edge, start_of, each_once}
 use Rattle.rules.specs.Replies.{asked, listed, sub_elements_reply, with_rank_reply, vertex_set_reply, greatest_common_reply, in_numbers, edges_in_order_reply}
-use Rattle.rules.specs.declared.ListReply.{ListReply}
-use Rattle.rules.specs.declared.ListReply.TheVariants.{Refused, Listed}
 use Rattle.rules.proofs.WalkSteps.{walk_short}
 use Rattle.rules.proofs.Counting.{length_up}
 use Rattle.rules.proofs.Good.{sound_good}
@@ -25,6 +23,8 @@ use Rattle.rules.proofs.Laws.{le_test, and_left}
 use Rattle.rules.proofs.OneCall.{sound_table}
 use Rattle.rules.proofs.RingWalked.{kept_length}
 use Rattle.desk.specs.Words.{longest, SizeFits, size_word, list_word}
+use Rattle.rules.specs.Refusals.{Reply}
+use Rattle.rules.specs.declared.Refusal.TheVariants.{NotClosed, NotInUse, NotSound, Rank, RoomShort}
 
 -- no longer than that, where it is answered
 abbrev Short : Asked (List ℕ) → Type 0
@@ -35,7 +35,7 @@ list_fits_lem : (q : Asked (List ℕ)) (room : List ℕ) → Short q → SizeFit
 list_fits_lem (no_answer n) room h = tt
 list_fits_lem (answer xs) room h = go (leb (length xs) (length room))
   where
-    go : (b : Bool) → SizeFits (if◌then◌else◌ {A = ListReply × List ℕ} b (Listed (length xs), xs ++ drop (length xs) room) (Refused 12, room)).0
+    go : (b : Bool) → SizeFits (if◌then◌else◌ {A = Reply ℕ × List ℕ} b (Ok (length xs), xs ++ drop (length xs) room) (Err RoomShort, room)).0
     go true = le_trans h (lit≤ tt)
     go false = tt
 
@@ -44,7 +44,7 @@ asked_fits : (m : Memory) (es : List ℕ) (q : Asked (List ℕ))
     → (sound_memory desk m ≡ true → all (λ e. ltb e (element_count (decode desk m))) es ≡ true → Short q) → Short (asked desk m es q)
 asked_fits m es q h = go (sound_memory desk m) (all (λ e. ltb e (element_count (decode desk m))) es) h
   where
-    go : (s u : Bool) → (s ≡ true → u ≡ true → Short q) → Short (if not s then no_answer 3 else if not u then no_answer 4 else q)
+    go : (s u : Bool) → (s ≡ true → u ≡ true → Short q) → Short (if not s then no_answer NotSound else if not u then no_answer NotInUse else q)
     go false u k = tt
     go true false k = tt
     go true true k = k refl refl
@@ -94,7 +94,7 @@ module _ (m : Memory) where
       go [] s = tt
       go (e ∷ es) s = by (all (λ x. eqb (rank t x) (rank t e)) es)
         where
-          by : (b : Bool) → Short (if b then answer (greatest_from t (rank t e) (e ∷ es)) else no_answer 6)
+          by : (b : Bool) → Short (if b then answer (greatest_from t (rank t e) (e ∷ es)) else no_answer Rank)
           by true = greatest_fits (rank t e) (e ∷ es) s
           by false = tt
 
@@ -122,18 +122,18 @@ module _ (m : Memory) where
           le_trans (walk_short t (length es) es start start (first_edge t start es))
           (le_test (length es) desk.boundary (all_get (λ x. leb (length (boundary_of x)) desk.boundary) t.elements e (corner 0) u (sound_good desk t (sound_table desk m s)).boundary_room))
 
-      by : (a b : Bool) → length steps ≤ desk.boundary → Short (in_numbers (if a then no_answer 6 else if b then answer (pairs t start steps) else no_answer 7))
+      by : (a b : Bool) → length steps ≤ desk.boundary → Short (in_numbers (if a then no_answer Rank else if b then answer (pairs t start steps) else no_answer NotClosed))
       by true b h = tt
       by false false h = tt
       by false true h = let k = pairs_long start steps in let z : length (joined (map (λ (p : ℕ × ℕ). p.0 ∷ p.1 ∷ []) (pairs t start steps))) ≤ desk.elements = omega (arith, k, h) in z
 
 -- ---- the number
 
-pub list_said : {A : Type 0} {r : ListReply} {room : List A} {w : ListReply × List A} (x : ℕ) → (r, room) ≡ w → x ≡ size_word r → (x, room) ≡ list_word w
+pub list_said : {A : Type 0} {r : Reply ℕ} {room : List A} {w : Reply ℕ × List A} (x : ℕ) → (r, room) ≡ w → x ≡ size_word r → (x, room) ≡ list_word w
 list_said {room = room} x e q = (λ j. (q j, room)) ∙ ap list_word e
 
-pub fits_as : {A : Type 0} {r : ListReply} {room : List A} {w : ListReply × List A} → (r, room) ≡ w → SizeFits w.0 → SizeFits r
-fits_as {A} e h = subst SizeFits (sym (ap (λ (x : ListReply × List A). x.0) e)) h
+pub fits_as : {A : Type 0} {r : Reply ℕ} {room : List A} {w : Reply ℕ × List A} → (r, room) ≡ w → SizeFits w.0 → SizeFits r
+fits_as {A} e h = subst SizeFits (sym (ap (λ (x : Reply ℕ × List A). x.0) e)) h
 
-pub listed_low : {r : ListReply} (n : ℕ) → r ≡ Listed n → SizeFits r → n ≤ longest
+pub listed_low : {r : Reply ℕ} (n : ℕ) → r ≡ Ok n → SizeFits r → n ≤ longest
 listed_low n q h = subst SizeFits q h

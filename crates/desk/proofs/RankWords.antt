@@ -17,8 +17,9 @@ use Rattle.rules.specs.Replies.{listed, with_rank_reply}
 use Rattle.rules.proofs.Good.{Good, sound_good, whole}
 use Rattle.rules.proofs.Laws.{le_test, test_le, test_above, not_le, not_eq, and_left, and_right}
 use Rattle.rules.proofs.OneCall.{sound_table}
-use Rattle.rules.specs.declared.ListReply.{ListReply}
 use Rattle.desk.specs.Words.{rank_byte}
+use Rattle.rules.specs.Refusals.{Reply}
+use Rattle.rules.specs.declared.Refusal.TheVariants.{NotInUse, NotSound}
 
 -- ---- the byte
 
@@ -60,9 +61,9 @@ module _ (m : Memory) (k e : ℕ) (room : List ℕ) where
   byte_alike = go (leb k 255) refl
     where
       lists : (s u : Bool) → (s ≡ true → with_rank t 255 e ≡ with_rank t k e)
-          → (if not s then no_answer 3 else if not u then no_answer 4 else answer (with_rank t 255 e)) ≡ (if not s then no_answer 3 else if not u then no_answer 4 else answer (with_rank t k e))
+          → (if not s then no_answer NotSound else if not u then no_answer NotInUse else answer (with_rank t 255 e)) ≡ (if not s then no_answer NotSound else if not u then no_answer NotInUse else answer (with_rank t k e))
       lists false u h = refl
-      lists true u h = ap (λ (xs : List ℕ). if not u then no_answer 4 else answer xs) (h refl)
+      lists true u h = ap (λ (xs : List ℕ). if not u then no_answer NotInUse else answer xs) (h refl)
 
       go : (b : Bool) → leb k 255 ≡ b → with_rank_reply desk m (cond b k 255) e room ≡ with_rank_reply desk m k e room
       go true q = refl
@@ -72,5 +73,5 @@ module _ (m : Memory) (k e : ℕ) (room : List ℕ) where
           let l = not_le k 255 q in
           nobody t 255 e g (lit≤ tt) ∙ sym (nobody t k e g (let z : 4 < k = omega (arith, l) in z))))
 
-  pub byte_asked : {w : ListReply × List ℕ} (b : ℕ) → b ≡ rank_byte k → w ≡ with_rank_reply desk m b e room → w ≡ with_rank_reply desk m k e room
+  pub byte_asked : {w : Reply ℕ × List ℕ} (b : ℕ) → b ≡ rank_byte k → w ≡ with_rank_reply desk m b e room → w ≡ with_rank_reply desk m k e room
   byte_asked b q h = h ∙ ap (λ (n : ℕ). with_rank_reply desk m n e room) q ∙ byte_alike

@@ -1,5 +1,5 @@
 -- No more corners are tested than there is room for elements, so their count fits above the answer.
-use Rattle.std.specs.Prelude.{if◌then◌else◌}
+use Rattle.std.specs.Prelude.{if◌then◌else◌, Err, Ok}
 use Prim.Native.Nat.{ℕ, suc, ◌+◌, ◌*◌, ◌≤◌}
 use mathlib.Core.Bool.{Bool, true, false, not, ◌&&◌, ◌||◌}
 use mathlib.Core.List.{List, [], ◌∷◌}
@@ -17,11 +17,11 @@ use Rattle.rules.specs.Replies.{divider_fits, divider_of}
 use Rattle.rules.specs.Touch.{vertex_side, corner_sides, is_inside, is_outside, tested_from, touch_at_distance, touch, touch_reply, touch_value}
 use Rattle.rules.specs.declared.Hyperplane.{Hyperplane}
 use Rattle.rules.specs.declared.Side.{Side}
-use Rattle.rules.specs.declared.Touch.{Touch}
-use Rattle.rules.specs.declared.TouchReply.{TouchReply}
-use Rattle.rules.specs.declared.TouchReply.TheVariants.{Refused, Touched}
 use Rattle.desk.specs.Words.{longest, CountFits, touch_word}
 use Rattle.desk.proofs.ListWords.{rank_fits_list}
+use Rattle.rules.specs.Refusals.{Reply}
+use Rattle.rules.specs.declared.Refusal.TheVariants.{Divider, NotInUse, NotSound}
+use Rattle.rules.specs.declared.Touched.{Touched}
 
 tested_few : (i o : Bool) (ss : List Side) → tested_from i o ss ≤ length ss
 unfolding tested_from
@@ -54,19 +54,19 @@ count_fits_lem h root m = by (sound_memory desk m) (ltb root (element_count t)) 
     at s (fin a b c) = corners s
 
     by : (a b c : Bool) → sound_memory desk m ≡ a
-        → CountFits (if not a then Refused 3 else if not b then Refused 4 else if not c then Refused 5 else touch_at_distance p h.distance root t)
+        → CountFits (if not a then Err NotSound else if not b then Err NotInUse else if not c then Err Divider else touch_at_distance p h.distance root t)
     by false b c q = tt
     by true false c q = tt
     by true true false q = tt
     by true true true q = at q h.distance
 
-pub count_low : {r : TouchReply} (h : Hyperplane) (root : ℕ) (m : Memory) → r ≡ touch_reply desk h root m → CountFits r
+pub count_low : {r : Reply Touched} (h : Hyperplane) (root : ℕ) (m : Memory) → r ≡ touch_reply desk h root m → CountFits r
 count_low h root m q = subst CountFits (sym q) (count_fits_lem h root m)
 
 -- ---- the number
 
-pub touched_low : {r : TouchReply} (a : Touch) (k : ℕ) → r ≡ Touched a k → CountFits r → k ≤ longest
-touched_low a k q f = subst CountFits q f
+pub touched_low : {r : Reply Touched} (t : Touched) → r ≡ Ok t → CountFits r → t.tested ≤ longest
+touched_low t q f = subst CountFits q f
 
-pub word_touched : (r : TouchReply) (a : Touch) (k v : ℕ) → r ≡ Touched a k → v ≡ touch_value a → v * 0x100 + k * 0x10000 ≡ touch_word r
-word_touched r a k v q e = ap (λ (x : ℕ). x * 0x100 + k * 0x10000) e ∙ sym (ap touch_word q)
+pub word_touched : (r : Reply Touched) (t : Touched) (v : ℕ) → r ≡ Ok t → v ≡ touch_value t.answer → v * 0x100 + t.tested * 0x10000 ≡ touch_word r
+word_touched r t v q e = ap (λ (x : ℕ). x * 0x100 + t.tested * 0x10000) e ∙ sym (ap touch_word q)

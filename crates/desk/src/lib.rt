@@ -1,4 +1,4 @@
-// Every entry point for hosts: slices as a pointer and a length, and numbers of 32 bits, so that none is cut to another on its way.
+// Every entry point for hosts: slices as a pointer and a length, and numbers of 32 bits, so that none is cut to another on its way. C knows neither `Memory` nor `Reply`: each of the four slices is lent by itself, and a reply is one number.
 #![tactic(auto)]
 
 mod words;
@@ -6,6 +6,7 @@ mod words;
 ghost use Rattle.std.specs.Prelude.{◌≡◌};
 ghost use Rattle.rules.specs.Limits.{desk};
 ghost use Rattle.rules.specs.Held.{memory_of};
+ghost use Rattle.rules.specs.Refusals.{reply_number};
 ghost use Rattle.rules.specs.CutLists.{cut_list_reply};
 ghost use Rattle.rules.specs.Areas.{areas_reply};
 ghost use Rattle.rules.specs.Files.{save_reply, open_reply};
@@ -13,13 +14,14 @@ ghost use Rattle.rules.specs.Print.{print_reply};
 ghost use Rattle.rules.specs.Replies.{is_sound_reply, cube_reply, cut_by, cut_reply, sub_elements_reply, with_rank_reply, vertex_set_reply, greatest_common_reply, edges_in_order_reply, primordial_facet_reply};
 ghost use Rattle.rules.specs.Touch.{touch_reply};
 ghost use Rattle.cut.specs.Lists.{cut_list_of};
-ghost use Rattle.desk.specs.Words.{cut_word, cut_list_word, list_word, facet_word, touch_word, divider_with, fate_by};
+ghost use Rattle.desk.specs.Words.{number_word, cut_word, cut_list_word, list_word, facet_word, touch_word, divider_with, fate_by};
 
 use cut::answers::output_word;
 use elements::{questions, touch};
-use rules::{CutParams, CutReply, ElementId, FacetReply, Hyperplane};
+use rules::{CutParams, ElementId, Hyperplane};
+use space::memory::Memory;
 use walk::facet;
-use words::{fate, list_word, rank_byte, touch_word, written_word};
+use words::{fate, list_word, number, rank_byte, refused, touch_word, written_word};
 
 #[unsafe(no_mangle)]
 pub extern "C" fn desk_is_sound(
@@ -28,9 +30,15 @@ pub extern "C" fn desk_is_sound(
     planes: &[f64],
     elements: &[u16],
 ) -> u32
-    ensures { result ≡ is_sound_reply desk (memory_of counts.now points.now planes.now elements.now) }
+    ensures { result ≡ reply_number (is_sound_reply desk (memory_of counts.now points.now planes.now elements.now)) }
 {
-    soundness::sound::is_sound(counts, points, planes, elements) as u32
+    let memory = Memory {
+        counts,
+        points,
+        planes,
+        elements,
+    };
+    number(soundness::sound::is_sound(memory))
 }
 
 #[unsafe(no_mangle)]
@@ -43,10 +51,10 @@ pub extern "C" fn desk_cube(
     radius: f64,
 ) -> u32
     ensures { (result, memory_of counts.new points.new planes.new elements.new) ≡
-        cube_reply desk ndim radius (memory_of counts.old points.old planes.old elements.old) }
+        number_word (cube_reply desk ndim radius (memory_of counts.old points.old planes.old elements.old)) }
 {
     let dimension = ndim as u64;
-    cube::with_primordial_cube_radius(dimension, radius, counts, points, planes, elements) as u32
+    number(cube::with_primordial_cube_radius(dimension, radius, counts, points, planes, elements))
 }
 
 #[unsafe(no_mangle)]
@@ -79,8 +87,8 @@ pub extern "C" fn desk_cut(
     let root = ElementId(root as usize);
     let reply = cut::cut(counts, points, planes, elements, params, root);
     match reply {
-        CutReply::Refused(no) => no as u64,
-        CutReply::Answered { output, warning } => output_word(output, warning),
+        Err(refusal) => refused(refusal) as u64,
+        Ok(answer) => output_word(answer.output, answer.warning),
     }
 }
 
@@ -100,10 +108,16 @@ pub extern "C" fn desk_touch(
 ) -> u32
     ensures { result ≡ touch_word (touch_reply desk (divider_with n0 n1 n2 n3 distance) root (memory_of counts.now points.now planes.now elements.now)) }
 {
+    let memory = Memory {
+        counts,
+        points,
+        planes,
+        elements,
+    };
     let normal = [n0, n1, n2, n3];
     let divider = Hyperplane { normal, distance };
     let root = ElementId(root as usize);
-    let reply = touch::touch(counts, points, planes, elements, divider, root);
+    let reply = touch::touch(memory, divider, root);
     touch_word(reply)
 }
 
@@ -140,14 +154,13 @@ pub extern "C" fn desk_subelements_of(
 ) -> u32
     ensures { (result, list.new) ≡ list_word (sub_elements_reply desk (memory_of counts.now points.now planes.now elements.now) root list.old) }
 {
-    let reply = questions::subelements_of(
+    let memory = Memory {
         counts,
         points,
         planes,
         elements,
-        ElementId(root as usize),
-        list,
-    );
+    };
+    let reply = questions::subelements_of(memory, ElementId(root as usize), list);
     list_word(reply)
 }
 
@@ -164,15 +177,13 @@ pub extern "C" fn desk_subelements_with_rank(
     ensures { (result, list.new) ≡ list_word (with_rank_reply desk (memory_of counts.now points.now planes.now elements.now) rank root list.old) }
 {
     let rank = rank_byte(rank);
-    let reply = questions::subelements_with_rank(
+    let memory = Memory {
         counts,
         points,
         planes,
         elements,
-        ElementId(root as usize),
-        rank,
-        list,
-    );
+    };
+    let reply = questions::subelements_with_rank(memory, ElementId(root as usize), rank, list);
     list_word(reply)
 }
 
@@ -187,14 +198,13 @@ pub extern "C" fn desk_vertex_set(
 ) -> u32
     ensures { (result, list.new) ≡ list_word (vertex_set_reply desk (memory_of counts.now points.now planes.now elements.now) root list.old) }
 {
-    let reply = questions::vertex_set(
+    let memory = Memory {
         counts,
         points,
         planes,
         elements,
-        ElementId(root as usize),
-        list,
-    );
+    };
+    let reply = questions::vertex_set(memory, ElementId(root as usize), list);
     list_word(reply)
 }
 
@@ -209,9 +219,13 @@ pub extern "C" fn desk_greatest_common_subelements(
 ) -> u32
     ensures { (result, list.new) ≡ list_word (greatest_common_reply desk (memory_of counts.now points.now planes.now elements.now) roots.now list.old) }
 {
-    let reply = questions::greatest_common_subelements(
-        counts, points, planes, elements, roots, list,
-    );
+    let memory = Memory {
+        counts,
+        points,
+        planes,
+        elements,
+    };
+    let reply = questions::greatest_common_subelements(memory, roots, list);
     list_word(reply)
 }
 
@@ -226,14 +240,13 @@ pub extern "C" fn desk_edges_in_order(
 ) -> u32
     ensures { (result, list.new) ≡ list_word (edges_in_order_reply desk (memory_of counts.now points.now planes.now elements.now) root list.old) }
 {
-    let reply = walk::edges_in_order(
+    let memory = Memory {
         counts,
         points,
         planes,
         elements,
-        ElementId(root as usize),
-        list,
-    );
+    };
+    let reply = walk::edges_in_order(memory, ElementId(root as usize), list);
     list_word(reply)
 }
 
@@ -249,7 +262,13 @@ pub extern "C" fn desk_areas(
 ) -> u32
     ensures { (result, areas.new) ≡ list_word (areas_reply desk (memory_of counts.now points.now planes.now elements.now) pieces.now areas.old) }
 {
-    let reply = areas::areas(counts, points, planes, elements, pieces, areas);
+    let memory = Memory {
+        counts,
+        points,
+        planes,
+        elements,
+    };
+    let reply = areas::areas(memory, pieces, areas);
     list_word(reply)
 }
 
@@ -263,11 +282,17 @@ pub extern "C" fn desk_has_primordial_facet(
 ) -> u32
     ensures { result ≡ facet_word (primordial_facet_reply desk (memory_of counts.now points.now planes.now elements.now) root) }
 {
+    let memory = Memory {
+        counts,
+        points,
+        planes,
+        elements,
+    };
     let root = ElementId(root as usize);
-    let reply = facet::has_primordial_facet(counts, points, planes, elements, root);
+    let reply = facet::has_primordial_facet(memory, root);
     match reply {
-        FacetReply::Refused(no) => no as u32,
-        FacetReply::Has(b) => { if b { 0x100 } else { 0 } }
+        Err(refusal) => refused(refusal),
+        Ok(b) => { if b { 0x100 } else { 0 } }
     }
 }
 
@@ -282,7 +307,13 @@ pub extern "C" fn desk_save(
 ) -> u64
     ensures { (result, file.new) ≡ list_word (save_reply desk (memory_of counts.now points.now planes.now elements.now) file.old) }
 {
-    let reply = files::save::save(counts, points, planes, elements, file);
+    let memory = Memory {
+        counts,
+        points,
+        planes,
+        elements,
+    };
+    let reply = files::save::save(memory, file);
     list_word(reply) as u64
 }
 
@@ -295,9 +326,9 @@ pub extern "C" fn desk_open(
     file: &[u8],
 ) -> u32
     ensures { (result, memory_of counts.new points.new planes.new elements.new) ≡
-        open_reply desk file.now (memory_of counts.old points.old planes.old elements.old) }
+        number_word (open_reply desk file.now (memory_of counts.old points.old planes.old elements.old)) }
 {
-    files::open::open(counts, points, planes, elements, file) as u32
+    number(files::open::open(counts, points, planes, elements, file))
 }
 
 // As saving replies.
@@ -312,13 +343,12 @@ pub extern "C" fn desk_stl(
 ) -> u64
     ensures { (result, file.new) ≡ list_word (print_reply desk (memory_of counts.now points.now planes.now elements.now) root file.old) }
 {
-    let reply = print::stl(
+    let memory = Memory {
         counts,
         points,
         planes,
         elements,
-        ElementId(root as usize),
-        file,
-    );
+    };
+    let reply = print::stl(memory, ElementId(root as usize), file);
     list_word(reply) as u64
 }

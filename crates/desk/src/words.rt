@@ -1,20 +1,34 @@
 // Numbers of a host as the engine's values, and replies as one number.
 ghost use Rattle.std.specs.Prelude.{◌≤◌, ◌≡◌};
+ghost use Rattle.rules.specs.Refusals.{refusal_number, reply_number};
 ghost use Rattle.rules.specs.CutLists.{most_cuts, answers_written};
 ghost use Rattle.rules.specs.Touch.{touch_value};
 ghost use Rattle.space.specs.Numbers.{NumberBelow};
 ghost use Rattle.desk.specs.Words.{written_word, size_word, SizeFits, touch_word, CountFits, fate_by, rank_byte};
 
-use rules::{CutListReply, ListReply, PolytopeFate, Touch, TouchReply};
+use rules::{CutListReply, PolytopeFate, Refusal, Reply, Touch, Touched};
 
 // 0 removes a side, and any other number keeps it.
 pub fn fate(kept: u32) -> PolytopeFate
     ensures { result ≡ fate_by kept }
 {
-    if kept == 0 {
-        return PolytopeFate::Remove;
+    PolytopeFate::from(kept != 0)
+}
+
+pub fn refused(refusal: Refusal) -> u32
+    ensures { NumberBelow result (refusal_number refusal) 0x100 }
+{
+    u8::from(refusal) as u32
+}
+
+// The number of a reply that has nothing else to tell.
+pub fn number(reply: Reply<()>) -> u32
+    ensures { result ≡ reply_number reply }
+{
+    match reply {
+        Ok(()) => 0,
+        Err(refusal) => refused(refusal),
     }
-    PolytopeFate::Keep
 }
 
 // A rank that no byte holds is nobody's, as 255 is.
@@ -33,20 +47,20 @@ pub fn written_word(r: CutListReply) -> u32
     ensures { result ≡ written_word r }
 {
     match r {
-        CutListReply::Refused(no) => no as u32,
-        CutListReply::Stopped { number, position } => number as u32 + position as u32 * 0x100,
+        CutListReply::Refused(refusal) => refused(refusal),
+        CutListReply::Stopped { refusal, position } => refused(refusal) + position as u32 * 0x100,
         CutListReply::Answered(n) => n as u32 * 0x100,
     }
 }
 
 // The reply's number, or the size of the list above its eight bits.
-pub fn list_word(r: ListReply) -> u32
+pub fn list_word(r: Reply<usize>) -> u32
     requires { SizeFits r }
     ensures { result ≡ size_word r }
 {
     match r {
-        ListReply::Refused(no) => no as u32,
-        ListReply::Listed(n) => n as u32 * 0x100,
+        Err(refusal) => refused(refusal),
+        Ok(n) => n as u32 * 0x100,
     }
 }
 
@@ -61,15 +75,12 @@ fn touch_value(answer: Touch) -> u32
     }
 }
 
-pub fn touch_word(reply: TouchReply) -> u32
+pub fn touch_word(reply: Reply<Touched>) -> u32
     requires { CountFits reply }
     ensures { result ≡ touch_word reply }
 {
     match reply {
-        TouchReply::Refused(no) => no as u32,
-        TouchReply::Touched { answer, tested } => {
-            let value = touch_value(answer);
-            value * 0x100 + tested as u32 * 0x10000
-        }
+        Err(refusal) => refused(refusal),
+        Ok(touched) => touch_value(touched.answer) * 0x100 + touched.tested as u32 * 0x10000,
     }
 }

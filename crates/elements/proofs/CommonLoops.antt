@@ -8,8 +8,8 @@ use native.Mathlib.Numerals.{add-one}
 use native.Mathlib.Omega.{arith}
 use lib.Bits.{bit_and, and_shr, and_mod}
 use lib.Dec.{eqb, ltb}
-use lib.ListN.{length, get_or, drop, set, length-set, drop_of_length-le}
-use lib.Seq.{get_or-set_same, get_or-set_other, drop-cons}
+use lib.ListN.{length, get_or, take, drop, set, length-set, drop_of_length-le}
+use lib.Seq.{get_or-set_same, get_or-set_other, drop-cons, get_or-drop, get_or-take}
 use Rattle.rules.specs.Lists.{all}
 use Rattle.rules.specs.Table.{Table, element_count, rank}
 use Rattle.rules.specs.Questions.{no_answer, answer, is_below, common_with_rank, some_or, greatest_from, greatest_common}
@@ -22,6 +22,7 @@ use Rattle.elements.specs.Ranks.{OfRank, AllUsed, Common, Greatest}
 use Rattle.elements.proofs.MarkLaws.{marked_high}
 use Rattle.elements.proofs.MemberLaws.{members_are, true_below}
 use Rattle.elements.proofs.BelowLoops.{in_room_lem, lent_rank, none_below}
+use Rattle.rules.specs.declared.Refusal.TheVariants.{Rank}
 
 -- ---- two sets, word by word
 
@@ -97,6 +98,9 @@ used_in_room es e w = in_room_lem es w.table w.lent e w.used
 -- the marks, and the roots from i on, are all roots
 pub record Narrowing (es roots : List ℕ) (i : ℕ) (ws : List ℕ) : Type 0 where
   pub of : (t : Table) → Lent es t → all (λ e. ltb e (element_count t)) roots ≡ true → (x : ℕ) → (is_marked ws x && all (λ e. is_below t e x) (drop i roots)) ≡ all (λ e. is_below t e x) roots
+
+pub root_behind : (roots : List ℕ) (i x : ℕ) → i + 1 < length roots → x ≡ get_or (take (length roots - 1) (drop 1 roots)) i 0 → x ≡ get_or roots (i + 1) 0
+root_behind roots i x h e = e ∙ get_or-take (length roots - 1) (drop 1 roots) i 0 (omega (arith, h)) ∙ get_or-drop 1 roots i 0 ∙ ap (λ (k : ℕ). get_or roots k 0) (let z : 1 + i ≡ i + 1 = omega arith in z)
 
 pub narrowing_start : (es roots : List ℕ) (r : ℕ) (ws : List ℕ) → 0 < length roots → r ≡ get_or roots 0 0 → Below es r ws → Narrowing es roots 1 ws
 narrowing_start es roots r ws h q b = record {
@@ -208,7 +212,7 @@ all_ranks es t lent k (e ∷ roots) u =
     ap₂ (λ (a b : Bool). a && b) (ap (λ (n : ℕ). eqb n k) (lent_rank es t lent e (le_test (suc e) (element_count t) (and_left (ltb e (element_count t)) (all (λ y. ltb y (element_count t)) roots) u))))
     (all_ranks es t lent k roots (and_right (ltb e (element_count t)) (all (λ y. ltb y (element_count t)) roots) u))
 
-pub no_roots : (t : Table) (roots : List ℕ) → length roots ≡ 0 → no_answer 6 ≡ greatest_common t roots
+pub no_roots : (t : Table) (roots : List ℕ) → length roots ≡ 0 → no_answer Rank ≡ greatest_common t roots
 unfolding greatest_common
 no_roots t [] h = refl
 no_roots t (e ∷ roots) h = absurd (omega (arith, h))
@@ -226,10 +230,10 @@ module _ (es : List ℕ) (t : Table) (lent : Lent es t) (k : ℕ) where
       ∙ sym (all_ranks es t lent k (e ∷ roots) u)
 
   pub unlike_roots : (roots : List ℕ) → all (λ y. ltb y (element_count t)) roots ≡ true → k ≡ get_or es (get_or roots 0 0 * 36) 0
-      → all (λ y. eqb (get_or es (y * 36) 0) k) roots ≡ false → no_answer 6 ≡ greatest_common t roots
+      → all (λ y. eqb (get_or es (y * 36) 0) k) roots ≡ false → no_answer Rank ≡ greatest_common t roots
   unfolding greatest_common
   unlike_roots [] u q f = refl
-  unlike_roots (e ∷ roots) u q f = sym (if_false (all (λ y. eqb (rank t y) (rank t e)) roots) (answer (greatest_from t (rank t e) (e ∷ roots))) (no_answer 6) (one_rank e roots u q ∙ f))
+  unlike_roots (e ∷ roots) u q f = sym (if_false (all (λ y. eqb (rank t y) (rank t e)) roots) (answer (greatest_from t (rank t e) (e ∷ roots))) (no_answer Rank) (one_rank e roots u q ∙ f))
 
   pub greatest_answered : (roots ws out : List ℕ) → all (λ y. ltb y (element_count t)) roots ≡ true → 0 < length roots → k ≡ get_or es (get_or roots 0 0 * 36) 0
       → all (λ y. eqb (get_or es (y * 36) 0) k) roots ≡ true → Common es roots ws → Greatest es ws k out → answer (marked_numbers out) ≡ greatest_common t roots
@@ -237,4 +241,4 @@ module _ (es : List ℕ) (t : Table) (lent : Lent es t) (k : ℕ) where
   greatest_answered [] ws out u s q f c g = absurd (not-suc-le-zero s)
   greatest_answered (e ∷ roots) ws out u s q f c g =
       ap answer (g.of t (e ∷ roots) lent u s (c.of t lent u) ∙ ap (λ (j : ℕ). greatest_from t j (e ∷ roots)) (first_rank e roots u q))
-      ∙ sym (if_true (all (λ y. eqb (rank t y) (rank t e)) roots) (answer (greatest_from t (rank t e) (e ∷ roots))) (no_answer 6) (one_rank e roots u q ∙ f))
+      ∙ sym (if_true (all (λ y. eqb (rank t y) (rank t e)) roots) (answer (greatest_from t (rank t e) (e ∷ roots))) (no_answer Rank) (one_rank e roots u q ∙ f))

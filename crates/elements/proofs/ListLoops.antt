@@ -1,5 +1,6 @@
 -- The room behind what is listed takes what is left to list: after each step the whole list is still what is to come.
 use Prim.Native.Nat.{ℕ, suc, ◌+◌, ◌*◌, ◌-◌, ◌/◌, ◌^◌, ◌<◌, ◌≤◌}
+use mathlib.Core.Bool.{Bool, true, false}
 use mathlib.Core.List.{List, [], ◌∷◌, ◌++◌}
 use mathlib.Core.Path.{◌≡◌, refl, sym, ap, ap₂, ◌∙◌}
 use native.Mathlib.Numerals.{add-one}
@@ -10,10 +11,13 @@ use lib.ListN.{length, get_or, set, drop, length-set, length-append}
 use lib.Seq.{sets, sets-eq, length-sets}
 use Rattle.rules.specs.Questions.{answer}
 use Rattle.rules.specs.Replies.{listed}
-use Rattle.rules.specs.declared.ListReply.TheVariants.{Refused, Listed}
-use Rattle.rules.proofs.Laws.{if_true, if_false, test_le, test_above}
+use Rattle.rules.specs.Refusals.{Reply}
+use Rattle.rules.specs.declared.Refusal.{Refusal}
+use Rattle.rules.proofs.Laws.{if_true, if_false, test_le, test_above, le_test, not_both}
 use Rattle.elements.specs.Marks.{bits_from, words_from, marked_numbers, CountOf, WordListed}
 use Rattle.elements.proofs.WordLoops.{Leaving, numbers_left, leaving_start, all_left, none_left, next_left, leaving_next, next_word, no_words}
+use Rattle.rules.specs.declared.Refusal.TheVariants.{RoomShort}
+use Rattle.std.specs.Prelude.{Ok, Err}
 
 -- ---- one word
 
@@ -131,10 +135,53 @@ counting_end ws n w e k =
 
 -- ---- the reply
 
-pub no_room : (xs l : List ℕ) (n : ℕ) → n ≡ length xs → length l < n → (Refused 12, l) ≡ listed (answer xs) l
-no_room xs l n e h = sym (if_false (leb (length xs) (length l)) (Listed (length xs), xs ++ drop (length xs) l) (Refused 12, l) (test_above (length xs) (length l) (omega (arith, e, h))))
+pub no_room : (xs l : List ℕ) (n : ℕ) → n ≡ length xs → length l < n → (Err RoomShort, l) ≡ listed (answer xs) l
+no_room xs l n e h = sym (if_false (leb (length xs) (length l)) (Ok (length xs), xs ++ drop (length xs) l) (Err RoomShort, l) (test_above (length xs) (length l) (omega (arith, e, h))))
 
-pub in_front : (xs l l' : List ℕ) (n : ℕ) → n ≡ length xs → n ≤ length l → l' ≡ sets l 0 xs → (Listed n, l') ≡ listed (answer xs) l
+pub in_front : (xs l l' : List ℕ) (n : ℕ) → n ≡ length xs → n ≤ length l → l' ≡ sets l 0 xs → (Ok n, l') ≡ listed (answer xs) l
 in_front xs l l' n e h q =
-    ap₂ (λ (k : ℕ) (m : List ℕ). (Listed k, m)) e (q ∙ sets-eq xs l 0 (omega (arith, e, h)) ∙ ap (λ (k : ℕ). xs ++ drop k l) (let z : 0 + length xs ≡ length xs = omega arith in z))
-    ∙ sym (if_true (leb (length xs) (length l)) (Listed (length xs), xs ++ drop (length xs) l) (Refused 12, l) (test_le (length xs) (length l) (omega (arith, e, h))))
+    ap₂ (λ (k : ℕ) (m : List ℕ). (Ok k, m)) e (q ∙ sets-eq xs l 0 (omega (arith, e, h)) ∙ ap (λ (k : ℕ). xs ++ drop k l) (let z : 0 + length xs ≡ length xs = omega arith in z))
+    ∙ sym (if_true (leb (length xs) (length l)) (Ok (length xs), xs ++ drop (length xs) l) (Err RoomShort, l) (test_le (length xs) (length l) (omega (arith, e, h))))
+
+-- ---- what is read from the reply
+
+pub record Fitted (xs l l' : List ℕ) (n : ℕ) : Type 0 where
+  pub size : n ≡ length xs
+  pub room : n ≤ length l
+  pub list : l' ≡ sets l 0 xs
+
+abbrev how_many : Reply ℕ → ℕ
+how_many (Ok n) = n
+how_many (Err x) = 0
+
+module _ (xs l l' : List ℕ) (r : Reply ℕ) (told : (r, l') ≡ listed (answer xs) l) where
+  with_room : leb (length xs) (length l) ≡ true → ◌≡◌ {A = Reply ℕ × List ℕ} (r, l') (Ok (length xs), xs ++ drop (length xs) l)
+  with_room e = told ∙ if_true (leb (length xs) (length l)) (Ok (length xs), xs ++ drop (length xs) l) (Err RoomShort, l) e
+
+  without_room : leb (length xs) (length l) ≡ false → ◌≡◌ {A = Reply ℕ × List ℕ} (r, l') (Err RoomShort, l)
+  without_room e = told ∙ if_false (leb (length xs) (length l)) (Ok (length xs), xs ++ drop (length xs) l) (Err RoomShort, l) e
+
+  pub fitted : (n : ℕ) → r ≡ Ok n → Fitted xs l l' n
+  fitted n q = go (leb (length xs) (length l)) refl
+    where
+      go : (b : Bool) → leb (length xs) (length l) ≡ b → Fitted xs l l' n
+      go true e =
+          let size : n ≡ length xs = sym (ap how_many q) ∙ ap (λ (p : Reply ℕ × List ℕ). how_many p.0) (with_room e) in
+          let room = le_test (length xs) (length l) e in
+          record {
+            size = size;
+            room = omega (arith, size, room);
+            list = ap (λ (p : Reply ℕ × List ℕ). p.1) (with_room e) ∙ sym (sets-eq xs l 0 (omega (arith, room)) ∙ ap (λ (k : ℕ). xs ++ drop k l) (let z : 0 + length xs ≡ length xs = omega arith in z));
+          }
+      go false e = not_both (sym (ap (λ (p : Reply ℕ × List ℕ). p.0) (without_room e)) ∙ q)
+
+  -- any list as long has the same refusal
+  pub refused_alike : (x : Refusal) → r ≡ Err x → (ys : List ℕ) → length ys ≡ length xs → (Err x, l') ≡ listed (answer ys) l
+  refused_alike x q ys s = go (leb (length xs) (length l)) refl
+    where
+      go : (b : Bool) → leb (length xs) (length l) ≡ b → (Err x, l') ≡ listed (answer ys) l
+      go true e = not_both (sym q ∙ ap (λ (p : Reply ℕ × List ℕ). p.0) (with_room e))
+      go false e =
+          ap (λ (k : Reply ℕ). (k, l')) (sym q)
+          ∙ without_room e
+          ∙ sym (if_false (leb (length ys) (length l)) (Ok (length ys), ys ++ drop (length ys) l) (Err RoomShort, l) (ap (λ (k : ℕ). leb k (length l)) s ∙ e))

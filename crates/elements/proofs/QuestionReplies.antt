@@ -12,16 +12,17 @@ use Rattle.rules.specs.Memory.{Memory, decode, sound_memory}
 use Rattle.rules.specs.Held.{memory_of}
 use Rattle.rules.specs.Questions.{Asked, answer, sub_elements, with_rank, vertex_set, greatest_common}
 use Rattle.rules.specs.Replies.{asked, listed, sub_elements_reply, with_rank_reply, vertex_set_reply, greatest_common_reply}
-use Rattle.rules.specs.declared.ListReply.{ListReply}
-use Rattle.rules.specs.declared.ListReply.TheVariants.{Refused}
 use Rattle.rules.proofs.Laws.{le_test, and_left}
 use Rattle.space.proofs.Lent.{memory_sound_table}
 use Rattle.space.proofs.RowAdds.{readable_desk}
-use Rattle.soundness.specs.Asked.{refusal}
+use Rattle.soundness.specs.Asked.{roots_asked}
 use Rattle.soundness.proofs.AskedOnce as once
 use Rattle.soundness.proofs.AskedOnce.{table, held, goes_on, question_is}
 use Rattle.elements.specs.Below.{Lent, Used}
 use Rattle.elements.specs.Ranks.{AllUsed}
+use Rattle.rules.specs.Refusals.{Reply}
+use Rattle.std.specs.Prelude.{Err, Ok}
+use Rattle.rules.specs.declared.Refusal.{Refusal}
 
 module _ (cs : List ℕ) (ps hs : List Float) (es : List ℕ) where
   abbrev memory : Memory
@@ -32,12 +33,12 @@ module _ (cs : List ℕ) (ps hs : List Float) (es : List ℕ) where
       let H = held cs ps hs es s in record { elements = H.elements; fits = H.fits; sound = memory_sound_table desk readable_desk memory s }
 
   -- r is what the code found
-  module _ (roots : List ℕ) (r : ℕ) (e : r ≡ refusal memory roots) where
-    pub refused : (q : Asked (List ℕ)) (l : List ℕ) → (r ≡ 0 → ⊥) → (Refused r, l) ≡ listed (asked desk memory roots q) l
-    refused q l z = ap (λ (x : Asked (List ℕ)). listed x l) (once.refused cs ps hs es roots r e q z)
+  module _ (roots : List ℕ) (r : Reply (Unit {0})) (e : r ≡ roots_asked memory roots) where
+    pub refused : (q : Asked (List ℕ)) (l : List ℕ) (x : Refusal) → r ≡ Err x → (Err x, l) ≡ listed (asked desk memory roots q) l
+    refused q l x z = ap (λ (a : Asked (List ℕ)). listed a l) (once.refused cs ps hs es roots r e q x z)
 
-    module _ (z : r ≡ 0) where
-      pub answered : (q : Asked (List ℕ)) (l : List ℕ) (x : ListReply × List ℕ) → x ≡ listed q l → x ≡ listed (asked desk memory roots q) l
+    module _ (z : r ≡ Ok tt) where
+      pub answered : (q : Asked (List ℕ)) (l : List ℕ) (x : Reply ℕ × List ℕ) → x ≡ listed q l → x ≡ listed (asked desk memory roots q) l
       answered q l x h = h ∙ ap (λ (y : Asked (List ℕ)). listed y l) (question_is cs ps hs es roots r e z q)
 
       pub roots_used : AllUsed es roots
@@ -47,7 +48,7 @@ module _ (cs : List ℕ) (ps hs : List Float) (es : List ℕ) where
 
 -- what is asked of a table and a root, and the whole reply
 pub record RootQuestion : Type 0 where
-  pub reply : Memory → ℕ → List ℕ → ListReply × List ℕ
+  pub reply : Memory → ℕ → List ℕ → Reply ℕ × List ℕ
   pub asks : Table → ℕ → List ℕ
   pub is : (m : Memory) (e : ℕ) (l : List ℕ) → listed (asked desk m (e ∷ []) (answer (asks (decode desk m) e))) l ≡ reply m e l
 
@@ -72,11 +73,11 @@ with_rank_lem k = record { reply = λ m e l. with_rank_reply desk m k e l; asks 
 abbrev pub vertices : RootQuestion
 vertices = record { reply = vertex_set_reply desk; asks = vertex_set; is = vertex_set_is }
 
-module _ (cs : List ℕ) (ps hs : List Float) (es : List ℕ) (root r : ℕ) (e : r ≡ refusal (memory_of cs ps hs es) (root ∷ [])) where
-  pub root_refused : (Q : RootQuestion) (l : List ℕ) → (r ≡ 0 → ⊥) → (Refused r, l) ≡ Q.reply (memory_of cs ps hs es) root l
-  root_refused Q l z = refused cs ps hs es (root ∷ []) r e (answer (Q.asks (table cs ps hs es) root)) l z ∙ Q.is (memory_of cs ps hs es) root l
+module _ (cs : List ℕ) (ps hs : List Float) (es : List ℕ) (root : ℕ) (r : Reply (Unit {0})) (e : r ≡ roots_asked (memory_of cs ps hs es) (root ∷ [])) where
+  pub root_refused : (Q : RootQuestion) (l : List ℕ) (x : Refusal) → r ≡ Err x → (Err x, l) ≡ Q.reply (memory_of cs ps hs es) root l
+  root_refused Q l x z = refused cs ps hs es (root ∷ []) r e (answer (Q.asks (table cs ps hs es) root)) l x z ∙ Q.is (memory_of cs ps hs es) root l
 
-  module _ (z : r ≡ 0) where
+  module _ (z : r ≡ Ok tt) where
     used : root < element_count (table cs ps hs es)
     used = le_test (suc root) (element_count (table cs ps hs es)) (and_left (ltb root (element_count (table cs ps hs es))) true (goes_on cs ps hs es (root ∷ []) r e z).1)
 
@@ -86,7 +87,7 @@ module _ (cs : List ℕ) (ps hs : List Float) (es : List ℕ) (root r : ℕ) (e 
     pub root_used : Used es root
     root_used = record { table = table cs ps hs es; lent = lent; used = used }
 
-    pub root_answered : (Q : RootQuestion) (l xs : List ℕ) (x : ListReply × List ℕ) → x ≡ listed (answer xs) l
+    pub root_answered : (Q : RootQuestion) (l xs : List ℕ) (x : Reply ℕ × List ℕ) → x ≡ listed (answer xs) l
         → ((t : Table) → Lent es t → root < element_count t → xs ≡ Q.asks t root) → x ≡ Q.reply (memory_of cs ps hs es) root l
     root_answered Q l xs x h q =
         answered cs ps hs es (root ∷ []) r e z (answer (Q.asks (table cs ps hs es) root)) l x
@@ -99,11 +100,11 @@ greatest_is : (m : Memory) (roots l : List ℕ) → listed (asked desk m roots (
 unfolding greatest_common_reply
 greatest_is m roots l = refl
 
-module _ (cs : List ℕ) (ps hs : List Float) (es roots : List ℕ) (r : ℕ) (e : r ≡ refusal (memory_of cs ps hs es) roots) (l : List ℕ) where
-  pub roots_refused : (r ≡ 0 → ⊥) → (Refused r, l) ≡ greatest_common_reply desk (memory_of cs ps hs es) roots l
-  roots_refused z = refused cs ps hs es roots r e (greatest_common (table cs ps hs es) roots) l z ∙ greatest_is (memory_of cs ps hs es) roots l
+module _ (cs : List ℕ) (ps hs : List Float) (es roots : List ℕ) (r : Reply (Unit {0})) (e : r ≡ roots_asked (memory_of cs ps hs es) roots) (l : List ℕ) where
+  pub roots_refused : (x : Refusal) → r ≡ Err x → (Err x, l) ≡ greatest_common_reply desk (memory_of cs ps hs es) roots l
+  roots_refused x z = refused cs ps hs es roots r e (greatest_common (table cs ps hs es) roots) l x z ∙ greatest_is (memory_of cs ps hs es) roots l
 
-  pub roots_answered : r ≡ 0 → (q : Asked (List ℕ)) (x : ListReply × List ℕ) → x ≡ listed q l
+  pub roots_answered : r ≡ Ok tt → (q : Asked (List ℕ)) (x : Reply ℕ × List ℕ) → x ≡ listed q l
       → ((t : Table) → Lent es t → all (λ y. ltb y (element_count t)) roots ≡ true → q ≡ greatest_common t roots) → x ≡ greatest_common_reply desk (memory_of cs ps hs es) roots l
   roots_answered z q x h f =
       let g = goes_on cs ps hs es roots r e z in

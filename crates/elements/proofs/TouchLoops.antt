@@ -1,5 +1,5 @@
 -- What is left of the corners makes of what was tested so far what all of them make of nothing; and that is what the rules read from the sides of the vertex set.
-use Rattle.std.specs.Prelude.{if◌then◌else◌}
+use Rattle.std.specs.Prelude.{if◌then◌else◌, Ok}
 use Prim.Native.Nat.{ℕ, suc, ◌+◌, ◌*◌, ◌-◌, ◌/◌, ◌^◌, ◌<◌, ◌≤◌}
 use mathlib.Core.Bool.{Bool, true, false, ◌&&◌, ◌||◌, true≢false}
 use mathlib.Core.List.{List, [], ◌∷◌, ◌++◌, map}
@@ -22,8 +22,6 @@ use Rattle.rules.specs.Touch.{vertex_side, corner_sides, is_inside, is_outside, 
 use Rattle.rules.specs.declared.Hyperplane.{Hyperplane}
 use Rattle.rules.specs.declared.Side.{Side}
 use Rattle.rules.specs.declared.Side.TheVariants.{Inside, On, Outside}
-use Rattle.rules.specs.declared.TouchReply.{TouchReply}
-use Rattle.rules.specs.declared.TouchReply.TheVariants.{Touched}
 use Rattle.rules.proofs.Corners.{corner_named_lem}
 use Rattle.rules.proofs.Good.{Good, sound_good, above_zero}
 use Rattle.rules.proofs.Growing.{all_get, map_append}
@@ -44,6 +42,9 @@ use Rattle.elements.specs.declared.touch.Tested.{Tested}
 use Rattle.elements.proofs.MemberLaws.{word_marked}
 use Rattle.elements.proofs.WordLoops.{Leaving, numbers_left, leaving_start, all_left, none_left, next_inside, next_left, leaving_next, words_whole, next_word, no_words}
 use Rattle.elements.proofs.RankLoops.{vertex_named, wanted_used, wanted_rank, map_ranked}
+use Rattle.rules.specs.Refusals.{Reply}
+use Rattle.rules.specs.declared.Touched.{Touched}
+use Rattle.rules.specs.Touch.{touch_with}
 
 -- ---- in rising order, until both have been met
 
@@ -179,8 +180,8 @@ module _ (d : ℕ) (h : Hyperplane) (ps : List Float) (es : List ℕ) where
 
 -- ---- what that tells
 
-abbrev answer_of : Tested → TouchReply
-answer_of s = Touched (touch_by s.inside s.outside) s.corners
+abbrev answer_of : Tested → Reply Touched
+answer_of s = Ok (touch_with (touch_by s.inside s.outside) s.corners)
 
 abbrev begun : Bool → Bool → ℕ → Tested
 begun i o k = record { inside = i; outside = o; corners = k }
@@ -188,24 +189,24 @@ begun i o k = record { inside = i; outside = o; corners = k }
 -- from any beginning at which not both have been met
 abbrev Told : List Side → Type 0
 Told ss = (i o : Bool) (k : ℕ) → (i && o) ≡ false
-    → answer_of (tested_to (begun i o k) ss) ≡ Touched (touch_by (i || any is_inside ss) (o || any is_outside ss)) (k + tested_from i o ss)
+    → answer_of (tested_to (begun i o k) ss) ≡ Ok (touch_with (touch_by (i || any is_inside ss) (o || any is_outside ss)) (k + tested_from i o ss))
 
 module _ (ss : List Side) (k : ℕ) where
   -- both are met at this corner, or it goes on
-  last : answer_of (tested_to (begun true true (k + 1)) ss) ≡ Touched (touch_by true true) (k + 1)
+  last : answer_of (tested_to (begun true true (k + 1)) ss) ≡ Ok (touch_with (touch_by true true) (k + 1))
   last = sym (ap answer_of (stays (begun true true (k + 1)) ss refl))
 
   later : Told ss → (i o : Bool) → (i && o) ≡ false
-      → answer_of (tested_to (begun i o (k + 1)) ss) ≡ Touched (touch_by (i || any is_inside ss) (o || any is_outside ss)) (k + suc (tested_from i o ss))
+      → answer_of (tested_to (begun i o (k + 1)) ss) ≡ Ok (touch_with (touch_by (i || any is_inside ss) (o || any is_outside ss)) (k + suc (tested_from i o ss)))
   later told i o q =
-      told i o (k + 1) q ∙ ap (Touched (touch_by (i || any is_inside ss) (o || any is_outside ss))) (let z : k + 1 + tested_from i o ss ≡ k + suc (tested_from i o ss) = omega arith in z)
+      told i o (k + 1) q ∙ ap (λ (n : ℕ). Ok (touch_with (touch_by (i || any is_inside ss) (o || any is_outside ss)) n)) (let z : k + 1 + tested_from i o ss ≡ k + suc (tested_from i o ss) = omega arith in z)
 
 all_told : (ss : List Side) → Told ss
 unfolding tested_to tested_from
 all_told [] true true k q = absurd (true≢false q)
-all_told [] true false k q = ap (Touched (touch_by true false)) (sym (add-zero k))
-all_told [] false true k q = ap (Touched (touch_by false true)) (sym (add-zero k))
-all_told [] false false k q = ap (Touched (touch_by false false)) (sym (add-zero k))
+all_told [] true false k q = ap (λ (n : ℕ). Ok (touch_with (touch_by true false) n)) (sym (add-zero k))
+all_told [] false true k q = ap (λ (n : ℕ). Ok (touch_with (touch_by false true) n)) (sym (add-zero k))
+all_told [] false false k q = ap (λ (n : ℕ). Ok (touch_with (touch_by false false) n)) (sym (add-zero k))
 all_told (x ∷ ss) true true k q = absurd (true≢false q)
 all_told (Inside ∷ ss) true false k q = later ss k (all_told ss) true false refl
 all_told (On ∷ ss) true false k q = later ss k (all_told ss) true false refl
@@ -219,7 +220,7 @@ all_told (Outside ∷ ss) false false k q = later ss k (all_told ss) false true 
 
 sides_told : (ss : List Side) → answer_of (tested_to nothing_tested ss) ≡ touched ss
 unfolding touch_of
-sides_told ss = all_told ss false false 0 refl ∙ ap (Touched (touch_by (any is_inside ss) (any is_outside ss))) (let z : 0 + tested_from false false ss ≡ tested_from false false ss = omega arith in z)
+sides_told ss = all_told ss false false 0 refl ∙ ap (λ (n : ℕ). Ok (touch_with (touch_by (any is_inside ss) (any is_outside ss)) n)) (let z : 0 + tested_from false false ss ≡ tested_from false false ss = omega arith in z)
 
 -- ---- the corners of a root of a sound table
 
@@ -287,9 +288,9 @@ module _ {cs : List ℕ} {ps hs : List Float} {es : List ℕ} {t : Table} (H : H
 pub ready_corners : {cs : List ℕ} {ps : List Float} {es : List ℕ} {root : ℕ} {ws : List ℕ} → TouchReady cs ps es root → Level es root 0 ws → CornersReady ps es ws
 ready_corners {root = root} {ws} R v = corners_ready R.holds R.sound root R.used ws v
 
-pub finite_touched : {cs : List ℕ} {ps : List Float} {es : List ℕ} {h : Hyperplane} {root : ℕ} (ws : List ℕ) (d : ℕ) (s : Tested) {r : TouchReply}
-    → Level es root 0 ws → d ≡ get_or cs 0 0 → s ≡ tested_to nothing_tested (map (corner_side d h ps es) (marked_numbers ws)) → r ≡ answer_of s → FiniteTouched cs ps es h root r
+pub finite_touched : {cs : List ℕ} {ps : List Float} {es : List ℕ} {h : Hyperplane} {root : ℕ} (ws : List ℕ) (d : ℕ) (s : Tested) {r : Touched}
+    → Level es root 0 ws → d ≡ get_or cs 0 0 → s ≡ tested_to nothing_tested (map (corner_side d h ps es) (marked_numbers ws)) → r ≡ touch_with (touch_by s.inside s.outside) s.corners → FiniteTouched cs ps es h root r
 finite_touched {h = h} {root} ws d s v e q a = record {
-  of = λ hs t H k u. a ∙ ap answer_of (q ∙ ap (tested_to nothing_tested) (sides_are H k root u ws v d h (dimension_is d e H)))
+  of = λ hs t H k u. ap Ok a ∙ ap answer_of (q ∙ ap (tested_to nothing_tested) (sides_are H k root u ws v d h (dimension_is d e H)))
       ∙ sides_told (corner_sides (divider_of t.dimension h) t root);
 }

@@ -1,5 +1,5 @@
 -- How the corners of an element are tested against a plane, in rising order, by their marks. Definitions only.
-use Rattle.std.specs.Prelude.{ℕ, ◌+◌, ◌<◌, ◌≤◌, true, false, ◌&&◌, ◌≡◌, List, [], ◌∷◌, map, length, Float, if◌then◌else◌}
+use Rattle.std.specs.Prelude.{ℕ, ◌+◌, ◌<◌, ◌≤◌, true, false, ◌&&◌, ◌≡◌, List, [], ◌∷◌, map, length, Float, if◌then◌else◌, Ok}
 use Rattle.rules.specs.Limits.{desk}
 use Rattle.rules.specs.Lists.{member}
 use Rattle.rules.specs.Floats.{side_of}
@@ -11,12 +11,12 @@ use Rattle.rules.specs.Touch.{corner_sides, touched}
 use Rattle.rules.specs.declared.Hyperplane.{Hyperplane}
 use Rattle.rules.specs.declared.Side.{Side}
 use Rattle.rules.specs.declared.Side.TheVariants.{Inside, On, Outside}
-use Rattle.rules.specs.declared.TouchReply.{TouchReply}
 use Rattle.hypermath.specs.Answers.{distance_to}
 use Rattle.space.specs.Shared.{stored_point}
 use Rattle.elements.specs.Marks.{is_marked, bits_from}
 use Rattle.elements.specs.Ranks.{vertex_word}
 use Rattle.elements.specs.declared.touch.Tested.{Tested}
+use Rattle.rules.specs.declared.Touched.{Touched}
 
 -- ---- one corner
 
@@ -78,5 +78,5 @@ pub record TouchReady (cs : List ℕ) (ps : List Float) (es : List ℕ) (root : 
   pub used : root < element_count table
 
 -- whatever such table it is: what is read from the sides of the corners
-pub record FiniteTouched (cs : List ℕ) (ps : List Float) (es : List ℕ) (h : Hyperplane) (root : ℕ) (reply : TouchReply) : Type 0 where
-  pub of : (hs : List Float) (t : Table) → Holds desk cs ps hs es t → sound desk t ≡ true → root < element_count t → reply ≡ touched (corner_sides (divider_of t.dimension h) t root)
+pub record FiniteTouched (cs : List ℕ) (ps : List Float) (es : List ℕ) (h : Hyperplane) (root : ℕ) (reply : Touched) : Type 0 where
+  pub of : (hs : List Float) (t : Table) → Holds desk cs ps hs es t → sound desk t ≡ true → root < element_count t → Ok reply ≡ touched (corner_sides (divider_of t.dimension h) t root)

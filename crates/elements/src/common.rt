@@ -4,7 +4,7 @@ ghost use Rattle.rules.specs.Lists.{all};
 ghost use Rattle.elements.specs.Ranks.{AllUsed, SomeUsed, Common};
 
 use crate::below::below;
-use crate::marks::{Marks, both};
+use crate::marks::Marks;
 use rules::ElementId;
 use space::rows::rank_of;
 use space::words::wide;
@@ -13,12 +13,9 @@ pub fn all_of_rank(elements: &[u16], roots: &[u16], rank: usize) -> bool
     requires { AllUsed elements.now roots.now }
     ensures { result ≡ all (λ e. eqb (get_or elements.now (e * 36) 0) rank) roots.now }
 {
-    for i in 0..roots.len() {
-        if rank_of(elements, ElementId(wide(roots[i]))) != rank {
-            return false;
-        }
-    }
-    true
+    roots
+        .iter()
+        .all(|&root| rank_of(elements, ElementId(wide(root))) == rank)
 }
 
 pub fn common(elements: &[u16], roots: &[u16]) -> Marks
@@ -26,9 +23,9 @@ pub fn common(elements: &[u16], roots: &[u16]) -> Marks
     ensures { Common elements.now roots.now result.words }
 {
     let mut s = below(elements, ElementId(wide(roots[0])));
-    for i in 1..roots.len() {
-        let next = below(elements, ElementId(wide(roots[i])));
-        s = both(s, next);
+    for &root in &roots[1..] {
+        let next = below(elements, ElementId(wide(root)));
+        s = s.both(&next);
     }
     s
 }

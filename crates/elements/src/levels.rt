@@ -5,36 +5,35 @@ ghost use Rattle.elements.specs.Below.{Used};
 ghost use Rattle.elements.specs.Levels.{marking_under, WordReady, SetReady, Under, Level};
 
 use crate::below::mark_boundary;
-use crate::marks::{BITS, Marks, WORDS, mark, no_marks, zeros_below};
+use crate::marks::{BITS, Marks, WORDS, zeros_below};
 use rules::ElementId;
 use space::rows::rank_of;
 
-// The boundaries of the elements of a word's marks.
-fn mark_under_word(elements: &[u16], word: u64, base: usize, words: &mut [u64; 8])
+// The boundaries of the elements of a word's marks, by its zeros as document 01 asks: no number is looked at that is not marked.
+fn mark_under_word(elements: &[u16], word: u64, base: usize, marks: &mut Marks)
     requires { WordReady elements.now word base }
-    ensures { words.new ≡ marking_under elements.now words.old (bits_from 64 word base) }
+    ensures { marks.new.words ≡ marking_under elements.now marks.old.words (bits_from 64 word base) }
 {
     let mut left = word;
     let mut x = base;
     while left != 0 {
         let z = zeros_below(left);
-        mark_boundary(elements, ElementId(x + z), words);
+        mark_boundary(elements, ElementId(x + z), marks);
         left = (left >> z) >> 1;
         x = x + z + 1;
     }
 }
 
 // The boundaries of all elements of a set.
-fn one_under(elements: &[u16], s: Marks) -> Marks
-    requires { SetReady elements.now s.words }
-    ensures { Under elements.now s.words result.words }
+fn one_under(elements: &[u16], s: &Marks) -> Marks
+    requires { SetReady elements.now s.now.words }
+    ensures { Under elements.now s.now.words result.words }
 {
-    let set = s.words;
-    let mut words = [0u64; 8];
+    let mut marks = Marks::none();
     for w in 0..WORDS {
-        mark_under_word(elements, set[w], w * BITS, &mut words);
+        mark_under_word(elements, s.words[w], w * BITS, &mut marks);
     }
-    Marks { words }
+    marks
 }
 
 // The elements of a rank below a root, if any.
@@ -44,13 +43,12 @@ pub fn level(elements: &[u16], root: ElementId, rank: usize) -> Marks
 {
     let top = rank_of(elements, root);
     if top < rank {
-        return no_marks();
+        return Marks::none();
     }
-    let mut words = [0u64; 8];
-    mark(&mut words, root.0);
-    let mut s = Marks { words };
+    let mut s = Marks::none();
+    s.mark(root);
     for i in rank..top {
-        s = one_under(elements, s);
+        s = one_under(elements, &s);
     }
     s
 }

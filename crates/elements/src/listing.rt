@@ -6,21 +6,21 @@ ghost use Rattle.rules.specs.Replies.{listed};
 ghost use Rattle.elements.specs.Marks.{marked_numbers};
 ghost use Rattle.elements.specs.Ranks.{vertex_word, VerticesAsked};
 
-use crate::marks::{Marks, list_all, size};
-use rules::{ElementId, ListReply};
+use crate::marks::Marks;
+use rules::{ElementId, Refusal, Reply};
 use space::rows::boundary_at;
 use space::words::wide;
 
 // The numbers of a set, rising, or 12.
-pub fn list_marks(s: Marks, list: &mut [u16]) -> ListReply
-    ensures { (result, list.new) ≡ listed (answer (marked_numbers s.words)) list.old }
+pub fn list_marks(s: &Marks, list: &mut [u16]) -> Reply<usize>
+    ensures { (result, list.new) ≡ listed (answer (marked_numbers s.now.words)) list.old }
 {
-    let n = size(s);
+    let n = s.size();
     if list.len() < n {
-        return ListReply::Refused(12);
+        return Err(Refusal::RoomShort);
     }
-    list_all(s, list);
-    ListReply::Listed(n)
+    s.list_all(list);
+    Ok(n)
 }
 
 // In place of each of the first n vertex elements, the number of the vertex that it names.
@@ -34,15 +34,11 @@ fn name_vertices(elements: &[u16], list: &mut [u16], n: usize)
 }
 
 // The vertices that the elements of a set name, in the elements' order, or 12.
-pub fn list_vertices(elements: &[u16], s: Marks, list: &mut [u16]) -> ListReply
+pub fn list_vertices(elements: &[u16], s: &Marks, list: &mut [u16]) -> Reply<usize>
     requires { length elements.now ≡ 18432 }
-    ensures { (result, list.new) ≡ listed (answer (map (vertex_word elements.now) (marked_numbers s.words))) list.old }
+    ensures { (result, list.new) ≡ listed (answer (map (vertex_word elements.now) (marked_numbers s.now.words))) list.old }
 {
-    let n = size(s);
-    if list.len() < n {
-        return ListReply::Refused(12);
-    }
-    list_all(s, list);
+    let n = list_marks(s, list)?;
     name_vertices(elements, list, n);
-    ListReply::Listed(n)
+    Ok(n)
 }

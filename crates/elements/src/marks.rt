@@ -3,6 +3,8 @@ ghost use Rattle.std.specs.Prelude.{◌<◌, ◌≤◌, ◌≡◌, length};
 ghost use Rattle.std.proofs.lemmas.List.Edits.{sets};
 ghost use Rattle.elements.specs.Marks.{is_marked, marking, marked_numbers, CountOf, NoneMarked, Both, DownTo, ZerosBelow, ZerosAbove, WordFits, WordListed};
 
+use rules::ElementId;
+
 // How many words a set has, and how many marks a word.
 pub const WORDS: usize = 8;
 
@@ -11,45 +13,7 @@ pub const BITS: usize = 64;
 // A set of numbers below 512.
 #[derive(Clone, Copy)]
 pub struct Marks {
-    pub words: [u64; 8],
-}
-
-pub fn no_marks() -> Marks
-    ensures { NoneMarked result.words }
-{
-    let words = [0u64; 8];
-    Marks { words }
-}
-
-// The words are lent, so that a mark writes one of them and copies none.
-pub fn mark(words: &mut [u64; 8], i: usize)
-    requires { i < 512 }
-    ensures { words.new ≡ marking words.old i }
-{
-    let w = i / BITS;
-    let b = i % BITS;
-    words[w] = words[w] | (1u64 << b);
-}
-
-pub fn marked(words: &[u64; 8], i: usize) -> bool
-    requires { i < 512 }
-    ensures { result ≡ is_marked words.now i }
-{
-    let w = i / BITS;
-    let b = i % BITS;
-    (words[w] >> b) & 1 == 1
-}
-
-// Exactly what is in both sets.
-pub fn both(a: Marks, b: Marks) -> Marks
-    ensures { Both a.words b.words result.words }
-{
-    let mut words = a.words;
-    let other = b.words;
-    for w in 0..WORDS {
-        words[w] = words[w] & other[w];
-    }
-    Marks { words }
+    pub words: [u64; WORDS],
 }
 
 fn ones_of(x: u64) -> usize
@@ -70,28 +34,7 @@ fn zeros_above(x: u64) -> usize
     u64::leading_zeros(x) as usize
 }
 
-// From a number down to the highest mark of its word, or to the word's first number where there is none.
-pub fn down_to(words: &[u64; 8], i: usize) -> usize
-    requires { i < 512 }
-    ensures { DownTo words.now i result }
-{
-    let b = i % BITS;
-    let z = zeros_above(words[i / BITS] << (63 - b));
-    if z < b { i - z } else { i - b }
-}
-
-pub fn size(s: Marks) -> usize
-    ensures { result ≡ length (marked_numbers s.words) }
-{
-    let words = s.words;
-    let mut n = 0usize;
-    for w in 0..WORDS {
-        n = n + ones_of(words[w]);
-    }
-    n
-}
-
-// The numbers of a word's marks, in rising order; the place behind them.
+// The numbers of a word's marks, in rising order, by its zeros as document 01 asks; the place behind them.
 fn list_word(list: &mut [u16], from: usize, word: u64, base: usize) -> usize
     requires { WordFits list.old from word base }
     ensures { WordListed list.old from word base result list.new }
@@ -110,14 +53,72 @@ fn list_word(list: &mut [u16], from: usize, word: u64, base: usize) -> usize
     at
 }
 
-// The front of the list becomes the numbers of the set, in rising order.
-pub fn list_all(s: Marks, list: &mut [u16])
-    requires { length (marked_numbers s.words) ≤ length list.old }
-    ensures { list.new ≡ sets list.old 0 (marked_numbers s.words) }
-{
-    let words = s.words;
-    let mut at = 0usize;
-    for w in 0..WORDS {
-        at = list_word(list, at, words[w], w * BITS);
+impl Marks {
+    pub fn none() -> Self
+        ensures { NoneMarked result.words }
+    {
+        Marks { words: [0; WORDS] }
+    }
+
+    // One word is written, and none is copied.
+    pub fn mark(&mut self, e: ElementId)
+        requires { e.0 < 512 }
+        ensures { self.new.words ≡ marking self.old.words e.0 }
+    {
+        let w = e.0 / BITS;
+        let b = e.0 % BITS;
+        self.words[w] |= 1u64 << b;
+    }
+
+    pub fn has(&self, e: ElementId) -> bool
+        requires { e.0 < 512 }
+        ensures { result ≡ is_marked self.now.words e.0 }
+    {
+        let w = e.0 / BITS;
+        let b = e.0 % BITS;
+        (self.words[w] >> b) & 1 == 1
+    }
+
+    // From a number down to the highest mark of its word, or to the word's first number where there is none.
+    pub fn down_to(&self, e: ElementId) -> ElementId
+        requires { e.0 < 512 }
+        ensures { DownTo self.now.words e.0 result.0 }
+    {
+        let i = e.0;
+        let b = i % BITS;
+        let z = zeros_above(self.words[i / BITS] << (63 - b));
+        ElementId(if z < b { i - z } else { i - b })
+    }
+
+    // Exactly what is in both sets.
+    pub fn both(&self, other: &Marks) -> Marks
+        ensures { Both self.now.words other.now.words result.words }
+    {
+        let mut both = *self;
+        for w in 0..WORDS {
+            both.words[w] &= other.words[w];
+        }
+        both
+    }
+
+    pub fn size(&self) -> usize
+        ensures { result ≡ length (marked_numbers self.now.words) }
+    {
+        let mut n = 0usize;
+        for &word in &self.words {
+            n = n + ones_of(word);
+        }
+        n
+    }
+
+    // The front of the list becomes the numbers of the set, in rising order.
+    pub fn list_all(&self, list: &mut [u16])
+        requires { length (marked_numbers self.now.words) ≤ length list.old }
+        ensures { list.new ≡ sets list.old 0 (marked_numbers self.now.words) }
+    {
+        let mut at = 0usize;
+        for w in 0..WORDS {
+            at = list_word(list, at, self.words[w], w * BITS);
+        }
     }
 }

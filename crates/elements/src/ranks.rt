@@ -3,49 +3,49 @@ ghost use Rattle.std.specs.Prelude.{◌≡◌, length};
 ghost use Rattle.space.specs.Ready.{ElementReady};
 ghost use Rattle.elements.specs.Ranks.{one_more, OfRank, Greatest};
 
-use crate::marks::{Marks, down_to, mark, marked, no_marks, size};
+use crate::marks::Marks;
 use rules::ElementId;
 use space::rows::rank_of;
 use space::words::ELEMENTS;
 
-fn add_ranked(elements: &[u16], set: &[u64; 8], rank: usize, e: ElementId, out: &mut [u64; 8])
+fn add_ranked(elements: &[u16], set: &Marks, rank: usize, e: ElementId, out: &mut Marks)
     requires { ElementReady elements.now e.0 }
-    ensures { out.new ≡ one_more elements.now set.now rank e.0 out.old }
+    ensures { out.new.words ≡ one_more elements.now set.now.words rank e.0 out.old.words }
 {
-    if !marked(set, e.0) {
+    if !set.has(e) {
         return;
     }
     if rank_of(elements, e) != rank {
         return;
     }
-    mark(out, e.0);
+    out.mark(e);
 }
 
-fn with_rank(elements: &[u16], s: Marks, rank: usize) -> Marks
+// From one mark down to the next, by the zeros above it as document 01 asks.
+fn with_rank(elements: &[u16], s: &Marks, rank: usize) -> Marks
     requires { length elements.now ≡ 18432 }
-    ensures { OfRank elements.now s.words rank result.words }
+    ensures { OfRank elements.now s.now.words rank result.words }
 {
-    let set = s.words;
-    let mut words = [0u64; 8];
+    let mut some = Marks::none();
     let mut left = ELEMENTS;
     while 0 < left {
-        let e = down_to(&set, left - 1);
-        add_ranked(elements, &set, rank, ElementId(e), &mut words);
-        left = e;
+        let e = s.down_to(ElementId(left - 1));
+        add_ranked(elements, s, rank, e, &mut some);
+        left = e.0;
     }
-    Marks { words }
+    some
 }
 
 // Down rank by rank until some are marked; rank 0 is never looked at.
-pub fn greatest(elements: &[u16], s: Marks, rank: usize) -> Marks
+pub fn greatest(elements: &[u16], s: &Marks, rank: usize) -> Marks
     requires { length elements.now ≡ 18432 }
-    ensures { Greatest elements.now s.words rank result.words }
+    ensures { Greatest elements.now s.now.words rank result.words }
 {
     for i in 0..rank {
         let some = with_rank(elements, s, rank - i);
-        if 0 < size(some) {
+        if 0 < some.size() {
             return some;
         }
     }
-    no_marks()
+    Marks::none()
 }

@@ -1,18 +1,19 @@
 // Document 02, order 6: where the corners of an element lie to a plane, without a cut.
 ghost use Rattle.std.specs.Prelude.{◌+◌, ◌<◌, ◌&&◌, map, ◌≡◌};
 ghost use Rattle.rules.specs.Limits.{desk};
-ghost use Rattle.rules.specs.Held.{memory_of};
-ghost use Rattle.rules.specs.Touch.{touch_by, touch_reply};
+ghost use Rattle.rules.specs.Touch.{touch_by, touch_with, touch_reply};
+ghost use Rattle.space.specs.Lent.{lent};
 ghost use Rattle.elements.specs.Marks.{marked_numbers};
 ghost use Rattle.elements.specs.Touches.{corner_side, with_side, tested_to, nothing_tested, CornerReady, WordTestable, WordTested, CornersReady, TouchReady, FiniteTouched};
 
 use crate::levels::level;
-use crate::marks::{BITS, WORDS, zeros_below};
+use crate::marks::{BITS, Marks, WORDS, zeros_below};
 use hypermath::{side_of, signed_distance};
-use rules::{ElementId, Hyperplane, Side, Touch, TouchReply, VertexId};
+use rules::{ElementId, Hyperplane, Reply, Side, Touch, Touched, VertexId};
 use soundness::asked::{Asking, divider_asked};
 use space::chains::INDEX;
 use space::memo::read_point;
+use space::memory::Memory;
 use space::rows::boundary_at;
 use space::words::wide;
 
@@ -39,10 +40,7 @@ fn corner_side(points: &[f64], elements: &[u16], e: ElementId, d: usize, h: Hype
 fn both_met(s: Tested) -> bool
     ensures { result ≡ (s.inside && s.outside) }
 {
-    if s.inside {
-        return s.outside;
-    }
-    false
+    s.inside && s.outside
 }
 
 // One corner more.
@@ -54,23 +52,19 @@ fn with_side(s: Tested, side: Side) -> Tested
     match side {
         Side::Inside => Tested {
             inside: true,
-            outside: s.outside,
             corners,
+            ..s
         },
-        Side::On => Tested {
-            inside: s.inside,
-            outside: s.outside,
-            corners,
-        },
+        Side::On => Tested { corners, ..s },
         Side::Outside => Tested {
-            inside: s.inside,
             outside: true,
             corners,
+            ..s
         },
     }
 }
 
-// The corners of a word, in rising order, up to and with the first at which both an inside and an outside corner have been met.
+// The corners of a word, in rising order, by its zeros as document 01 asks, up to and with the first at which both an inside and an outside corner have been met.
 fn test_word(
     points: &[f64],
     elements: &[u16],
@@ -103,12 +97,12 @@ fn test_word(
 fn test_corners(
     points: &[f64],
     elements: &[u16],
-    words: &[u64; 8],
+    corners: &Marks,
     d: usize,
     h: Hyperplane,
 ) -> Tested
-    requires { CornersReady points.now elements.now words.now }
-    ensures { result ≡ tested_to nothing_tested (map (corner_side d h points.now elements.now) (marked_numbers words.now)) }
+    requires { CornersReady points.now elements.now corners.now.words }
+    ensures { result ≡ tested_to nothing_tested (map (corner_side d h points.now elements.now) (marked_numbers corners.now.words)) }
 {
     let mut s = Tested {
         inside: false,
@@ -116,29 +110,24 @@ fn test_corners(
         corners: 0,
     };
     for w in 0..WORDS {
-        s = test_word(points, elements, words[w], w * BITS, d, h, s);
+        s = test_word(points, elements, corners.words[w], w * BITS, d, h, s);
     }
     s
 }
 
-fn told(s: Tested) -> TouchReply
-    ensures { result ≡ TouchReply.Touched (touch_by s.inside s.outside) s.corners }
+fn told(s: Tested) -> Touched
+    ensures { result ≡ touch_with (touch_by s.inside s.outside) s.corners }
 {
-    let tested = s.corners;
-    if s.inside {
-        if s.outside {
-            let answer = Touch::Both;
-            return TouchReply::Touched { answer, tested };
-        }
-        let answer = Touch::InsideOrOn;
-        return TouchReply::Touched { answer, tested };
+    let answer = match (s.inside, s.outside) {
+        (false, false) => Touch::AllOn,
+        (true, false) => Touch::InsideOrOn,
+        (false, true) => Touch::OutsideOrOn,
+        (true, true) => Touch::Both,
+    };
+    Touched {
+        answer,
+        tested: s.corners,
     }
-    if s.outside {
-        let answer = Touch::OutsideOrOn;
-        return TouchReply::Touched { answer, tested };
-    }
-    let answer = Touch::AllOn;
-    TouchReply::Touched { answer, tested }
 }
 
 // The corners of the root, by their marks.
@@ -148,42 +137,32 @@ fn touch_finite(
     elements: &[u16],
     h: Hyperplane,
     root: ElementId,
-) -> TouchReply
+) -> Touched
     requires { TouchReady counts.now points.now elements.now root.0 }
     ensures { FiniteTouched counts.now points.now elements.now h root.0 result }
 {
     let s = level(elements, root, 0);
-    let words = s.words;
     let d = wide(counts[0]);
-    let tested = test_corners(points, elements, &words, d, h);
+    let tested = test_corners(points, elements, &s, d, h);
     told(tested)
 }
 
 // Rule 1: all on one side, and no corner is tested.
-fn all_on(answer: Touch) -> TouchReply
-    ensures { result ≡ TouchReply.Touched answer 0 }
+fn untested(answer: Touch) -> Touched
+    ensures { result ≡ touch_with answer 0 }
 {
-    let tested = 0;
-    TouchReply::Touched { answer, tested }
+    Touched { answer, tested: 0 }
 }
 
 // 3, 4, 5, then rule 1, and the corners. The memory is read only.
-pub fn touch(
-    counts: &[u16],
-    points: &[f64],
-    planes: &[f64],
-    elements: &[u16],
-    h: Hyperplane,
-    root: ElementId,
-) -> TouchReply
-    ensures { result ≡ touch_reply desk h root.0 (memory_of counts.now points.now planes.now elements.now) }
+pub fn touch(memory: Memory, h: Hyperplane, root: ElementId) -> Reply<Touched>
+    ensures { result ≡ touch_reply desk h root.0 (lent memory.entry) }
 {
     let mut index = [0u16; INDEX];
-    let asked = divider_asked(counts, points, planes, elements, &mut index, h, root);
-    match asked {
-        Asking::Refused(n) => TouchReply::Refused(n),
-        Asking::AllInside => all_on(Touch::InsideOrOn),
-        Asking::AllOutside => all_on(Touch::OutsideOrOn),
-        Asking::Finite => touch_finite(counts, points, elements, h, root),
-    }
+    let asked = divider_asked(memory, &mut index, h, root)?;
+    Ok(match asked {
+        Asking::AllInside => untested(Touch::InsideOrOn),
+        Asking::AllOutside => untested(Touch::OutsideOrOn),
+        Asking::Finite => touch_finite(memory.counts, memory.points, memory.elements, h, root),
+    })
 }

@@ -15,12 +15,8 @@ use Rattle.rules.specs.Table.{Element, Table, rank_of, rank, boundary, element, 
 use Rattle.rules.specs.Held.{Extends, Holds, Came, went, stopped, Sets, Ranked}
 use Rattle.rules.specs.Cut.{Outcome, done, next, give, Cutting, Gathered, corner_answer, nothing_yet, gathering, add_vertex, cross_edge, cut_ends, cut_edge, cut_element, rule6}
 use Rattle.rules.specs.declared.EdgeTest.{EdgeTest}
-use Rattle.rules.specs.declared.Crossing.{Crossing}
-use Rattle.rules.specs.declared.Crossing.TheVariants.{None as NoCrossing, At}
 use Rattle.rules.specs.declared.ElementId.{ElementId}
 use Rattle.rules.specs.declared.ElementAnswer.{ElementAnswer}
-use Rattle.gathered.specs.declared.answer.ElementReply.{ElementReply}
-use Rattle.gathered.specs.declared.answer.ElementReply.TheVariants as reply
 use Rattle.rules.proofs.Extends.{extends_trans, begins_length, count_more, element_same}
 use Rattle.rules.proofs.Good.{Good, sound_good, good_sound}
 use Rattle.rules.proofs.Ranked.{corner_answer_lem, sets_gathering, sets_none}
@@ -32,12 +28,11 @@ use Rattle.space.specs.Found.{placed_at}
 use Rattle.space.specs.Chains.{Indexed}
 use Rattle.space.specs.Ready.{BoundaryAtReady, VertexReady}
 use Rattle.space.specs.Shared.{VertexAdded}
-use Rattle.space.specs.declared.rows.Placed.{Placed}
-use Rattle.space.specs.declared.rows.Placed.TheVariants as placed
 use Rattle.space.proofs.Room.{list_of, list_bound, list_word_lem}
 use Rattle.space.proofs.VertexMemo.{dimension_is}
 use Rattle.space.proofs.Slices.{slices}
-use Rattle.gathered.specs.Sets.{warning_in, Shaped, Noted}
+use Rattle.gathered.specs.Sets.{warning_in, Noted}
+use Rattle.gathered.specs.declared.sets.Room.{Room}
 use Rattle.gathered.specs.Cutting.{Fit, cut_of, answered_by, Rule6Fit, Rule6Ready, Rule6Done}
 use Rattle.rules.specs.declared.Cutter.{Cutter}
 use Rattle.gathered.proofs.Steps.{told_by}
@@ -46,6 +41,10 @@ use Rattle.ends.specs.declared.EdgeEnds.{EdgeEnds}
 use Rattle.ends.specs.Elements.{Ready, LowAsked, LowLeft}
 use Rattle.ends.proofs.EndsGathered.{sized_more, Crossed}
 use Rattle.ends.proofs.Vertices as vertex
+use Rattle.std.specs.Prelude.{Option, Some, None, Ok, Err}
+use Rattle.rules.specs.Refusals.{Reply}
+use Rattle.rules.specs.declared.ElementCutOutput.{ElementCutOutput}
+use Rattle.rules.specs.declared.Refusal.{Refusal}
 
 -- ---- the crossing is matched or appended
 
@@ -60,7 +59,7 @@ fit_later {e = e} {t = t} {u} F x g H = record {
   ranked = ap rank_of (element_same t u e x F.used) ∙ F.ranked;
 }
 
-pub vertex_asked : {cs : List ℕ} {ps : List Float} {es ix : List ℕ} {e : ℕ} {k : Cutter} {s : List (List ℕ)} {x : List Float} → CrossedAsked cs ps es ix e k s x → VertexReady cs ps es ix
+pub vertex_asked : {cs : List ℕ} {ps : List Float} {es ix : List ℕ} {e : ℕ} {k : Cutter} {s : Room} {x : List Float} → CrossedAsked cs ps es ix e k s x → VertexReady cs ps es ix
 vertex_asked A =
     let H = A.ready.fit.fit.holds in
     record {
@@ -72,38 +71,38 @@ vertex_asked A =
       index = A.indexed;
     }
 
-abbrev number_of : Placed → ℕ
-number_of (placed.Refused n) = 0
-number_of (placed.At i) = i.0
+abbrev number_of : Reply ElementId → ℕ
+number_of (Err n) = 0
+number_of (Ok i) = i.0
 
-module _ {cs : List ℕ} {ps : List Float} {es : List ℕ} {e : ℕ} {k : Cutter} {s : List (List ℕ)} {x : List Float} {w : Placed} {cs' : List ℕ} {ps' : List Float} {es' : List ℕ}
+module _ {cs : List ℕ} {ps : List Float} {es : List ℕ} {e : ℕ} {k : Cutter} {s : Room} {x : List Float} {w : Reply ElementId} {cs' : List ℕ} {ps' : List Float} {es' : List ℕ}
     (N : VertexAdded cs ps es x w cs' ps' es') where
   module _ {hs : List Float} {t : Table} {p q : List Float} {f : Float} {g : Gathered} (X : CrossedFit cs ps hs es e k s x t p q f g) where
-    added : Came placed_at placed.Refused (Holds desk cs' ps' hs es') t (add_vertex desk (crossing_point f p q) t) w
+    added : Came placed_at Err (Holds desk cs' ps' hs es') t (add_vertex desk (crossing_point f p q) t) w
     added = N.of hs t (crossing_point f p q) X.fit.holds X.fit.sound X.point (crossing_sound f t.dimension p q X.first X.second)
 
-    crossing_kept : Stays desk (Sets 0) t (cross_edge desk p q (At f) g t)
-    crossing_kept = cross_stays desk (cut_of t.dimension k) p q (At f) g t (sound_good desk t X.fit.sound) X.first X.second X.sets
+    crossing_kept : Stays desk (Sets 0) t (cross_edge desk p q (Some f) g t)
+    crossing_kept = cross_stays desk (cut_of t.dimension k) p q (Some f) g t (sound_good desk t X.fit.sound) X.first X.second X.sets
 
     -- the edge, once its crossing is vertex element i
     record Left (i : ℕ) : Type 0 where
       pub table : Table
-      pub ended : cross_edge desk p q (At f) g t ≡ done (crossed_of i g) table
+      pub ended : cross_edge desk p q (Some f) g t ≡ done (crossed_of i g) table
       pub kept : Kept desk (Sets 0) t (crossed_of i g) table
       pub holds : Holds desk cs' ps' hs es' table
 
     left : (i : ℕ) → w ≡ placed_at i → Left i
     left i h = go added
       where
-        go : Came placed_at placed.Refused (Holds desk cs' ps' hs es') t (add_vertex desk (crossing_point f p q) t) w → Left i
+        go : Came placed_at Err (Holds desk cs' ps' hs es') t (add_vertex desk (crossing_point f p q) t) w → Left i
         go (stopped j u o l n H) = let r : ◌≡◌ {A = ℕ} 0 1 = cc in absurd (omega arith)
         go (went j u o l H) =
             let r : j ≡ i = sym (ap number_of l) ∙ ap number_of h in
-            let z : cross_edge desk p q (At f) g t ≡ done (crossed_of i g) u = ap (λ (y : Outcome ℕ). next y (λ v. give (crossed_of v g))) (o ∙ ap (λ (n : ℕ). done n u) r) in
+            let z : cross_edge desk p q (Some f) g t ≡ done (crossed_of i g) u = ap (λ (y : Outcome ℕ). next y (λ v. give (crossed_of v g))) (o ∙ ap (λ (n : ℕ). done n u) r) in
             record { table = u; ended = z; kept = subst (Stays desk (Sets 0) t) z crossing_kept; holds = H }
 
     abbrev whole : Outcome ElementAnswer
-    whole = after_ends (cut_of t.dimension k) (element t e) (cross_edge desk p q (At f) g t)
+    whole = after_ends (cut_of t.dimension k) (element t e) (cross_edge desk p q (Some f) g t)
 
     module _ (i : ℕ) (Q : Left i) where
       -- it is in use, so its number is within the room
@@ -111,7 +110,7 @@ module _ {cs : List ℕ} {ps : List Float} {es : List ℕ} {e : ℕ} {k : Cutter
       left_low = le_trans Q.kept.value.flush.0.0 Q.holds.fits.element_room
 
       -- rule 6 may go on from its table
-      left_ready : {s' : List (List ℕ)} → Crossed s i s' → Rule6Fit cs' ps' hs es' 1 e k s' Q.table (crossed_of i g)
+      left_ready : {s' : Room} → Crossed s i s' → Rule6Fit cs' ps' hs es' 1 e k s' Q.table (crossed_of i g)
       left_ready C = record {
         fit = fit_later X.fit Q.kept.extends Q.kept.good Q.holds;
         some = lit≤ tt;
@@ -129,43 +128,43 @@ module _ {cs : List ℕ} {ps : List Float} {es : List ℕ} {e : ℕ} {k : Cutter
           ∙ ap₂ (λ (n : ℕ) (z : Element). rule6 desk (cut_of n k) z (crossed_of i g) (i ∷ []) Q.table)
           (sym Q.kept.extends.dimension) (sym (element_same t Q.table e Q.kept.extends X.fit.used))
 
-      after_left : {y : ElementReply} {cs'' es'' : List ℕ} → Came answered_by reply.Refused (Holds desk cs'' ps' hs es'') Q.table rest y
-          → Came answered_by reply.Refused (Holds desk cs'' ps' hs es'') t whole y
+      after_left : {y : Reply ElementCutOutput} {cs'' es'' : List ℕ} → Came answered_by Err (Holds desk cs'' ps' hs es'') Q.table rest y
+          → Came answered_by Err (Holds desk cs'' ps' hs es'') t whole y
       after_left (went a u o l H) = went a u (same ∙ o) l H
       after_left (stopped n u o l z H) = stopped n u (same ∙ o) l (extends_trans Q.kept.extends z) H
 
-    not_added : (n : ℕ) → w ≡ placed.Refused n → Came placed_at placed.Refused (Holds desk cs' ps' hs es') t (add_vertex desk (crossing_point f p q) t) w
-        → Came answered_by reply.Refused (Holds desk cs' ps' hs es') t whole (reply.Refused n)
+    not_added : (n : Refusal) → w ≡ Err n → Came placed_at Err (Holds desk cs' ps' hs es') t (add_vertex desk (crossing_point f p q) t) w
+        → Came answered_by Err (Holds desk cs' ps' hs es') t whole (Err n)
     not_added n h (went j u o l H) = let r : ◌≡◌ {A = ℕ} 0 1 = cc in absurd (omega arith)
     not_added n h (stopped j u o l z H) =
         let r : n ≡ j = cc in
-        stopped j u (ap (λ (y : Outcome ℕ). after_ends (cut_of t.dimension k) (element t e) (next y (λ v. give (crossed_of v g)))) o) (ap reply.Refused r) z H
+        stopped j u (ap (λ (y : Outcome ℕ). after_ends (cut_of t.dimension k) (element t e) (next y (λ v. give (crossed_of v g)))) o) (ap Err r) z H
 
-  pub crossed_refused : {ix' : List ℕ} → CrossedReady cs ps es e k s x → Indexed es' (get_or cs' 1 0) ix' → (n : ℕ) → w ≡ placed.Refused n → CrossedLeft cs ps es e k s x (reply.Refused n) cs' ps' es' ix' s
+  pub crossed_refused : {ix' : List ℕ} → CrossedReady cs ps es e k s x → Indexed es' (get_or cs' 1 0) ix' → (n : Refusal) → w ≡ Err n → CrossedLeft cs ps es e k s x (Err n) cs' ps' es' ix' s
   crossed_refused R indexed n h = record {
     cut = record { of = λ hs t p q f g X. not_added X n h (added X) };
     indexed = indexed;
-    used = record { shaped = R.fit.sized.shaped; warning = refl };
+    used = record { warning = refl };
   }
 
-  module _ (v : ElementId) (h : w ≡ placed.At v) where
+  module _ (v : ElementId) (h : w ≡ Ok v) where
     -- the number fits a word
     pub crossed_low : CrossedReady cs ps es e k s x → v.0 < 512
     crossed_low R = left_low R.fit v.0 (left R.fit v.0 h)
 
-    module _ {s' : List (List ℕ)} (C : Crossed s v.0 s') where
+    module _ {s' : Room} (C : Crossed s v.0 s') where
       pub crossed_ready : {ix' : List ℕ} → CrossedReady cs ps es e k s x → Indexed es' (get_or cs' 1 0) ix' → Rule6Ready cs' es' ix' 1 e k s'
       crossed_ready R indexed =
           let Q = left R.fit v.0 h in
           record { points = ps'; planes = R.planes; table = Q.table; gathered = crossed_of v.0 R.gathered; fit = left_ready R.fit v.0 Q C; indexed = indexed }
 
-      pub crossed_done : {y : ElementReply} {cs'' es'' ix'' : List ℕ} {s'' : List (List ℕ)} → Rule6Done cs' es' 1 e k s' y cs'' es'' ix'' s'' → CrossedLeft cs ps es e k s x y cs'' ps' es'' ix'' s''
+      pub crossed_done : {y : Reply ElementCutOutput} {cs'' es'' ix'' : List ℕ} {s'' : Room} → Rule6Done cs' es' 1 e k s' y cs'' es'' ix'' s'' → CrossedLeft cs ps es e k s x y cs'' ps' es'' ix'' s''
       crossed_done D = record {
         cut = record {
           of = λ hs t p q f g X. (let Q = left X v.0 h in after_left X v.0 Q (D.of ps' hs Q.table (crossed_of v.0 g) (left_ready X v.0 Q C)));
         };
         indexed = D.indexed;
-        used = record { shaped = D.used.shaped; warning = D.used.warning ∙ C.warning };
+        used = record { warning = D.used.warning ∙ C.warning };
       }
 
 -- ---- what is read of an edge
@@ -212,8 +211,8 @@ module _ {ps : List Float} {es : List ℕ} {e : ℕ} (R : EndsReady ps es e) whe
   end_asked i x l h = vertex.point_asked (end_fit R.fit i x l h)
 
   -- both numbers are within the room
-  pub ends_asked : {r : EdgeEnds} {s : List (List ℕ)} → EndsRead ps es e r → Shaped s → EndsAsked r.a.0 r.b.0 s
-  ends_asked E S = record { first = (end_asked 0 _ (lit≤ tt) E.first).low; second = (end_asked 1 _ (lit≤ tt) E.second).low; shaped = S }
+  pub ends_asked : {r : EdgeEnds} {s : Room} → EndsRead ps es e r → EndsAsked r.a.0 r.b.0 s
+  ends_asked E = record { first = (end_asked 0 _ (lit≤ tt) E.first).low; second = (end_asked 1 _ (lit≤ tt) E.second).low }
 
 -- ---- the edge
 
@@ -222,12 +221,12 @@ abbrev pub tested : ℕ → Cutter → EdgeEnds → EdgeTest
 tested d k r = edge_test (distance_to d k.params.divider r.p) (distance_to d k.params.divider r.q)
 
 -- an edge's answer has the warning of what its ends answered
-crossed_warning : (c : Cutting) (y : Element) (p q : List Float) (z : Crossing) (g : Gathered) (t : Table) {u : Table} {a : ElementAnswer} → after_ends c y (cross_edge desk p q z g t) ≡ done a u
+crossed_warning : (c : Cutting) (y : Element) (p q : List Float) (z : Option Float) (g : Gathered) (t : Table) {u : Table} {a : ElementAnswer} → after_ends c y (cross_edge desk p q z g t) ≡ done a u
     → a.warning ≡ g.warning
 crossed_warning c y p q z g t o = subst (Done (Warns g.warning)) o (after_gathered desk c g.warning y (cross_edge desk p q z g t) (crossed_warns desk c p q z g t))
 
 -- the crossing, by what the test is
-crossing_is : {z w : EdgeTest} {x : Crossing} → z ≡ w → z.crossing ≡ x → x ≡ w.crossing
+crossing_is : {z w : EdgeTest} {x : Option Float} → z ≡ w → z.crossing ≡ x → x ≡ w.crossing
 crossing_is says m = sym m ∙ ap (λ (y : EdgeTest). y.crossing) says
 
 -- and that is whether one of them was a close call
@@ -259,17 +258,17 @@ module _ (k : Cutter) (d : ℕ) (r : EdgeEnds) (sa sb : Float) where
       fb = end_fit F 1 b (lit≤ tt) E.second
 
       -- the rule, on the ends as they were read
-      opened : (z : Crossing) → z ≡ (tested d k r).crossing → cut_element desk c 1 e t ≡ after_ends c (element t e) (cross_edge desk (point_at t a) (point_at t b) z answered t)
+      opened : (z : Option Float) → z ≡ (tested d k r).crossing → cut_element desk c 1 e t ≡ after_ends c (element t e) (cross_edge desk (point_at t a) (point_at t b) z answered t)
       unfolding cut_element cut_edge cut_ends
       opened z h =
           ap₂ (λ (x y : ℕ). after_ends c (element t e) (cut_ends desk c x y (point_at t x) (point_at t y) t))
           (sym (end_is F 0 a (lit≤ tt) E.first)) (sym (end_is F 1 b (lit≤ tt) E.second))
           ∙ ap₂ (λ (x y : Float). after_ends c (element t e) (cross_edge desk (point_at t a) (point_at t b) (crossing_of x y) (ends_of a b x y) t))
           (sym (ha ∙ vertex.distance_is fa d r.p hd E.first_point)) (sym (hb ∙ vertex.distance_is fb d r.q hd E.second_point))
-          ∙ ap (λ (x : Crossing). after_ends c (element t e) (cross_edge desk (point_at t a) (point_at t b) x answered t)) (sym (h ∙ ap₂ crossing_of (sym ha) (sym hb)))
+          ∙ ap (λ (x : Option Float). after_ends c (element t e) (cross_edge desk (point_at t a) (point_at t b) x answered t)) (sym (h ∙ ap₂ crossing_of (sym ha) (sym hb)))
 
       -- the answer's warning is that of the edge test
-      warned : (z : Crossing) → z ≡ (tested d k r).crossing → {u : Table} {y : ElementAnswer} → cut_element desk c 1 e t ≡ done y u → y.warning ≡ (tested d k r).warning
+      warned : (z : Option Float) → z ≡ (tested d k r).crossing → {u : Table} {y : ElementAnswer} → cut_element desk c 1 e t ≡ done y u → y.warning ≡ (tested d k r).warning
       warned z h o =
           crossed_warning c (element t e) (point_at t a) (point_at t b) z answered t (sym (opened z h) ∙ o) ∙ ends_warning a b sa sb ∙ (λ i. close_call (ha i) || close_call (hb i))
 
@@ -281,9 +280,9 @@ module _ (k : Cutter) (d : ℕ) (r : EdgeEnds) (sa sb : Float) where
           (sets_gathering 0 a (corner_answer a (side_test sa)) nothing_yet t ra (corner_answer_lem t a (side_of sa) ra) (sets_none 0 t))
 
     -- the room as it came, with the test's warning, and with what the ends answered; z and x are what the test says
-    module _ {s s₁ s₂ : List (List ℕ)} {z : EdgeTest} (says : z ≡ tested d k r) (N : Noted s z.warning s₁) (G : EndsGathered a b sa sb s₁ s₂) where
+    module _ {s s₁ s₂ : Room} {z : EdgeTest} (says : z ≡ tested d k r) (N : Noted s z.warning s₁) (G : EndsGathered a b sa sb s₁ s₂) where
       -- the cut's warning after it all
-      noted_by : {x : Crossing} (s₃ : List (List ℕ)) → z.crossing ≡ x → warning_in s₃ ≡ warning_in s₂ → {hs : List Float} {t : Table} → Fit cs ps hs es 1 e k t → (y : ElementAnswer) (u : Table)
+      noted_by : {x : Option Float} (s₃ : Room) → z.crossing ≡ x → warning_in s₃ ≡ warning_in s₂ → {hs : List Float} {t : Table} → Fit cs ps hs es 1 e k t → (y : ElementAnswer) (u : Table)
           → cut_element desk (cut_of t.dimension k) 1 e t ≡ done y u → warning_in s₃ ≡ (warning_in s || y.warning)
       noted_by {x} s₃ m l F y u o =
           l ∙ G.warning ∙ N.warning ∙ ap (λ (w : Bool). warning_in s || w) (ap (λ (q : EdgeTest). q.warning) says ∙ sym (warned F x (crossing_is says m) o))
@@ -302,17 +301,16 @@ module _ (k : Cutter) (d : ℕ) (r : EdgeEnds) (sa sb : Float) where
         indexed = A.indexed;
       }
 
-      pub missed_cut : {y : ElementReply} {cs' es' ix' : List ℕ} {s₃ : List (List ℕ)} → z.crossing ≡ NoCrossing → Rule6Done cs es 1 e k s₂ y cs' es' ix' s₃
+      pub missed_cut : {y : Reply ElementCutOutput} {cs' es' ix' : List ℕ} {s₃ : Room} → z.crossing ≡ None → Rule6Done cs es 1 e k s₂ y cs' es' ix' s₃
           → LowLeft cs ps es 1 e k s y cs' ps es' ix' s₃
       missed_cut {y} {cs'} {es'} {s₃ = s₃} m D = record {
         cut = record {
           of = λ hs t F.
               told_by (noted_by s₃ m D.used.warning F)
-              (subst (λ (o : Outcome ElementAnswer). Came answered_by reply.Refused (Holds desk cs' ps hs es') t o y) (sym (opened F NoCrossing (crossing_is says m)))
+              (subst (λ (o : Outcome ElementAnswer). Came answered_by Err (Holds desk cs' ps hs es') t o y) (sym (opened F None (crossing_is says m)))
               (D.of ps hs t answered (missed_fit F)));
         };
         indexed = D.indexed;
-        shaped = D.used.shaped;
       }
 
       -- a crossing at parameter f
@@ -340,21 +338,20 @@ module _ (k : Cutter) (d : ℕ) (r : EdgeEnds) (sa sb : Float) where
           fit = crossing_fit R.fit;
         }
 
-        pub crossing_cut : {y : ElementReply} {cs' : List ℕ} {ps' : List Float} {es' ix' : List ℕ} {s₃ : List (List ℕ)} → z.crossing ≡ At f → CrossedLeft cs ps es e k s₂ x y cs' ps' es' ix' s₃
+        pub crossing_cut : {y : Reply ElementCutOutput} {cs' : List ℕ} {ps' : List Float} {es' ix' : List ℕ} {s₃ : Room} → z.crossing ≡ Some f → CrossedLeft cs ps es e k s₂ x y cs' ps' es' ix' s₃
             → LowLeft cs ps es 1 e k s y cs' ps' es' ix' s₃
         crossing_cut {y} {cs'} {ps'} {es'} {s₃ = s₃} m D = record {
           cut = record {
             of = λ hs t F.
                 told_by (noted_by s₃ m D.used.warning F)
-                (subst (λ (o : Outcome ElementAnswer). Came answered_by reply.Refused (Holds desk cs' ps' hs es') t o y) (sym (opened F (At f) (crossing_is says m)))
+                (subst (λ (o : Outcome ElementAnswer). Came answered_by Err (Holds desk cs' ps' hs es') t o y) (sym (opened F (Some f) (crossing_is says m)))
                 (D.cut.of hs t (point_at t a) (point_at t b) f answered (crossing_fit F)));
           };
           indexed = D.indexed;
-          shaped = D.used.shaped;
         }
 
 -- ---- an element of rank 1
 
-pub edge_left : {cs : List ℕ} {ps : List Float} {es : List ℕ} {r e : ℕ} {k : Cutter} {s : List (List ℕ)} {y : ElementReply} {cs' : List ℕ} {ps' : List Float} {es' ix' : List ℕ} {s' : List (List ℕ)} → r ≡ 1
+pub edge_left : {cs : List ℕ} {ps : List Float} {es : List ℕ} {r e : ℕ} {k : Cutter} {s : Room} {y : Reply ElementCutOutput} {cs' : List ℕ} {ps' : List Float} {es' ix' : List ℕ} {s' : Room} → r ≡ 1
     → LowLeft cs ps es 1 e k s y cs' ps' es' ix' s' → LowLeft cs ps es r e k s y cs' ps' es' ix' s'
 edge_left {cs} {ps} {es} {r} {e} {k} {s} {y} {cs'} {ps'} {es'} {ix'} {s'} q C = subst (λ (n : ℕ). LowLeft cs ps es n e k s y cs' ps' es' ix' s') (sym q) C

@@ -1,7 +1,6 @@
 -- What the ends of an edge answer, gathered in a room that was cleared; and a crossing as the flush one.
 use Prim.Native.Nat.{ℕ, ◌≤◌, ◌<◌}
-use mathlib.Core.Path.{◌≡◌, refl, sym, ◌∙◌, subst}
-use mathlib.Core.List.{List, [], ◌∷◌}
+use mathlib.Core.Path.{◌≡◌, sym, ap, ◌∙◌, subst}
 use native.Mathlib.Nat.{le_trans, le_of_eq}
 use lib.Ieee.{Float}
 use Rattle.rules.specs.Floats.{side_of}
@@ -9,14 +8,14 @@ use Rattle.rules.specs.Cut.{Gathered, corner_output}
 use Rattle.rules.specs.declared.Side.{Side}
 use Rattle.rules.specs.declared.Side.TheVariants.{Inside, On, Outside}
 use Rattle.rules.specs.declared.ElementCutOutput.{ElementCutOutput}
-use Rattle.gathered.specs.Sets.{warning_in, Gathers, Shaped, Sized, Cleared, OutputInRoom, OutputGathered}
-use Rattle.gathered.proofs.Gathering.{by_four, wrote, said_count, said_last, said_warning, said_long}
+use Rattle.gathered.specs.Sets.{size_in, numbers_in, warning_in, Gathers, Sized, Cleared, OutputInRoom, OutputGathered}
+use Rattle.gathered.specs.declared.sets.Room.{Room}
+use Rattle.rules.specs.declared.ElementId.{ElementId}
 use Rattle.ends.specs.Ends.{EndsGathered, crossed_of}
 
 -- no more than i answers are no more than m
-pub sized_more : {s : List (List ℕ)} (i m : ℕ) → i ≤ m → Sized s i → Sized s m
+pub sized_more : {s : Room} (i m : ℕ) → i ≤ m → Sized s i → Sized s m
 sized_more i m h z = record {
-  shaped = z.shaped;
   flushes = le_trans z.flushes h;
   inside = le_trans z.inside h;
   outside = le_trans z.outside h;
@@ -34,7 +33,7 @@ pub end_room : {y : ElementCutOutput} (a : ℕ) (s : Float) → a < 512 → y �
 end_room a s h q = subst OutputInRoom (sym q) (corner_room a (side_of s) h)
 
 -- the two ends in turn, in a room that was cleared
-pub ends_gathered : {s s₀ s₁ s₂ : List (List ℕ)} {x y : ElementCutOutput} (a b : ℕ) (sa sb : Float) → Cleared s s₀ → x ≡ corner_output a (side_of sa) → OutputGathered s₀ a x s₁
+pub ends_gathered : {s s₀ s₁ s₂ : Room} {x y : ElementCutOutput} (a b : ℕ) (sa sb : Float) → Cleared s s₀ → x ≡ corner_output a (side_of sa) → OutputGathered s₀ a x s₁
     → y ≡ corner_output b (side_of sb) → OutputGathered s₁ b y s₂ → EndsGathered a b sa sb s s₂
 ends_gathered {s} {s₀} {s₁} {s₂} a b sa sb N qx X qy Y =
     let first : OutputGathered s₀ a (corner_output a (side_of sa)) s₁ = subst (λ (z : ElementCutOutput). OutputGathered s₀ a z s₁) qx X in
@@ -46,33 +45,26 @@ ends_gathered {s} {s₀} {s₁} {s₂} a b sa sb N qx X qy Y =
     }
 
 -- whatever is gathered: that, with vertex element v as the flush one
-pub record Crossed (s : List (List ℕ)) (v : ℕ) (s' : List (List ℕ)) : Type 0 where
+pub record Crossed (s : Room) (v : ℕ) (s' : Room) : Type 0 where
   pub of : (g : Gathered) → Gathers s g → Gathers s' (crossed_of v g)
   pub sized : (m : ℕ) → 1 ≤ m → Sized s m → Sized s' m
   pub warning : warning_in s' ≡ warning_in s
 
--- the tally says so once the count is 1 and the last one is v
-abbrev crossed_by : List (List ℕ) → ℕ → List (List ℕ)
-crossed_by s v = wrote (wrote s 0 0 1) 0 1 v
-
-pub crossed : (s : List (List ℕ)) (v : ℕ) → Shaped s → Crossed s v (crossed_by s v)
-crossed s v S = by_four (λ (r : List (List ℕ)). Shaped r → Crossed r v (crossed_by r v)) go s S.four S
-  where
-    go : (f i o x : List ℕ) → Shaped (f ∷ i ∷ o ∷ x ∷ []) → Crossed (f ∷ i ∷ o ∷ x ∷ []) v (crossed_by (f ∷ i ∷ o ∷ x ∷ []) v)
-    go f i o x T = record {
-      of = λ g G. record {
-        flushes = said_count f 1 v T.tally;
-        flush = said_last f 1 v T.tally;
-        inside = G.inside;
-        outside = G.outside;
-        intersections = G.intersections;
-      };
-      sized = λ m h Z. record {
-        shaped = record { four = refl; tally = said_long f 1 v T.tally; inside = T.inside; outside = T.outside; intersections = T.intersections };
-        flushes = le_trans (le_of_eq (said_count f 1 v T.tally)) h;
-        inside = Z.inside;
-        outside = Z.outside;
-        intersections = Z.intersections;
-      };
-      warning = said_warning f 1 v T.tally;
-    }
+-- the room says so once the count is 1 and the last one is v
+pub crossed : (s r : Room) (v : ElementId) → r.flushes ≡ 1 → r.flush ≡ v → r.warning ≡ s.warning → r.inside ≡ s.inside → r.outside ≡ s.outside → r.intersections ≡ s.intersections → Crossed s v.0 r
+crossed s r v n l w i o x = record {
+  of = λ g G. record {
+    flushes = n;
+    flush = ap (λ (f : ElementId). f.0) l;
+    inside = ap numbers_in i ∙ G.inside;
+    outside = ap numbers_in o ∙ G.outside;
+    intersections = ap numbers_in x ∙ G.intersections;
+  };
+  sized = λ m h Z. record {
+    flushes = le_trans (le_of_eq n) h;
+    inside = le_trans (le_of_eq (ap size_in i)) Z.inside;
+    outside = le_trans (le_of_eq (ap size_in o)) Z.outside;
+    intersections = le_trans (le_of_eq (ap size_in x)) Z.intersections;
+  };
+  warning = w;
+}

@@ -16,7 +16,6 @@ use Rattle.rules.specs.Held.{points_of}
 use Rattle.rules.specs.Cut.{corner_output, distance_of, cut_element, cut_corner}
 use Rattle.rules.specs.declared.ElementCutOutput.{ElementCutOutput}
 use Rattle.rules.specs.declared.SideTest.{SideTest}
-use Rattle.gathered.specs.declared.answer.ElementReply.TheVariants as reply
 use Rattle.hypermath.specs.Answers.{distance_to}
 use Rattle.rules.proofs.Corners.{corner_named_lem}
 use Rattle.rules.proofs.Good.{Good, sound_good, above_zero}
@@ -30,10 +29,12 @@ use Rattle.space.proofs.RowAdds.{readable_desk}
 use Rattle.space.proofs.VertexMemo.{four_is, dimension_is}
 use Rattle.space.proofs.Slices.{slices}
 use Rattle.gathered.specs.Sets.{warning_in, Noted}
+use Rattle.gathered.specs.declared.sets.Room.{Room}
 use Rattle.gathered.specs.Cutting.{Fit, cut_of, went}
 use Rattle.rules.specs.declared.Cutter.{Cutter}
 use Rattle.ends.specs.Ends.{PointAsked, CornerReady, corner_at, CornerCut}
 use Rattle.ends.specs.Elements.{LowAsked, LowLeft}
+use Rattle.std.specs.Prelude.{Ok}
 
 module _ {cs : List ℕ} {ps hs : List Float} {es : List ℕ} {e : ℕ} {k : Cutter} {t : Table} (F : Fit cs ps hs es 0 e k t) where
   good : Good desk t
@@ -89,13 +90,12 @@ module _ {cs : List ℕ} {ps hs : List Float} {es : List ℕ} {e : ℕ} {k : Cut
       ap (λ (n : ℕ). distance_to n k.params.divider p) (dimension_is d hd F.holds)
       ∙ ap (signed_distance (take t.dimension k.params.divider.normal) k.params.divider.distance) (taken_is p hp)
 
-pub corner_cut : {cs : List ℕ} {ps : List Float} {es : List ℕ} {e : ℕ} {k : Cutter} {s₀ s₁ : List (List ℕ)} {r : ElementCutOutput} (d : ℕ) (p : List Float) (s : Float) (test : SideTest) → d ≡ get_or cs 0 0
+pub corner_cut : {cs : List ℕ} {ps : List Float} {es : List ℕ} {e : ℕ} {k : Cutter} {s₀ s₁ : Room} {r : ElementCutOutput} (d : ℕ) (p : List Float) (s : Float) (test : SideTest) → d ≡ get_or cs 0 0
     → p ≡ stored_point ps (get_or es (e * 36 + 4) 0) → s ≡ distance_to d k.params.divider p → test ≡ side_test s → Noted s₀ test.warning s₁ → r ≡ corner_output e test.side
     → CornerCut cs ps es e k s₀ r s₁
 corner_cut {cs} {ps} {es} {e} {k} {s₀} d p s test hd hp hs ht N hr = record {
   of = λ planes t F. hr ∙ ap (λ (x : SideTest). corner_output e x.side) (tested F);
   warning = λ planes t F. N.warning ∙ ap (λ (x : SideTest). warning_in s₀ || x.warning) (tested F);
-  shaped = N.shaped;
 }
   where
     tested : {planes : List Float} {t : Table} → Fit cs ps planes es 0 e k t → test ≡ side_test (distance_of (cut_of t.dimension k) (point_at t e))
@@ -103,21 +103,20 @@ corner_cut {cs} {ps} {es} {e} {k} {s₀} d p s test hd hp hs ht N hr = record {
 
 -- ---- an element of rank 0
 
-pub low_at : {cs : List ℕ} {ps : List Float} {es ix : List ℕ} {r e : ℕ} {k : Cutter} {s : List (List ℕ)} (n : ℕ) → r ≡ n → LowAsked cs ps es ix r e k s → LowAsked cs ps es ix n e k s
+pub low_at : {cs : List ℕ} {ps : List Float} {es ix : List ℕ} {r e : ℕ} {k : Cutter} {s : Room} (n : ℕ) → r ≡ n → LowAsked cs ps es ix r e k s → LowAsked cs ps es ix n e k s
 low_at {cs} {ps} {es} {ix} {r} {e} {k} {s} n q A = subst (λ (i : ℕ). LowAsked cs ps es ix i e k s) q A
 
-pub corner_ready : {cs : List ℕ} {ps : List Float} {es ix : List ℕ} {e : ℕ} {k : Cutter} {s : List (List ℕ)} → LowAsked cs ps es ix 0 e k s → CornerReady cs ps es e k s
-corner_ready A = record { ready = A.ready; shaped = A.shaped }
+pub corner_ready : {cs : List ℕ} {ps : List Float} {es ix : List ℕ} {e : ℕ} {k : Cutter} {s : Room} → LowAsked cs ps es ix 0 e k s → CornerReady cs ps es e k s
+corner_ready A = record { ready = A.ready }
 
-pub corner_left : {cs : List ℕ} {ps : List Float} {es ix : List ℕ} {r e : ℕ} {k : Cutter} {s s' : List (List ℕ)} {y : ElementCutOutput} → r ≡ 0 → CornerCut cs ps es e k s y s'
-    → Indexed es (get_or cs 1 0) ix → LowLeft cs ps es r e k s (reply.Answered y) cs ps es ix s'
+pub corner_left : {cs : List ℕ} {ps : List Float} {es ix : List ℕ} {r e : ℕ} {k : Cutter} {s s' : Room} {y : ElementCutOutput} → r ≡ 0 → CornerCut cs ps es e k s y s'
+    → Indexed es (get_or cs 1 0) ix → LowLeft cs ps es r e k s (Ok y) cs ps es ix s'
 unfolding cut_element cut_corner
 corner_left {cs} {ps} {es} {ix} {r} {e} {k} q C I = record {
   cut = record {
     of = λ hs t F.
         (let G : Fit cs ps hs es 0 e k t = subst (λ (n : ℕ). Fit cs ps hs es n e k t) q F in
-        went (corner_at k t e) t (ap (λ (n : ℕ). cut_element desk (cut_of t.dimension k) n e t) q) (ap reply.Answered (C.of hs t G)) (C.warning hs t G) F.holds);
+        went (corner_at k t e) t (ap (λ (n : ℕ). cut_element desk (cut_of t.dimension k) n e t) q) (ap Ok (C.of hs t G)) (C.warning hs t G) F.holds);
   };
   indexed = I;
-  shaped = C.shaped;
 }

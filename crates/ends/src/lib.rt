@@ -8,12 +8,10 @@ ghost use Rattle.space.specs.Shared.{stored_point};
 ghost use Rattle.ends.specs.Ends.{PointAsked, CornerReady, CornerCut, EndsReady, EndsRead, EndsAsked, EndsGathered, CrossedAsked, CrossedLeft};
 ghost use Rattle.ends.specs.Elements.{LowAsked, LowLeft};
 
-use gathered::answer::ElementReply;
-use gathered::sets::{FLUSH, FLUSHES, ROOM, TALLY};
-use gathered::{answer, sets};
-use rules::{Crossing, Cutter, ElementCutOutput, ElementId, ElementOrNone, Side, VertexId};
-use space::rows::Placed;
-use space::words::{SET, wide};
+use gathered::answer;
+use gathered::sets::Room;
+use rules::{Cutter, ElementCutOutput, ElementId, Reply, Side, VertexId};
+use space::words::wide;
 use space::{memo, rows};
 
 // The ends a and b of an edge, a the lower-numbered, at p and q.
@@ -40,15 +38,15 @@ fn corner_output(e: ElementId, side: Side) -> ElementCutOutput
 {
     match side {
         Side::Inside => ElementCutOutput::NonFlush {
-            inside: ElementOrNone::Some(e),
-            outside: ElementOrNone::None,
-            intersection: ElementOrNone::None,
+            inside: Some(e),
+            outside: None,
+            intersection: None,
         },
         Side::On => ElementCutOutput::Flush,
         Side::Outside => ElementCutOutput::NonFlush {
-            inside: ElementOrNone::None,
-            outside: ElementOrNone::Some(e),
-            intersection: ElementOrNone::None,
+            inside: None,
+            outside: Some(e),
+            intersection: None,
         },
     }
 }
@@ -60,7 +58,7 @@ fn cut_corner(
     elements: &[u16],
     e: ElementId,
     k: Cutter,
-    room: &mut [[u16; SET]; ROOM],
+    room: &mut Room,
 ) -> ElementCutOutput
     requires { CornerReady counts.now points.now elements.now e.0 k room.old }
     ensures { CornerCut counts.now points.now elements.now e.0 k room.old result room.new }
@@ -71,7 +69,7 @@ fn cut_corner(
     let h = params.divider;
     let s = hypermath::signed_distance(d, h, p);
     let test = hypermath::side_of(s);
-    sets::note(room, test.warning);
+    room.note(test.warning);
     let side = test.side;
     corner_output(e, side)
 }
@@ -98,15 +96,15 @@ fn end_output(e: ElementId, s: f64) -> ElementCutOutput
 }
 
 // Ends on the plane are flush, and other ends go to their side; the lower-numbered end comes first.
-fn gather_ends(room: &mut [[u16; SET]; ROOM], a: ElementId, sa: f64, b: ElementId, sb: f64)
+fn gather_ends(room: &mut Room, a: ElementId, sa: f64, b: ElementId, sb: f64)
     requires { EndsAsked a.0 b.0 room.old }
     ensures { EndsGathered a.0 b.0 sa sb room.old room.new }
 {
-    sets::clear(room);
+    room.clear();
     let first = end_output(a, sa);
-    sets::gather_in(room, a, first);
+    room.gather_in(a, first);
     let second = end_output(b, sb);
-    sets::gather_in(room, b, second);
+    room.gather_in(b, second);
 }
 
 // The crossing is matched or appended: vertex, then its element. It counts as the flush one.
@@ -117,22 +115,17 @@ fn cut_crossed(
     index: &mut [u16],
     e: ElementId,
     k: Cutter,
-    room: &mut [[u16; SET]; ROOM],
+    room: &mut Room,
     x: [f64; 4],
-) -> ElementReply
+) -> Reply<ElementCutOutput>
     requires { CrossedAsked counts.old points.old elements.old index.old e.0 k room.old x }
     ensures { CrossedLeft counts.old points.old elements.old e.0 k room.old x result
         counts.new points.new elements.new index.new room.new }
 {
-    let placed = memo::add_vertex(counts, points, elements, index, x);
-    match placed {
-        Placed::Refused(no) => ElementReply::Refused(no),
-        Placed::At(v) => {
-            room[TALLY][FLUSHES] = 1;
-            room[TALLY][FLUSH] = v.0 as u16;
-            answer::rule6(counts, elements, index, e, 1, k, room)
-        }
-    }
+    let v = memo::add_vertex(counts, points, elements, index, x)?;
+    room.flushes = 1;
+    room.flush = v;
+    answer::rule6(counts, elements, index, e, 1, k, room)
 }
 
 // Rule 4; the edge test finds no crossing where an end is flush, and its warning is the cut's.
@@ -143,8 +136,8 @@ fn cut_edge(
     index: &mut [u16],
     e: ElementId,
     k: Cutter,
-    room: &mut [[u16; SET]; ROOM],
-) -> ElementReply
+    room: &mut Room,
+) -> Reply<ElementCutOutput>
     requires { LowAsked counts.old points.old elements.old index.old 1 e.0 k room.old }
     ensures { LowLeft counts.old points.old elements.old 1 e.0 k room.old result
         counts.new points.new elements.new index.new room.new }
@@ -158,12 +151,12 @@ fn cut_edge(
     let sa = hypermath::signed_distance(d, h, p);
     let sb = hypermath::signed_distance(d, h, q);
     let test = hypermath::edge_test(d, h, [p, q]);
-    sets::note(room, test.warning);
+    room.note(test.warning);
     gather_ends(room, ends.a, sa, ends.b, sb);
     let crossing = test.crossing;
     match crossing {
-        Crossing::None => answer::rule6(counts, elements, index, e, 1, k, room),
-        Crossing::At(t) => {
+        None => answer::rule6(counts, elements, index, e, 1, k, room),
+        Some(t) => {
             let at = hypermath::crossing_point(d, [p, q], t);
             cut_crossed(counts, points, elements, index, e, k, room, at)
         }
@@ -179,15 +172,14 @@ pub fn cut_low(
     e: ElementId,
     rank: usize,
     k: Cutter,
-    room: &mut [[u16; SET]; ROOM],
-) -> ElementReply
+    room: &mut Room,
+) -> Reply<ElementCutOutput>
     requires { LowAsked counts.old points.old elements.old index.old rank e.0 k room.old }
     ensures { LowLeft counts.old points.old elements.old rank e.0 k room.old result
         counts.new points.new elements.new index.new room.new }
 {
     if rank == 0 {
-        let a = cut_corner(counts, points, elements, e, k, room);
-        return ElementReply::Answered(a);
+        return Ok(cut_corner(counts, points, elements, e, k, room));
     }
     cut_edge(counts, points, elements, index, e, k, room)
 }

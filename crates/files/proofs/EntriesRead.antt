@@ -16,15 +16,13 @@ use Rattle.rules.specs.Bytes.{number_at, float_at, floats_at}
 use Rattle.rules.specs.Table.{Element, Plane}
 use Rattle.rules.specs.Memory.{element_row, read_element}
 use Rattle.rules.specs.Files.{Reading, got, after_mark, many, number, float, point_in, plane_after, plane_in, element_fits, element_in}
-use Rattle.rules.specs.declared.Hyperplane.{Hyperplane}
 use Rattle.rules.proofs.ByteLaws.{got_value, got_rest, never, and_then_lem, chosen}
 use Rattle.rules.proofs.FileRecords.{row_only}
 use Rattle.rules.proofs.Laws.{le_test, not_le}
 use Rattle.hypermath.proofs.Filling.{fill_next}
 use Rattle.files.specs.Runs.{Read}
 use Rattle.files.specs.Passed.{begins}
-use Rattle.files.specs.Entries.{plane_at, numbers_at, count_at, row_front, row_at}
-use Rattle.files.specs.declared.layout.Pass.TheVariants.{Broken}
+use Rattle.files.specs.Entries.{numbers_at, count_at, row_front, row_at}
 use Rattle.files.proofs.Runs.{same_end}
 use Rattle.files.proofs.Sizes.{Wants, floats_take, plane_takes, then_number, not_begun, begun_within, begun}
 use Rattle.files.proofs.Passes.{one_broken, element_wants, Head, head_read, element_cut_off}
@@ -158,7 +156,7 @@ module _ (bs : List ℕ) (at : ℕ) (x : Element) (end : ℕ) (r : Read element_
       go true e = le_test (at + 8 + 2 * count) (length bs) e
       go false e =
           never x (drop end bs)
-          (sym (one_broken element_in bs at Broken (element_cut_off bs at rank mark plane count headed (not_le (at + 8 + 2 * count) (length bs) e)) refl) ∙ r.says)
+          (sym (one_broken element_in bs at (element_cut_off bs at rank mark plane count headed (not_le (at + 8 + 2 * count) (length bs) e))) ∙ r.says)
 
   pub element_read : ElementRead bs at x end
   element_read =
@@ -202,10 +200,6 @@ point_is bs d from {a} {b} {c} {e} p q r s h = (λ i. p i ∷ q i ∷ r i ∷ s 
     by_axes (suc (suc (suc zero))) h = λ i. first i ∷ second i ∷ third i ∷ plus_zero ∷ []
     by_axes (suc (suc (suc (suc zero)))) h = λ i. first i ∷ second i ∷ third i ∷ fourth i ∷ []
     by_axes (suc (suc (suc (suc (suc d))))) h = absurd (omega (arith, h))
-
-pub plane_is : (bs : List ℕ) (at d : ℕ) {n : List Float} {x : Float} → n ≡ pad plus_zero 4 (floats_at d (at + 2) bs) → x ≡ float_at (at + 2 + 8 * d) bs
-    → ◌≡◌ {A = Hyperplane} (record { normal = n; distance = x }) (plane_at at d bs)
-plane_is bs at d p q = λ i. record { normal = p i; distance = q i }
 
 pub row_head : (bs : List ℕ) (at : ℕ) {r m h n : ℕ} → r ≡ number_at 1 (at + 2) bs → m ≡ number_at 1 (at + 3) bs → h ≡ number_at 2 (at + 4) bs → n ≡ count_at at bs
     → set (set (set (set (replicate 36 0) 0 r) 1 m) 2 h) 3 n ≡ pad 0 36 (row_front 0 at bs)

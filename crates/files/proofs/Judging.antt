@@ -4,18 +4,20 @@ use Prim.Native.Nat.{ℕ, zero, suc, ◌+◌, ◌*◌, ◌-◌, ◌≤◌, ◌<�
 use mathlib.Core.Bool.{Bool, true, false, ◌&&◌}
 use mathlib.Core.List.{List, []}
 use mathlib.Core.Path.{◌≡◌, refl, sym, ap, ap₂, subst, ◌∙◌}
+use native.Mathlib.Numerals.{add-one}
 use native.Mathlib.Omega.{arith}
 use lib.Dec.{leb}
 use lib.Ieee.{Float}
-use lib.ListN.{length, get_or, take, drop, replicate, length-append}
-use lib.Seq.{take_at, drop_at}
+use lib.ListN.{length, get_or, take, drop, replicate, length-append, drop_of_length-le}
+use lib.Seq.{take_at, drop_at, drop-cons}
+use Rattle.std.specs.List.{list_all, range_with_len}
 use Rattle.rules.specs.Lists.{all, pad}
 use Rattle.rules.specs.Floats.{plus_zero, same_bits, within, farthest, farthest_plane, unit}
 use Rattle.rules.specs.Bytes.{floats_at}
-use Rattle.rules.specs.Table.{Element, corner, polytope, Plane}
+use Rattle.rules.specs.Table.{Table, Element, corner, polytope, Plane}
 use Rattle.rules.specs.Sound.{sound_point, sound_plane}
 use Rattle.rules.specs.Memory.{element_row}
-use Rattle.rules.specs.Files.{Reading, many, point_in, plane_in, element_in}
+use Rattle.rules.specs.Files.{Reading, many, element_in}
 use Rattle.rules.specs.declared.Hyperplane.{Hyperplane}
 use Rattle.rules.proofs.ByteLaws.{got_value}
 use Rattle.rules.proofs.Indexed.{all_go, all_no, all_end}
@@ -25,13 +27,13 @@ use Rattle.hypermath.specs.Answers.{unit_normal}
 use Rattle.soundness.proofs.ReadBack.{and_one}
 use Rattle.soundness.proofs.SoundWhole.{fit_counts}
 use Rattle.files.specs.Runs.{Run}
-use Rattle.files.specs.Laid.{header_size}
+use Rattle.files.specs.Laid.{header_size, Whole}
 use Rattle.files.specs.Entries.{plane_at, count_at}
-use Rattle.files.specs.Judged.{SaysFitting, Judged, width_fits, widths_fit, vertices_sound, hyperplanes_sound}
+use Rattle.files.specs.Judged.{SaysFitting, Judged, no_plane_there, width_fits, widths_fit}
 use Rattle.files.specs.declared.layout.Laid.{Laid}
 use Rattle.files.proofs.Runs.{run_many}
 use Rattle.files.proofs.EntriesRead.{floats_long}
-use Rattle.files.proofs.Standing.{no_plane_there, PointHere, PlaneHere, ElementHere}
+use Rattle.files.proofs.Standing.{PointHere, PlaneHere, ElementHere, point_here, points_from, plane_here, planes_from}
 
 -- ---- a test of every record of a run
 
@@ -84,21 +86,32 @@ module _ (bs : List ℕ) (l : Laid) {at i : ℕ} {reply : Bool} where
     told = λ t w. e ∙ ap (all width_fits) (left_are element_in width_fits bs s t.elements (length bs) w.element_counted w.elements);
   }
 
-  pub vertices_told : (s : Left (point_in l.dimension) (sound_point l.dimension) bs header_size l.vertices at i)
-      → reply ≡ all (sound_point l.dimension) s.list → Judged bs l vertices_sound reply
-  vertices_told s e = record {
-    told = λ t w.
-        e ∙ ap (all (sound_point l.dimension)) (left_are (point_in l.dimension) (sound_point l.dimension) bs s t.points l.planes_at w.vertex_counted w.points)
-        ∙ ap (λ (d : ℕ). all (sound_point d) t.points) (sym w.dimension);
-  }
+-- ---- the vertex and the hyperplane of a number
 
-  pub hyperplanes_told : (s : Left (plane_in l.dimension) (sound_plane l.dimension) bs l.planes_at l.hyperplanes at i)
-      → reply ≡ all (sound_plane l.dimension) s.list → Judged bs l hyperplanes_sound reply
-  hyperplanes_told s e = record {
-    told = λ t w.
-        e ∙ ap (all (sound_plane l.dimension)) (left_are (plane_in l.dimension) (sound_plane l.dimension) bs s t.planes l.elements_at w.plane_counted w.planes)
-        ∙ ap (λ (d : ℕ). all (sound_plane d) t.planes) (sym w.dimension);
-  }
+module _ (bs : List ℕ) (l : Laid) (t : Table) (w : Whole bs l t) where
+  pub vertex_here : (v : ℕ) → v < l.vertices → PointHere l.dimension bs t.points l.planes_at (header_size + v * (2 + 8 * l.dimension)) v
+  vertex_here v h =
+      let e = w.vertex_counted in
+      let q : v < length t.points = omega (arith, e, h) in
+      point_here l.dimension bs t.points l.planes_at (points_from l.dimension bs t.points l.planes_at header_size w.points v (omega (arith, q))) q
+
+  pub plane_here_lem : (h : ℕ) → h < l.hyperplanes → PlaneHere l.dimension bs t.planes l.elements_at (l.planes_at + h * (10 + 8 * l.dimension)) h
+  plane_here_lem h k =
+      let e = w.plane_counted in
+      let q : h < length t.planes = omega (arith, e, k) in
+      plane_here l.dimension bs t.planes l.elements_at (planes_from l.dimension bs t.planes l.elements_at l.planes_at w.planes h (omega (arith, q))) q
+
+-- a test of the entries by their numbers
+module _ {A : Type 0} (p : A → Bool) (d : A) (xs : List A) where
+  numbered : (n k : ℕ) → k + n ≡ length xs → list_all (λ v. p (get_or xs v d)) (range_with_len k n) ≡ all p (drop k xs)
+  numbered zero k e = sym (ap (all p) (drop_of_length-le xs {i = k} (omega (arith, e))))
+  numbered (suc n) k e =
+      let h : k < length xs = omega (arith, e) in
+      ap (λ (b : Bool). p (get_or xs k d) && b) (numbered n (k + 1) (omega (arith, e)) ∙ ap (λ (j : ℕ). all p (drop j xs)) (add-one k))
+      ∙ sym (ap (all p) (drop-cons xs k d h))
+
+  pub by_numbers : (n : ℕ) → length xs ≡ n → list_all (λ v. p (get_or xs v d)) (range_with_len 0 n) ≡ all p xs
+  by_numbers n e = numbered n 0 (omega (arith, e))
 
 -- a row of the room has a place for each axis of a table that fits it
 pub axes_fit : (bs : List ℕ) (l : Laid) → SaysFitting bs l → l.dimension ≤ 4

@@ -1,7 +1,8 @@
 -- What is kept of the elements that were judged: their ranks and ends are those of the table's rows, and their records can be found and read again.
 -- One element more is kept by four words behind the others, which leave those as they are.
+use Rattle.std.specs.Prelude.{Option, Some, None, is_some}
 use Prim.Native.Nat.{ℕ, zero, suc, ◌+◌, ◌*◌, ◌-◌, ◌≤◌, ◌<◌}
-use mathlib.Core.Bool.{Bool, true, false}
+use mathlib.Core.Bool.{Bool, true, false, false≢true}
 use mathlib.Core.List.{List, []}
 use mathlib.Core.Path.{◌≡◌, refl, sym, ap, subst, ◌∙◌}
 use native.Mathlib.Nat.{not-suc-le-zero}
@@ -16,7 +17,7 @@ use Rattle.rules.specs.Table.{Table, element_count}
 use Rattle.rules.specs.Files.{element_in}
 use Rattle.rules.proofs.ByteLaws.{got_value}
 use Rattle.rules.proofs.Laws.{eq_test, unlike_eq}
-use Rattle.space.specs.Chains.{stored_row}
+use Rattle.space.specs.Chains.{stored_row, number_of}
 use Rattle.space.proofs.Laid.{length_padded}
 use Rattle.soundness.specs.declared.row.Spacing.{Spacing}
 use Rattle.soundness.specs.Known.{known_rows, KnownAlike}
@@ -31,6 +32,28 @@ use Rattle.files.specs.Runs.{Run}
 use Rattle.files.specs.declared.layout.Laid.{Laid}
 use Rattle.files.proofs.EntriesRead.{numbers_long}
 use Rattle.files.proofs.SaidTable.{said_fits, row_here}
+
+-- what was met as a number of the index: one more than its row's, or 0
+abbrev pub link_of : Option ℕ → ℕ
+link_of None = 0
+link_of (Some i) = suc i
+
+pub link_named : (p : Option ℕ) → p ≡ number_of (link_of p)
+link_named None = refl
+link_named (Some i) = refl
+
+-- whether anything was met
+abbrev pub row_of : Option ℕ → ℕ
+row_of None = 0
+row_of (Some i) = i
+
+pub met_some : (p : Option ℕ) → true ≡ is_some p → Some (row_of p) ≡ p
+met_some None h = absurd (false≢true (sym h))
+met_some (Some i) h = refl
+
+pub met_none : (p : Option ℕ) → false ≡ is_some p → p ≡ None
+met_none None h = refl
+met_none (Some i) h = absurd (false≢true h)
 
 -- the bytes say one table only
 pub one_table : {bs : List ℕ} {l : Laid} {t u : Table} → Whole bs l t → Whole bs l u → t ≡ u

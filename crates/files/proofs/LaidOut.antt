@@ -13,7 +13,7 @@ use Rattle.rules.proofs.ByteLaws.{and_then_lem}
 use Rattle.files.specs.Runs.{Run}
 use Rattle.files.specs.Passed.{begins, Together}
 use Rattle.files.specs.Laid.{header_size, LayoutTold}
-use Rattle.files.specs.declared.layout.Laid.{Laid}
+use Rattle.std.specs.Prelude.{Some, None}
 use Rattle.files.proofs.Runs.{broken_then, run_within}
 use Rattle.files.proofs.Passes.{together_reads}
 use Rattle.files.proofs.Sizes.{Wants, then_wants, first_wants, number_takes, then_number, not_begun, begun_within, begun}
@@ -21,14 +21,14 @@ use Rattle.files.proofs.Sizes.{Wants, then_wants, first_wants, number_takes, the
 -- ---- 13
 
 module _ (bs : List ℕ) where
-  pub broken_told : (l : Laid) → layout bs ≡ broken → l.whole ≡ false → LayoutTold bs l
+  pub broken_told : layout bs ≡ broken → LayoutTold bs None
   unfolding table_in
-  broken_told l e w = LayoutTold.breaks (λ L. ap (judged L) e) w
+  broken_told e = LayoutTold.breaks (λ L. ap (judged L) e) refl
 
   -- bytes are left over
-  pub more_told : (l : Laid) (t : Table) (end : ℕ) → layout bs ≡ got t (drop end bs) → end < length bs → l.whole ≡ false → LayoutTold bs l
+  pub more_told : (t : Table) (end : ℕ) → layout bs ≡ got t (drop end bs) → end < length bs → LayoutTold bs None
   unfolding table_in
-  more_told l t end e h w = LayoutTold.breaks (λ L. ap (judged L) (e ∙ ap (got t) (drop-cons bs end 0 h))) w
+  more_told t end e h = LayoutTold.breaks (λ L. ap (judged L) (e ∙ ap (got t) (drop-cons bs end 0 h))) refl
 
 -- ---- the header
 
@@ -38,9 +38,9 @@ table_wants =
     then_wants 2 6 _ (number_takes 2) (λ d. then_wants 2 4 _ (number_takes 2) (λ ne. then_wants 2 2 _ (number_takes 2) (λ nv. first_wants 2 _ (number_takes 2))))
 
 module _ (bs : List ℕ) where
-  pub no_header : (l : Laid) → begins 0x48 0x44 8 bs ≡ false → l.whole ≡ false → LayoutTold bs l
+  pub no_header : begins 0x48 0x44 8 bs ≡ false → LayoutTold bs None
   unfolding layout
-  no_header l h w = broken_told bs l (not_begun 0x48 0x44 8 table_after bs table_wants h) w
+  no_header h = broken_told bs (not_begun 0x48 0x44 8 table_after bs table_wants h)
 
   -- what was read of it
   pub record Header (d ne nv nh : ℕ) : Type 0 where
@@ -67,23 +67,23 @@ module _ (bs : List ℕ) where
 
     -- ---- the records, kind by kind
 
-    pub no_points : (l : Laid) → many nv (point_in d) (drop header_size bs) ≡ broken → l.whole ≡ false → LayoutTold bs l
-    no_points l h w = broken_told bs l (header_read ∙ broken_then (many nv (point_in d) (drop header_size bs)) _ h) w
+    pub no_points : many nv (point_in d) (drop header_size bs) ≡ broken → LayoutTold bs None
+    no_points h = broken_told bs (header_read ∙ broken_then (many nv (point_in d) (drop header_size bs)) _ h)
 
     module _ (planesAt : ℕ) (ps : Together (point_in d) bs header_size nv planesAt) where
       points_read : layout bs ≡ and_then (many nh (plane_in d) (drop planesAt bs)) (λ hs b₂. and_then (many ne element_in b₂) (λ es b₃.
           got (record { dimension = d; points = ps.list; elements = es; planes = hs }) b₃))
       points_read = header_read ∙ and_then_lem (many nv (point_in d) (drop header_size bs)) _ ps.list (drop planesAt bs) (together_reads (point_in d) bs header_size nv planesAt ps)
 
-      pub no_planes : (l : Laid) → many nh (plane_in d) (drop planesAt bs) ≡ broken → l.whole ≡ false → LayoutTold bs l
-      no_planes l h w = broken_told bs l (points_read ∙ broken_then (many nh (plane_in d) (drop planesAt bs)) _ h) w
+      pub no_planes : many nh (plane_in d) (drop planesAt bs) ≡ broken → LayoutTold bs None
+      no_planes h = broken_told bs (points_read ∙ broken_then (many nh (plane_in d) (drop planesAt bs)) _ h)
 
       module _ (elementsAt : ℕ) (hs : Together (plane_in d) bs planesAt nh elementsAt) where
         planes_read : layout bs ≡ and_then (many ne element_in (drop elementsAt bs)) (λ es b₃. got (record { dimension = d; points = ps.list; elements = es; planes = hs.list }) b₃)
         planes_read = points_read ∙ and_then_lem (many nh (plane_in d) (drop planesAt bs)) _ hs.list (drop elementsAt bs) (together_reads (plane_in d) bs planesAt nh elementsAt hs)
 
-        pub no_elements : (l : Laid) → many ne element_in (drop elementsAt bs) ≡ broken → l.whole ≡ false → LayoutTold bs l
-        no_elements l h w = broken_told bs l (planes_read ∙ broken_then (many ne element_in (drop elementsAt bs)) _ h) w
+        pub no_elements : many ne element_in (drop elementsAt bs) ≡ broken → LayoutTold bs None
+        no_elements h = broken_told bs (planes_read ∙ broken_then (many ne element_in (drop elementsAt bs)) _ h)
 
         module _ (end : ℕ) (es : Together element_in bs elementsAt ne end) where
           abbrev said : Table
@@ -92,15 +92,15 @@ module _ (bs : List ℕ) where
           elements_read : layout bs ≡ got said (drop end bs)
           elements_read = planes_read ∙ and_then_lem (many ne element_in (drop elementsAt bs)) _ es.list (drop end bs) (together_reads element_in bs elementsAt ne end es)
 
-          pub bytes_more : (l : Laid) → (end ≡ length bs → ⊥) → l.whole ≡ false → LayoutTold bs l
-          bytes_more l h w =
+          pub bytes_more : (end ≡ length bs → ⊥) → LayoutTold bs None
+          bytes_more h =
               let k = run_within element_in bs elementsAt es.list end es.run in
-              more_told bs l said end elements_read (omega (arith, k, h)) w
+              more_told bs said end elements_read (omega (arith, k, h))
 
           pub all_told : end ≡ length bs
-              → LayoutTold bs (record { whole = true; dimension = d; elements = ne; vertices = nv; hyperplanes = nh; planes_at = planesAt; elements_at = elementsAt })
+              → LayoutTold bs (Some (record { dimension = d; elements = ne; vertices = nv; hyperplanes = nh; planes_at = planesAt; elements_at = elementsAt }))
           all_told h =
-              LayoutTold.stands said
+              LayoutTold.stands _ said
               (record {
                 says = elements_read ∙ ap (got said) (ap (λ (i : ℕ). drop i bs) h ∙ drop-length bs);
                 dimension = refl;

@@ -1,15 +1,13 @@
 -- What a pass over a record tells, by what was tested of it: too short, another mark, a head that does not fit, or it ends behind its bytes.
 -- And over many: each begins where the one before it ends, up to the first that breaks.
-use Rattle.std.specs.Prelude.{if◌then◌else◌}
-use Prim.Native.Nat.{ℕ, ◌+◌, ◌*◌, ◌≤◌, ◌<◌}
-use mathlib.Core.Bool.{Bool, true, false, ◌&&◌}
-use mathlib.Core.List.{List, [], ◌∷◌, ◌++◌}
+use Rattle.std.specs.Prelude.{if◌then◌else◌, Option, Some, None, MatchOption}
+use Prim.Native.Nat.{ℕ, zero, suc, ◌+◌, ◌*◌, ◌≤◌, ◌<◌}
+use mathlib.Core.Bool.{true, false}
+use mathlib.Core.List.{List, [], ◌∷◌}
 use mathlib.Core.Path.{◌≡◌, refl, sym, ap, subst, ◌∙◌}
 use native.Mathlib.Omega.{arith}
-use lib.Dec.{leb, eqb}
-use lib.ListN.{length, drop, length-append, length-drop}
+use lib.ListN.{length, drop, length-drop}
 use lib.Seq.{drop-drop}
-use Rattle.rules.specs.Limits.{no_plane}
 use Rattle.rules.specs.Bytes.{number_at}
 use Rattle.rules.specs.Table.{Element}
 use Rattle.rules.specs.Memory.{read_element}
@@ -17,62 +15,66 @@ use Rattle.rules.specs.Files.{Reading, broken, got, and_then, after_mark, many, 
 use Rattle.rules.proofs.ByteLaws.{and_then_lem}
 use Rattle.rules.proofs.Laws.{if_true, if_false}
 use Rattle.files.specs.Runs.{Read}
-use Rattle.files.specs.Passed.{begins, Ends, breaks, ends, Together, AllEnd, all_break, all_end}
-use Rattle.files.specs.declared.layout.Pass.{Pass}
-use Rattle.files.specs.declared.layout.Pass.TheVariants.{Broken, At}
-use Rattle.files.proofs.Runs.{broken_then, run_within, run_many, run_snoc, run_breaks}
+use Rattle.files.specs.Passed.{begins, Ends, breaks, ends, Repeats, Together, AllEnd, all_break, all_end}
+use Rattle.files.proofs.Runs.{broken_then, run_within, run_many}
 use Rattle.files.proofs.Sizes.{Wants, Takes, then_wants, first_wants, number_takes, floats_take, numbers_take, plane_takes, then_number, not_begun, begun_within, begun}
 
--- ---- what was told of one record, and of many
+-- ---- what was told of one record after another, and of all of them
 
-module _ {A : Type 0} (f : List ℕ → Reading A) (bs : List ℕ) (at : ℕ) where
-  pub one_broken : (p : Pass) → Ends f bs at p → p ≡ Broken → f (drop at bs) ≡ broken
-  one_broken p (breaks h e) q = h
-  one_broken p (ends x end r e) q = absurd (let z : ◌≡◌ {A = ℕ} 0 1 = cc in omega arith)
+module _ {A : Type 0} (f : List ℕ → Reading A) (bs : List ℕ) where
+  together_none : (at : ℕ) → at ≤ length bs → Together f bs at 0 at
+  together_none at h = record { list = []; counted = refl; run = (refl, h) }
 
-  pub one_read : (p : Pass) (end : ℕ) → Ends f bs at p → p ≡ At end → (x : A) × Read f bs at x end
-  one_read p end (breaks h e) q = absurd (let z : ◌≡◌ {A = ℕ} 0 1 = cc in omega arith)
-  one_read p end (ends x last r e) q = let z : last ≡ end = cc in (x, subst (λ (i : ℕ). Read f bs at x i) z r)
+  together_more : (n at mid end : ℕ) (x : A) → Read f bs at x mid → Together f bs mid n end → Together f bs at (suc n) end
+  together_more n at mid end x r t = record { list = x ∷ t.list; counted = ap suc t.counted; run = (mid, r, t.run) }
 
-  pub together_none : at ≤ length bs → Together f bs at 0 at
-  together_none h = record { list = []; counted = refl; run = (refl, h) }
+  pub together_within : (at n end : ℕ) → Together f bs at n end → end ≤ length bs
+  together_within at n end t = run_within f bs at t.list end t.run
 
-  pub together_more : (n mid end : ℕ) → Together f bs at n mid → (x : A) × Read f bs mid x end → Together f bs at (n + 1) end
-  together_more n mid end t r = record {
-    list = t.list ++ r.0 ∷ [];
-    counted = let l = length-append t.list (r.0 ∷ []) in let k = t.counted in omega (arith, l, k);
-    run = run_snoc f bs at t.list mid r.0 end t.run r.1;
-  }
+  pub together_reads : (at n end : ℕ) (t : Together f bs at n end) → many n f (drop at bs) ≡ got t.list (drop end bs)
+  together_reads at n end t = ap (λ (k : ℕ). many k f (drop at bs)) (sym t.counted) ∙ run_many f bs at t.list end t.run
 
-  pub together_within : (n end : ℕ) → Together f bs at n end → end ≤ length bs
-  together_within n end t = run_within f bs at t.list end t.run
+  pub one_broken : (at : ℕ) → Ends f bs at None → f (drop at bs) ≡ broken
+  one_broken at (breaks h e) = h
+  one_broken at (ends x end r e) = cc
 
-  pub together_reads : (n end : ℕ) (t : Together f bs at n end) → many n f (drop at bs) ≡ got t.list (drop end bs)
-  together_reads n end t = ap (λ (k : ℕ). many k f (drop at bs)) (sym t.counted) ∙ run_many f bs at t.list end t.run
+  -- one more in front of those that were told
+  one_more : (n at mid : ℕ) (x : A) (p : Option ℕ) → Read f bs at x mid → AllEnd f bs mid n p → AllEnd f bs at (suc n) p
+  one_more n at mid x p r (all_break h e) = all_break (and_then_lem (f (drop at bs)) _ x (drop mid bs) r.says ∙ broken_then (many n f (drop mid bs)) _ h) e
+  one_more n at mid x p r (all_end end t e) = all_end end (together_more n at mid end x r t) e
 
-  -- the loop stops at the first that breaks
-  pub stopped : (n i mid : ℕ) → Together f bs at i mid → f (drop mid bs) ≡ broken → i < n → AllEnd f bs at n Broken
-  stopped n i mid t b h = all_break (run_breaks f bs at t.list mid n t.run b (let k = t.counted in omega (arith, k, h))) refl
+  module _ (step : ℕ → Option ℕ → Type 0) (tells : (at : ℕ) (p : Option ℕ) → at ≤ length bs → step at p → Ends f bs at p) where
+    repeated : (n at : ℕ) (p : Option ℕ) → at ≤ length bs → Repeats step at n p → AllEnd f bs at n p
+    repeated zero at p w h = all_end at (together_none at w) h
+    repeated (suc n) at p w (q, s, r) = go (tells at q w s) (λ end k. repeated n end p k)
+      where
+        go : Ends f bs at q → ((end : ℕ) → end ≤ length bs → Repeats step end n p → AllEnd f bs end n p) → AllEnd f bs at (suc n) p
+        go (breaks h e) others = all_break (broken_then (f (drop at bs)) _ h) (subst (λ (o : Option ℕ). MatchOption o (p ≡ None) (λ end. Repeats step end n p)) e r)
+        go (ends x end d e) others =
+            one_more n at end x p d (others end d.within (subst (λ (o : Option ℕ). MatchOption o (p ≡ None) (λ end. Repeats step end n p)) e r))
 
-  -- or has passed them all
-  pub passed : (n i end : ℕ) → Together f bs at i end → i ≡ n → AllEnd f bs at n (At end)
-  passed n i end t e = all_end end (subst (λ (k : ℕ). Together f bs at k end) e t) refl
+    -- they break, or they stand together
+    pub stopped : (n at : ℕ) → at ≤ length bs → Repeats step at n None → many n f (drop at bs) ≡ broken
+    stopped n at w r = go (repeated n at None w r)
+      where
+        go : AllEnd f bs at n None → many n f (drop at bs) ≡ broken
+        go (all_break h e) = h
+        go (all_end end t e) = cc
 
-  pub all_broken : (n : ℕ) (p : Pass) → AllEnd f bs at n p → p ≡ Broken → many n f (drop at bs) ≡ broken
-  all_broken n p (all_break h e) q = h
-  all_broken n p (all_end end t e) q = absurd (let z : ◌≡◌ {A = ℕ} 0 1 = cc in omega arith)
-
-  pub all_together : (n : ℕ) (p : Pass) (end : ℕ) → AllEnd f bs at n p → p ≡ At end → Together f bs at n end
-  all_together n p end (all_break h e) q = absurd (let z : ◌≡◌ {A = ℕ} 0 1 = cc in omega arith)
-  all_together n p end (all_end last t e) q = let z : last ≡ end = cc in subst (λ (i : ℕ). Together f bs at n i) z t
+    pub ran : (n at end : ℕ) → at ≤ length bs → Repeats step at n (Some end) → Together f bs at n end
+    ran n at end w r = go (repeated n at (Some end) w r)
+      where
+        go : AllEnd f bs at n (Some end) → Together f bs at n end
+        go (all_break h e) = cc
+        go (all_end last t e) = let z : last ≡ end = cc in subst (λ (i : ℕ). Together f bs at n i) z t
 
 -- ---- a record of a known size
 
 module _ (bs : List ℕ) (at : ℕ) {A : Type 0} (a b k : ℕ) (f : List ℕ → Reading A) where
-  pub ends_not : Wants k f → begins a b k (drop at bs) ≡ false → Ends (after_mark a b f) bs at Broken
+  pub ends_not : Wants k f → begins a b k (drop at bs) ≡ false → Ends (after_mark a b f) bs at None
   ends_not w h = breaks (not_begun a b k f (drop at bs) w h) refl
 
-  pub ends_sized : Takes k f → begins a b k (drop at bs) ≡ true → Ends (after_mark a b f) bs at (At (at + 2 + k))
+  pub ends_sized : Takes k f → begins a b k (drop at bs) ≡ true → Ends (after_mark a b f) bs at (Some (at + 2 + k))
   ends_sized t h =
       let w = begun_within a b k bs at h in
       ends (t.value (drop (at + 2) bs)) (at + 2 + k)
@@ -86,27 +88,23 @@ module _ (bs : List ℕ) (at : ℕ) {A : Type 0} (a b k : ℕ) (f : List ℕ →
       refl
 
 module _ (bs : List ℕ) (at d : ℕ) where
-  pub no_point : begins 0x56 0x58 (8 * d) (drop at bs) ≡ false → Ends (point_in d) bs at Broken
+  pub no_point : begins 0x56 0x58 (8 * d) (drop at bs) ≡ false → Ends (point_in d) bs at None
   unfolding point_in
   no_point h = ends_not bs at 0x56 0x58 (8 * d) (many d float) (floats_take d).wants h
 
-  pub point_ends : begins 0x56 0x58 (8 * d) (drop at bs) ≡ true → Ends (point_in d) bs at (At (at + 2 + 8 * d))
+  pub point_ends : begins 0x56 0x58 (8 * d) (drop at bs) ≡ true → Ends (point_in d) bs at (Some (at + 2 + 8 * d))
   unfolding point_in
   point_ends h = ends_sized bs at 0x56 0x58 (8 * d) (many d float) (floats_take d) h
 
-  pub no_plane_lem : begins 0x48 0x50 (8 * d + 8) (drop at bs) ≡ false → Ends (plane_in d) bs at Broken
+  pub no_plane_lem : begins 0x48 0x50 (8 * d + 8) (drop at bs) ≡ false → Ends (plane_in d) bs at None
   unfolding plane_in
   no_plane_lem h = ends_not bs at 0x48 0x50 (8 * d + 8) (plane_after d) (plane_takes d).wants h
 
-  pub plane_ends : begins 0x48 0x50 (8 * d + 8) (drop at bs) ≡ true → Ends (plane_in d) bs at (At (at + 2 + (8 * d + 8)))
+  pub plane_ends : begins 0x48 0x50 (8 * d + 8) (drop at bs) ≡ true → Ends (plane_in d) bs at (Some (at + 2 + (8 * d + 8)))
   unfolding plane_in
   plane_ends h = ends_sized bs at 0x48 0x50 (8 * d + 8) (plane_after d) (plane_takes d) h
 
--- ---- the head of an element's record, by its tests
-
-pub fits_by : (r m h n : ℕ) (a b c d : Bool) → leb m 1 ≡ a → eqb r 0 ≡ b → eqb m 0 ≡ c → eqb h no_plane ≡ d
-    → (a && (if b then (c && d && eqb n 1) else true)) ≡ element_fits r m h n
-fits_by r m h n a b c d p q s t = λ i. sym p i && (if sym q i then (sym s i && sym t i && eqb n 1) else true)
+-- ---- an element's record
 
 -- rank, mark, hyperplane and count are there
 pub element_wants : Wants 6 element_after
@@ -114,7 +112,7 @@ element_wants =
     then_wants 1 5 _ (number_takes 1) (λ r. then_wants 1 4 _ (number_takes 1) (λ m. then_wants 2 2 _ (number_takes 2) (λ h. first_wants 2 _ (number_takes 2))))
 
 module _ (bs : List ℕ) (at : ℕ) where
-  pub no_element : begins 0x45 0x4C 6 (drop at bs) ≡ false → Ends element_in bs at Broken
+  pub no_element : begins 0x45 0x4C 6 (drop at bs) ≡ false → Ends element_in bs at None
   unfolding element_in
   no_element h = ends_not bs at 0x45 0x4C 6 element_after element_wants h
 
@@ -145,20 +143,20 @@ module _ (bs : List ℕ) (at : ℕ) where
         ∙ then_number bs 2 (at + 6) (at + 8) _ (omega arith) (omega (arith, w))
         ∙ (λ i. boundary_part (sym H.rank i) (sym H.mark i) (sym H.plane i) (sym H.count i))
 
-    pub element_unfit : element_fits r m h c ≡ false → Ends element_in bs at Broken
+    pub element_unfit : element_fits r m h c ≡ false → Ends element_in bs at None
     element_unfit k = breaks (head_read ∙ go (many c (number 2) (drop (at + 8) bs))) refl
       where
         go : (q : Reading (List ℕ)) → and_then q (λ b b₅. if element_fits r m h c then got (read_element (r ∷ m ∷ h ∷ c ∷ b)) b₅ else broken) ≡ broken
         go broken = refl
         go (got b b₅) = if_false (element_fits r m h c) _ _ k
 
-    pub element_cut_off : length bs < at + 8 + 2 * c → Ends element_in bs at Broken
+    pub element_cut_off : length bs < at + 8 + 2 * c → Ends element_in bs at None
     element_cut_off k =
         let w = head_within in
         let l = length-drop (at + 8) bs in
         breaks (head_read ∙ broken_then (many c (number 2) (drop (at + 8) bs)) _ ((numbers_take c).wants (drop (at + 8) bs) (omega (arith, w, l, k)))) refl
 
-    pub element_ends : element_fits r m h c ≡ true → at + 8 + 2 * c ≤ length bs → Ends element_in bs at (At (at + 8 + 2 * c))
+    pub element_ends : element_fits r m h c ≡ true → at + 8 + 2 * c ≤ length bs → Ends element_in bs at (Some (at + 8 + 2 * c))
     element_ends k l =
         let t = numbers_take c in
         let cs = drop (at + 8) bs in

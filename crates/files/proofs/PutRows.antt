@@ -8,10 +8,12 @@ use native.Mathlib.Numerals.{add-one}
 use native.Mathlib.Omega.{arith}
 use lib.ListN.{length, get_or, take, drop, replicate, length-append, length-replicate, drop_of_length-le}
 use lib.Seq.{sets, length-sets, sets-eq, take-suc, take_all, take_at, length-take-le}
+use borrow.Rule.Slice.PartMut.{put_mid, mid_of}
 use Rattle.rules.specs.Lists.{joined}
 use Rattle.rules.specs.Held.{laid, Wide}
 use Rattle.rules.specs.Files.{Reading}
 use Rattle.rules.proofs.ByteLaws.{got_value}
+use Rattle.space.proofs.Zeros.{filled}
 use Rattle.space.proofs.Laid.{map_append, concat_append, rows_size}
 use Rattle.files.specs.Runs.{Run}
 use Rattle.files.specs.Putting.{RecordsReady, RecordsPut}
@@ -58,13 +60,6 @@ rows_filled {A} {B} z w room g xs ys f v p l =
     ∙ append-nil (take n ys ++ replicate (room - n) z)
     ∙ ap₂ (λ (q : List B) (m : ℕ). q ++ replicate (room - m) z) f (sym (rows_size w g xs v))
 
--- a list that is stored over another of its length
-pub stored_whole : {A : Type 0} (vs l : List A) → length l ≡ length vs → sets l 0 vs ≡ vs
-stored_whole {A} vs l e =
-    sets-eq vs l 0 (omega (arith, e))
-    ∙ ap (λ (q : List A). vs ++ q) (drop_of_length-le l (let q : length l ≤ 0 + length vs = omega (arith, e) in q))
-    ∙ append-nil vs
-
 module _ {A B : Type 0} (f : List ℕ → Reading A) (g : A → List B) (w room : ℕ) (bs : List ℕ) (from n : ℕ) where
   pub record RowsSoFar (at i : ℕ) (xs : List B) : Type 0 where
     pub ready : RecordsReady f g w room bs from n xs
@@ -108,16 +103,19 @@ module _ {A B : Type 0} (f : List ℕ → Reading A) (g : A → List B) (w room 
         }
 
     -- all rows, and z behind them
-    pub all_put : n ≤ i → (z : B) {new : List B} → new ≡ sets xs (n * w) (replicate (room - n * w) z) → RecordsPut f g z room bs from n new
-    all_put h z {new} q = record {
-      rows = λ end t. q
-          ∙ ap (λ (k : ℕ). sets xs (k * w) (replicate (room - k * w) z)) (sym p.records.counted)
+    pub all_put : n ≤ i → (z : B) (ys : List B) → ys ≡ replicate (length (mid_of (n * w) (length xs - n * w) xs)) z → RecordsPut f g z room bs from n (put_mid (n * w) (length xs - n * w) xs ys)
+    all_put h z ys e = record {
+      rows = λ end t. filled z xs (n * w) (length xs) ys within_room (let l : length xs ≤ length xs = omega arith in l) e
+          ∙ ap₂ (λ (k m : ℕ). sets xs (k * w) (replicate (m - k * w) z)) (sym p.records.counted) p.long
           ∙ rows_filled z w room g list xs fronted p.wide (subst (λ (k : ℕ). k * w ≤ room) (sym p.records.counted) p.place) p.long
           ∙ ap (laid z room g) (got_value list t.list (drop p.end bs) (drop end bs) (sym (together_reads f bs from n p.end p.records) ∙ together_reads f bs from n end t));
     }
       where
         p : RecordsReady f g w room bs from n xs
         p = s.ready
+
+        within_room : n * w ≤ length xs
+        within_room = let r = p.place in let l = p.long in omega (arith, r, l)
 
         here : i ≡ length list
         here = let a = s.within in let c = p.records.counted in omega (arith, a, c, h)

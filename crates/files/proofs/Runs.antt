@@ -1,7 +1,7 @@
 -- Records that stand one after another: how they are read, where a run goes on, and what stands at its i-th place.
 use Prim.Native.Nat.{ℕ, zero, suc, ◌≤◌, ◌<◌}
-use mathlib.Core.List.{List, [], ◌∷◌, ◌++◌}
-use mathlib.Core.Path.{◌≡◌, refl, sym, ap, subst, ◌∙◌}
+use mathlib.Core.List.{List, [], ◌∷◌}
+use mathlib.Core.Path.{◌≡◌, refl, sym, ap, ◌∙◌}
 use native.Mathlib.Nat.{le_of_suc-le-suc, not-suc-le-zero}
 use native.Mathlib.Omega.{arith}
 use lib.ListN.{length, get_or, take, drop, length-drop}
@@ -46,23 +46,6 @@ module _ {A : Type 0} (f : List ℕ → Reading A) (bs : List ℕ) where
   run_end at xs i j r s =
       same_end bs i j (run_within at xs i r) (run_within at xs j s)
       (got_rest xs xs (drop i bs) (drop j bs) (sym (run_many at xs i r) ∙ run_many at xs j s))
-
-  -- one run after another
-  pub run_append : (at : ℕ) (xs : List A) (mid : ℕ) (ys : List A) (end : ℕ) → Run f bs at xs mid → Run f bs mid ys end → Run f bs at (xs ++ ys) end
-  run_append at [] mid ys end r s = subst (λ (i : ℕ). Run f bs i ys end) (sym r.0) s
-  run_append at (x ∷ xs) mid ys end r s = (r.0, r.1, run_append r.0 xs mid ys end r.2 s)
-
-  -- and by one at its end
-  pub run_snoc : (at : ℕ) (xs : List A) (mid : ℕ) (x : A) (end : ℕ) → Run f bs at xs mid → Read f bs mid x end → Run f bs at (xs ++ x ∷ []) end
-  run_snoc at xs mid x end r s = run_append at xs mid (x ∷ []) end r (end, s, (refl, s.within))
-
-  -- what breaks behind a run breaks the reading of more
-  pub run_breaks : (at : ℕ) (xs : List A) (mid n : ℕ) → Run f bs at xs mid → f (drop mid bs) ≡ broken → length xs < n → many n f (drop at bs) ≡ broken
-  run_breaks at xs mid zero r b h = absurd (not-suc-le-zero h)
-  run_breaks at [] mid (suc n) r b h = broken_then (f (drop at bs)) _ (ap (λ (i : ℕ). f (drop i bs)) r.0 ∙ b)
-  run_breaks at (x ∷ xs) mid (suc n) r b h =
-      and_then_lem (f (drop at bs)) _ x (drop r.0 bs) r.1.says
-      ∙ broken_then (many n f (drop r.0 bs)) _ (run_breaks r.0 xs mid n r.2 b (le_of_suc-le-suc h))
 
   -- ---- what stands in a run
 

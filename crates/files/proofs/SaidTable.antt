@@ -28,11 +28,11 @@ use Rattle.soundness.proofs.SoundWhole.{CountsLow, fit_counts}
 use Rattle.files.specs.Runs.{Run}
 use Rattle.files.specs.Laid.{header_size, Whole}
 use Rattle.files.specs.Entries.{count_at, row_at, RowReady}
-use Rattle.files.specs.Judged.{width_fits, widths_fit, laid_fits}
+use Rattle.files.specs.Judged.{width_fits, widths_fit, laid_fits, no_plane_there}
 use Rattle.files.specs.declared.layout.Laid.{Laid}
 use Rattle.files.proofs.Runs.{run_at, run_within}
 use Rattle.files.proofs.EntriesRead.{element_read}
-use Rattle.files.proofs.Standing.{no_plane_there, point_here, points_from, plane_here, planes_from, element_here, element_row_lem, boundary_fits}
+use Rattle.files.proofs.Standing.{point_here, points_from, plane_here, planes_from, element_here, element_row_lem, boundary_fits}
 
 -- ---- its rows fit the room
 

@@ -5,7 +5,7 @@ use mathlib.Core.List.{List, [], ◌∷◌, ◌++◌}
 use mathlib.Core.Path.{◌≡◌, refl, sym, ap, ap₂, ◌∙◌}
 use native.Mathlib.Nat.{le_of_suc-le-suc, not-suc-le-zero}
 use native.Mathlib.Omega.{arith}
-use lib.ListN.{length, get_or, set, take, drop, length-append, length-drop}
+use lib.ListN.{length, get_or, take, drop, length-append, length-drop}
 use lib.Seq.{length-take-le, take-take, take_all, drop-drop, get_or-take, get_or-drop}
 use lib.Ieee.{Float, nan, binary64, to_bits, is_nan}
 use Rattle.rules.specs.Floats.{plus_zero}
@@ -34,9 +34,6 @@ numbers_part k ns from to h = part_long (bytes_of k) k (bytes_long k) ns from to
 
 pub floats_part : (xs : List Float) (from to : ℕ) → to ≤ length xs → length (float_bytes (drop from (take to xs))) ≡ (to - from) * 8
 floats_part xs from to h = part_long float_byte8 8 (λ x. bytes_long 8 (to_bits binary64 x)) xs from to h
-
-pub put_two : (room : List ℕ) (at x y : ℕ) → Put room at (x ∷ y ∷ []) (at + 2) (set (set room at x) (at + 1) y)
-put_two room at x y = record { place = refl; room = ap (λ (j : ℕ). set (set room at x) j y) (let q : at + 1 ≡ suc at = omega arith in q) }
 
 -- what stands in a list does not hang on what stands for nothing
 there : {A : Type 0} (xs : List A) (i : ℕ) (a b : A) → i < length xs → get_or xs i a ≡ get_or xs i b

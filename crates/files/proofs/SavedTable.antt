@@ -1,5 +1,5 @@
 -- The words of a sound memory can be written, and the records that are written of them are the one file of its table.
-use Rattle.std.specs.Prelude.{if◌then◌else◌}
+use Rattle.std.specs.Prelude.{if◌then◌else◌, Ok, Err}
 use Prim.Native.Nat.{ℕ, suc, ◌+◌, ◌*◌, ◌≤◌, ◌<◌}
 use mathlib.Core.Bool.{Bool, true, false, not, ◌&&◌, cond}
 use mathlib.Core.List.{List, [], ◌∷◌, ◌++◌, map}
@@ -19,7 +19,6 @@ use Rattle.rules.specs.Held.{memory_of, element_words, Wide}
 use Rattle.rules.specs.Questions.{Asked, no_answer, answer}
 use Rattle.rules.specs.Replies.{listed}
 use Rattle.rules.specs.Files.{header, point_record, plane_record, row_record, element_record, file_of, save_reply}
-use Rattle.rules.specs.declared.ListReply.TheVariants.{Refused, Listed}
 use Rattle.rules.proofs.Each.{all_map}
 use Rattle.rules.proofs.Laws.{and_left, and_right, eq_test, test_le, test_above, if_true, if_false}
 use Rattle.rules.proofs.OneCall.{sound_table}
@@ -34,6 +33,7 @@ use Rattle.lent_bytes.proofs.Puts.{then as behind, put_as, put_length}
 use Rattle.files.specs.Saved.{header_saved, point_saved, plane_saved, row_saved, are_numbers, point_clear, plane_clear, count_fits, saved, file_size, RowsReady, HeaderReady, SizeReady}
 use Rattle.files.proofs.SavedSizes.{elements_few, points_few, planes_few}
 use Rattle.files.proofs.SavedRecords.{header_long, point_long, plane_long, rows_front_long}
+use Rattle.rules.specs.declared.Refusal.TheVariants.{NotSound, RoomShort}
 
 -- ---- a row that is what is written of its element
 
@@ -287,10 +287,10 @@ module _ (cs : List ℕ) (ps hs : List Float) (es : List ℕ) (s : sound_memory 
 -- ---- the replies
 
 module _ (cs : List ℕ) (ps hs : List Float) (es : List ℕ) (room : List ℕ) where
-  pub save_three : sound_memory desk (memory_of cs ps hs es) ≡ false → (Refused 3, room) ≡ save_reply desk (memory_of cs ps hs es) room
+  pub save_three : sound_memory desk (memory_of cs ps hs es) ≡ false → (Err NotSound, room) ≡ save_reply desk (memory_of cs ps hs es) room
   unfolding save_reply
   save_three s =
-      sym (ap (λ (a : Asked (List ℕ)). listed a room) (if_true (not (sound_memory desk (memory_of cs ps hs es))) (no_answer 3) (answer (file_of (decode desk (memory_of cs ps hs es)))) (ap not s)))
+      sym (ap (λ (a : Asked (List ℕ)). listed a room) (if_true (not (sound_memory desk (memory_of cs ps hs es))) (no_answer NotSound) (answer (file_of (decode desk (memory_of cs ps hs es)))) (ap not s)))
 
   module _ (s : sound_memory desk (memory_of cs ps hs es) ≡ true) where
     xs : List ℕ
@@ -298,21 +298,21 @@ module _ (cs : List ℕ) (ps hs : List Float) (es : List ℕ) (room : List ℕ) 
 
     save_by : save_reply desk (memory_of cs ps hs es) room ≡ listed (answer xs) room
     unfolding save_reply xs
-    save_by = ap (λ (a : Asked (List ℕ)). listed a room) (if_false (not (sound_memory desk (memory_of cs ps hs es))) (no_answer 3) (answer (file_of (decode desk (memory_of cs ps hs es)))) (ap not s))
+    save_by = ap (λ (a : Asked (List ℕ)). listed a room) (if_false (not (sound_memory desk (memory_of cs ps hs es))) (no_answer NotSound) (answer (file_of (decode desk (memory_of cs ps hs es)))) (ap not s))
 
-    pub save_twelve : {n : ℕ} → n ≡ file_size cs es → length room < n → (Refused 12, room) ≡ save_reply desk (memory_of cs ps hs es) room
+    pub save_twelve : {n : ℕ} → n ≡ file_size cs es → length room < n → (Err RoomShort, room) ≡ save_reply desk (memory_of cs ps hs es) room
     unfolding xs
     save_twelve {n} e h =
         let z = size_is cs ps hs es s in
-        sym (save_by ∙ if_false (leb (length xs) (length room)) (Listed (length xs), xs ++ drop (length xs) room) (Refused 12, room) (test_above (length xs) (length room) (omega (arith, e, h, z))))
+        sym (save_by ∙ if_false (leb (length xs) (length room)) (Ok (length xs), xs ++ drop (length xs) room) (Err RoomShort, room) (test_above (length xs) (length room) (omega (arith, e, h, z))))
 
     pub save_fits : {n : ℕ} → n ≡ file_size cs es → n ≤ length room → length (file_of (decode desk (memory_of cs ps hs es))) ≤ length room
     save_fits {n} e h = let z = size_is cs ps hs es s in omega (arith, e, h, z)
 
     pub save_done : {n : ℕ} {after : List ℕ} → length (file_of (decode desk (memory_of cs ps hs es))) ≤ length room → Put room 0 (file_of (decode desk (memory_of cs ps hs es))) n after
-        → (Listed n, after) ≡ save_reply desk (memory_of cs ps hs es) room
+        → (Ok n, after) ≡ save_reply desk (memory_of cs ps hs es) room
     unfolding xs
     save_done {n} {after} h p =
-        ap₂ (λ (k : ℕ) (m : List ℕ). (Listed k, m)) (let q = p.place in let z : n ≡ length xs = omega (arith, q) in z)
+        ap₂ (λ (k : ℕ) (m : List ℕ). (Ok k, m)) (let q = p.place in let z : n ≡ length xs = omega (arith, q) in z)
         (p.room ∙ sets-eq xs room 0 (omega (arith, h)) ∙ ap (λ (k : ℕ). xs ++ drop k room) (let z : 0 + length xs ≡ length xs = omega arith in z))
-        ∙ sym (save_by ∙ if_true (leb (length xs) (length room)) (Listed (length xs), xs ++ drop (length xs) room) (Refused 12, room) (test_le (length xs) (length room) h))
+        ∙ sym (save_by ∙ if_true (leb (length xs) (length room)) (Ok (length xs), xs ++ drop (length xs) room) (Err RoomShort, room) (test_le (length xs) (length room) h))

@@ -4,12 +4,12 @@ use Rattle.std.specs.Prelude.{if◌then◌else◌}
 use Prim.Native.Nat.{ℕ, zero, suc, ◌+◌, ◌*◌, ◌≤◌, ◌<◌}
 use mathlib.Core.Bool.{Bool, true, false, ◌&&◌}
 use mathlib.Core.List.{List, [], ◌∷◌}
-use mathlib.Core.Path.{◌≡◌, refl, sym, ap, ap₂, subst, ◌∙◌}
+use mathlib.Core.Path.{◌≡◌, refl, sym, ap, subst, ◌∙◌}
 use native.Mathlib.Nat.{suc-mul, zero-mul}
 use native.Mathlib.Omega.{arith}
 use lib.Dec.{leb, eqb}
-use lib.ListN.{length, get_or, take, drop, length-take, length-drop}
-use lib.Seq.{drop-drop, drop-cons}
+use lib.ListN.{length, take, drop, length-take, length-drop}
+use lib.Seq.{drop-drop}
 use lib.Ieee.{binary64, of_bits}
 use Rattle.rules.specs.Lists.{alike}
 use Rattle.rules.specs.Bytes.{little_endian, number_at}
@@ -154,31 +154,3 @@ begun_within a b k bs at h =
     let l = length-drop at bs in
     let t = le_test (2 + k) (length (drop at bs)) (and_left (leb (2 + k) (length (drop at bs))) _ h) in
     omega (arith, l, t)
-
--- ---- the test of a mark, byte by byte
-
-module _ (bs : List ℕ) (at a b k : ℕ) where
-  pub begins_short : at ≤ length bs → length bs < at + 2 + k → false ≡ begins a b k (drop at bs)
-  begins_short l h =
-      sym (ap (λ (x : Bool). x && alike eqb (take 2 (drop at bs)) (a ∷ b ∷ []))
-      (test_above (2 + k) (length (drop at bs)) (let d = length-drop at bs in omega (arith, d, l, h))))
-
-  module _ (h : at + 2 + k ≤ length bs) where
-    two_bytes : take 2 (drop at bs) ≡ get_or bs at 0 ∷ get_or bs (at + 1) 0 ∷ []
-    two_bytes =
-        ap (take 2) (drop-cons bs at 0 (omega (arith, h)) ∙ ap (λ (l : List ℕ). get_or bs at 0 ∷ l) (drop-cons bs (suc at) 0 (omega (arith, h))))
-        ∙ ap (λ (i : ℕ). get_or bs at 0 ∷ get_or bs i 0 ∷ []) (let z : suc at ≡ at + 1 = omega arith in z)
-
-    -- by the first byte, then by the second
-    pub begins_by : (x y : Bool) → eqb (get_or bs at 0) a ≡ x → eqb (get_or bs (at + 1) 0) b ≡ y → (x && y) ≡ begins a b k (drop at bs)
-    begins_by x y e g =
-        and_unit x y
-        ∙ sym (ap₂ (λ (p q : Bool). p && q)
-        (test_le (2 + k) (length (drop at bs)) (let d = length-drop at bs in omega (arith, d, h)))
-        (ap (λ (l : List ℕ). alike eqb l (a ∷ b ∷ [])) two_bytes ∙ ap₂ (λ (p q : Bool). p && (q && true)) e g))
-      where
-        and_unit : (x y : Bool) → (x && y) ≡ (true && (x && (y && true)))
-        and_unit true true = refl
-        and_unit true false = refl
-        and_unit false true = refl
-        and_unit false false = refl

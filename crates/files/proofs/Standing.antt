@@ -22,6 +22,7 @@ use Rattle.space.specs.Shared.{row_of}
 use Rattle.space.proofs.Laid.{length_padded}
 use Rattle.space.proofs.VertexMemo.{four_is}
 use Rattle.files.specs.Runs.{Run}
+use Rattle.files.specs.Judged.{no_plane_there}
 use Rattle.files.specs.Entries.{plane_at, count_at, row_at}
 use Rattle.files.proofs.Runs.{run_next}
 use Rattle.files.proofs.EntriesRead.{numbers_long, point_read, plane_read, element_read}
@@ -29,10 +30,6 @@ use Rattle.files.proofs.EntriesRead.{numbers_long, point_read, plane_read, eleme
 -- a record of a known size behind i others
 further : (at i size : ℕ) → at + i * size + size ≡ at + suc i * size
 further at i size = let m = suc-mul i size in omega (arith, m)
-
--- stands for a plane that is not there
-abbrev pub no_plane_there : Plane
-no_plane_there = record { normal = []; distance = plus_zero }
 
 -- ---- vertices
 

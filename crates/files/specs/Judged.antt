@@ -1,8 +1,9 @@
 -- What a file's bytes tell of the soundness of the table that they say: a test for each part. Definitions only.
-use Rattle.std.specs.Prelude.{ℕ, Bool, true, ◌&&◌, ◌≡◌, List, leb, length}
+use Rattle.std.specs.Prelude.{ℕ, Bool, true, ◌&&◌, ◌≡◌, List, [], leb, length, get_or}
 use Rattle.rules.specs.Limits.{desk}
 use Rattle.rules.specs.Lists.{all}
-use Rattle.rules.specs.Table.{Element, Table, boundary_of}
+use Rattle.rules.specs.Table.{Element, Plane, Table, boundary_of}
+use Rattle.rules.specs.Floats.{plus_zero}
 use Rattle.rules.specs.Sound.{sound_point, sound_plane}
 use Rattle.rules.specs.Held.{elements_of}
 use Rattle.soundness.specs.Words.{counts_fit, rows_in_use, rows_distinct}
@@ -52,3 +53,13 @@ pub record SaysFitting (bs : List ℕ) (l : Laid) : Type 0 where
 -- the answer of a test of the table that the bytes say
 pub record Judged (bs : List ℕ) (l : Laid) (test : Table → Bool) (reply : Bool) : Type 0 where
   pub told : (t : Table) → Whole bs l t → reply ≡ test t
+
+-- and of one vertex, and of one hyperplane; a hyperplane that is not there has no normal
+pub record VertexJudged (bs : List ℕ) (l : Laid) (v : ℕ) (reply : Bool) : Type 0 where
+  pub told : (t : Table) → Whole bs l t → reply ≡ sound_point t.dimension (get_or t.points v [])
+
+abbrev pub no_plane_there : Plane
+no_plane_there = record { normal = []; distance = plus_zero }
+
+pub record PlaneJudged (bs : List ℕ) (l : Laid) (h : ℕ) (reply : Bool) : Type 0 where
+  pub told : (t : Table) → Whole bs l t → reply ≡ sound_plane t.dimension (get_or t.planes h no_plane_there)

@@ -1,11 +1,11 @@
 -- What is kept of the elements that were judged, so that the next row can be: four words for each. Definitions only.
-use Rattle.std.specs.Prelude.{ℕ, ◌+◌, ◌*◌, ◌<◌, ◌≤◌, Bool, ◌≡◌, List, eqb, length, get_or, set, drop}
+use Rattle.std.specs.Prelude.{ℕ, ◌+◌, ◌*◌, ◌<◌, ◌≤◌, Bool, ◌≡◌, List, eqb, length, get_or, set, drop, Option}
 use Rattle.rules.specs.Held.{elements_of}
 use Rattle.rules.specs.Limits.{desk}
 use Rattle.rules.specs.Lists.{alike, find, pad, rows}
 use Rattle.rules.specs.Table.{Table}
 use Rattle.rules.specs.Files.{element_in}
-use Rattle.space.specs.Chains.{Indexed, number_of, stored_row}
+use Rattle.space.specs.Chains.{Indexed, stored_row}
 use Rattle.space.specs.Closed.{first_end, second_end}
 use Rattle.space.specs.Numbers.{row_width}
 use Rattle.soundness.specs.Tests.{NewTested}
@@ -58,8 +58,8 @@ pub record SearchKept (bs : List ℕ) (l : Laid) (kept : List ℕ) (n : ℕ) (ro
   pub earlier : (t : Table) → Whole bs l t → Indexed (elements_of desk t) n index
 
 -- the lowest of them that has a row
-pub record LastKept (bs : List ℕ) (l : Laid) (n : ℕ) (row : List ℕ) (reply : ℕ) : Type 0 where
-  pub found : (t : Table) → Whole bs l t → number_of reply ≡ find (alike eqb row) (rows n row_width (elements_of desk t))
+pub record LastKept (bs : List ℕ) (l : Laid) (n : ℕ) (row : List ℕ) (reply : Option ℕ) : Type 0 where
+  pub found : (t : Table) → Whole bs l t → reply ≡ find (alike eqb row) (rows n row_width (elements_of desk t))
 
 -- and the row is that of element n
 pub record RowReadyToKeep (bs : List ℕ) (l : Laid) (kept : List ℕ) (n : ℕ) (row index : List ℕ) : Type 0 where

@@ -1,11 +1,12 @@
 -- What the layout of a file tells: that it is broken, or the table that it says and where its records stand. Definitions only.
-use Rattle.std.specs.Prelude.{ℕ, true, false, ◌≡◌, List, [], length}
+use Rattle.std.specs.Prelude.{ℕ, ◌≡◌, List, [], length, Option, Some, None}
 use Rattle.rules.specs.Limits.{Limits}
 use Rattle.rules.specs.Table.{Table, element_count}
 use Rattle.rules.specs.Questions.{no_answer}
 use Rattle.rules.specs.Files.{got, layout, table_in, point_in, plane_in, element_in}
 use Rattle.files.specs.Runs.{Run}
 use Rattle.files.specs.declared.layout.Laid.{Laid}
+use Rattle.rules.specs.declared.Refusal.TheVariants.{Layout}
 
 -- how many bytes a header has
 abbrev pub header_size : ℕ
@@ -23,6 +24,6 @@ pub record Whole (bs : List ℕ) (l : Laid) (t : Table) : Type 0 where
   pub elements : Run element_in bs l.elements_at t.elements (length bs)
 
 -- what the test of the layout answers
-pub data LayoutTold (bs : List ℕ) (l : Laid) : Type 0 where
-  breaks : ((L : Limits) → table_in L bs ≡ no_answer 13) → l.whole ≡ false → LayoutTold bs l
-  stands : (t : Table) → Whole bs l t → l.whole ≡ true → LayoutTold bs l
+pub data LayoutTold (bs : List ℕ) (reply : Option Laid) : Type 0 where
+  breaks : ((L : Limits) → table_in L bs ≡ no_answer Layout) → reply ≡ None → LayoutTold bs reply
+  stands : (l : Laid) (t : Table) → Whole bs l t → reply ≡ Some l → LayoutTold bs reply

@@ -9,6 +9,7 @@ ghost use Rattle.files.specs.Entries.{PointReady, PlaneReady, plane_at, RowReady
 
 use lent_bytes::read;
 use rules::Hyperplane;
+use soundness::row::HEAD;
 use space::words::{AXES, WIDTH};
 
 // A float of a record: zero past the dimension.
@@ -44,19 +45,19 @@ pub fn plane_at(bytes: &[u8], at: usize, d: usize) -> Hyperplane
     Hyperplane { normal, distance }
 }
 
-// Rank and mark have a byte each, all else two.
+// Rank and mark have a byte each, all else two. The index of a boundary number is its place in the row and in the bytes.
 pub fn row_at(bytes: &[u8], at: usize) -> [u16; WIDTH]
     requires { RowReady bytes.now at }
     ensures { result ≡ pad 0 row_width (row_at at bytes.now) }
 {
-    let n = read::two(bytes, at + 6) as usize;
+    let n = read::number::<2>(bytes, at + 6) as usize;
     let mut row = [0u16; WIDTH];
-    row[0] = read::one(bytes, at + 2) as u16;
-    row[1] = read::one(bytes, at + 3) as u16;
-    row[2] = read::two(bytes, at + 4) as u16;
+    row[0] = read::number::<1>(bytes, at + 2) as u16;
+    row[1] = read::number::<1>(bytes, at + 3) as u16;
+    row[2] = read::number::<2>(bytes, at + 4) as u16;
     row[3] = n as u16;
     for j in 0..n {
-        row[4 + j] = read::two(bytes, at + 8 + 2 * j) as u16;
+        row[HEAD + j] = read::number::<2>(bytes, at + 8 + 2 * j) as u16;
     }
     row
 }

@@ -1,7 +1,7 @@
 // The layout of a file, record by record: that it is broken, or where each kind of record begins. Nothing is kept of what is read.
-ghost use Rattle.std.specs.Prelude.{◌≤◌, false, ◌≡◌, length, drop};
+ghost use Rattle.std.specs.Prelude.{ℕ, ◌≤◌, ◌≡◌, length, drop, slice_index};
 ghost use Rattle.rules.specs.Files.{point_in, plane_in, element_fits, element_in};
-ghost use Rattle.files.specs.Passed.{begins, reader, Place, Ends, AllEnd};
+ghost use Rattle.files.specs.Passed.{begins, Place, Ends, Repeats};
 ghost use Rattle.files.specs.Laid.{LayoutTold};
 
 use lent_bytes::read;
@@ -14,10 +14,9 @@ const HEADER_NUMBERS: usize = 8;
 
 const ELEMENT_NUMBERS: usize = 6;
 
-// Whether a file has the layout, and what its header says; where its hyperplanes and its elements begin. Its vertices follow the header.
+// What the header of a file that has the layout says, and where its hyperplanes and its elements begin. Its vertices follow the header.
 #[derive(Clone, Copy)]
 pub struct Laid {
-    pub whole: bool,
     pub dimension: usize,
     pub elements: usize,
     pub vertices: usize,
@@ -26,171 +25,114 @@ pub struct Laid {
     pub elements_at: usize,
 }
 
-// The records behind a header.
-#[derive(Clone, Copy)]
-enum Kind {
-    Vertices,
-    Hyperplanes,
-    Elements,
-}
-
-// Where a record ends, or many of them do.
-#[derive(Clone, Copy)]
-enum Pass {
-    Broken,
-    At(usize),
-}
-
 // Whether a mark is there, with so many bytes behind it.
-fn begins_with(bytes: &[u8], at: usize, first: u8, second: u8, rest: usize) -> bool
+fn begins_with(bytes: &[u8], at: usize, mark: &[u8; 2], rest: usize) -> bool
     requires { at ≤ length bytes.now }
-    ensures { result ≡ begins first second rest (drop at bytes.now) }
+    ensures { result ≡ begins (slice_index mark.now 0) (slice_index mark.now 1) rest (drop at bytes.now) }
 {
-    if bytes.len() - at < 2 {
-        return false;
-    }
-    if bytes.len() - at - 2 < rest {
-        return false;
-    }
-    if bytes[at] != first {
-        return false;
-    }
-    bytes[at + 1] == second
+    let here = &bytes[at..];
+    here.starts_with(mark) && rest <= here.len() - 2
 }
 
-fn point(bytes: &[u8], at: usize, d: usize) -> Pass
+fn point(bytes: &[u8], at: usize, d: usize) -> Option<usize>
     requires { Place bytes.now at d }
     ensures { Ends (point_in d) bytes.now at result }
 {
     let rest = 8 * d;
-    if !begins_with(bytes, at, 0x56, 0x58, rest) {
-        return Pass::Broken;
+    if !begins_with(bytes, at, b"VX", rest) {
+        return None;
     }
-    Pass::At(at + 2 + rest)
+    Some(at + 2 + rest)
 }
 
-fn plane(bytes: &[u8], at: usize, d: usize) -> Pass
+fn plane(bytes: &[u8], at: usize, d: usize) -> Option<usize>
     requires { Place bytes.now at d }
     ensures { Ends (plane_in d) bytes.now at result }
 {
     let rest = 8 * d + 8;
-    if !begins_with(bytes, at, 0x48, 0x50, rest) {
-        return Pass::Broken;
+    if !begins_with(bytes, at, b"HP", rest) {
+        return None;
     }
-    Pass::At(at + 2 + rest)
+    Some(at + 2 + rest)
 }
 
 // A primordial byte is 0 or 1, and a corner has one fixed form.
 fn head_fits(rank: u64, mark: u64, plane: u64, n: u64) -> bool
     ensures { result ≡ element_fits rank mark plane n }
 {
-    if 1 < mark {
-        return false;
-    }
-    if rank != 0 {
-        return true;
-    }
-    if mark != 0 {
-        return false;
-    }
-    if plane != NO_PLANE as u64 {
-        return false;
-    }
-    n == 1
+    let as_corner = mark == 0 && plane == u64::from(NO_PLANE) && n == 1;
+    mark <= 1 && (rank != 0 || as_corner)
 }
 
-fn element(bytes: &[u8], at: usize) -> Pass
+fn element(bytes: &[u8], at: usize) -> Option<usize>
     requires { at ≤ length bytes.now }
     ensures { Ends element_in bytes.now at result }
 {
-    if !begins_with(bytes, at, 0x45, 0x4c, ELEMENT_NUMBERS) {
-        return Pass::Broken;
+    if !begins_with(bytes, at, b"EL", ELEMENT_NUMBERS) {
+        return None;
     }
-    let rank = read::one(bytes, at + 2);
-    let mark = read::one(bytes, at + 3);
-    let plane = read::two(bytes, at + 4);
-    let n = read::two(bytes, at + 6);
+    let rank = read::number::<1>(bytes, at + 2);
+    let mark = read::number::<1>(bytes, at + 3);
+    let plane = read::number::<2>(bytes, at + 4);
+    let n = read::number::<2>(bytes, at + 6);
     if !head_fits(rank, mark, plane, n) {
-        return Pass::Broken;
+        return None;
     }
     let size = 2 * n as usize;
     if bytes.len() - at - 8 < size {
-        return Pass::Broken;
+        return None;
     }
-    Pass::At(at + 8 + size)
+    Some(at + 8 + size)
 }
 
-fn one_of(bytes: &[u8], kind: Kind, at: usize, d: usize) -> Pass
-    requires { Place bytes.now at d }
-    ensures { Ends (reader kind d) bytes.now at result }
-{
-    match kind {
-        Kind::Vertices => point(bytes, at, d),
-        Kind::Hyperplanes => plane(bytes, at, d),
-        Kind::Elements => element(bytes, at),
-    }
-}
-
-// One after another; it stops at the first that does not fit.
-fn many_of(bytes: &[u8], kind: Kind, at: usize, n: usize, d: usize) -> Pass
-    requires { Place bytes.now at d }
-    ensures { AllEnd (reader kind d) bytes.now at n result }
+// Step after step, each from where the one before it ends; it stops at the first that does not fit.
+fn many_of<F: Fn(usize) -> Option<usize>>(step: F, at: usize, n: usize) -> Option<usize>
+    requires first { F.pre step at }
+    requires again { (place end : ℕ) → F.pre step place → F.post step place (Some end) → F.pre step end }
+    ensures { Repeats (λ place p. F.post step place p) at n result }
 {
     let mut end = at;
-    for i in 0..n {
-        let Pass::At(next) = one_of(bytes, kind, end, d) else {
-            return Pass::Broken;
-        };
-        end = next;
+    for _passed in 0..n {
+        end = step(end)?;
     }
-    Pass::At(end)
-}
-
-fn broken() -> Laid
-    ensures { result.whole ≡ false }
-{
-    Laid {
-        whole: false,
-        dimension: 0,
-        elements: 0,
-        vertices: 0,
-        hyperplanes: 0,
-        planes_at: 0,
-        elements_at: 0,
-    }
+    Some(end)
 }
 
 // The layout test of a file (13): its header, so many records of each kind, and no byte more.
-pub fn laid_out(bytes: &[u8]) -> Laid
+pub fn laid_out(bytes: &[u8]) -> Option<Laid>
     ensures { LayoutTold bytes.now result }
 {
-    if !begins_with(bytes, 0, 0x48, 0x44, HEADER_NUMBERS) {
-        return broken();
+    if !begins_with(bytes, 0, b"HD", HEADER_NUMBERS) {
+        return None;
     }
-    let dimension = read::two(bytes, 2) as usize;
-    let elements = read::two(bytes, 4) as usize;
-    let vertices = read::two(bytes, 6) as usize;
-    let hyperplanes = read::two(bytes, 8) as usize;
-    let Pass::At(planes_at) = many_of(bytes, Kind::Vertices, HEADER, vertices, dimension) else {
-        return broken();
-    };
-    let Pass::At(elements_at) = many_of(bytes, Kind::Hyperplanes, planes_at, hyperplanes, dimension)
-    else {
-        return broken();
-    };
-    let Pass::At(end) = many_of(bytes, Kind::Elements, elements_at, elements, dimension) else {
-        return broken();
-    };
+    let dimension = read::number::<2>(bytes, 2) as usize;
+    let elements = read::number::<2>(bytes, 4) as usize;
+    let vertices = read::number::<2>(bytes, 6) as usize;
+    let hyperplanes = read::number::<2>(bytes, 8) as usize;
+    let vertex_end = |at: usize|
+        requires { Place bytes.now at dimension }
+        ensures { Ends (point_in dimension) bytes.entry.now at result }
+    { point(bytes, at, dimension) };
+    let plane_end = |at: usize|
+        requires { Place bytes.now at dimension }
+        ensures { Ends (plane_in dimension) bytes.entry.now at result }
+    { plane(bytes, at, dimension) };
+    let element_end = |at: usize|
+        requires { at ≤ length bytes.now }
+        ensures { Ends element_in bytes.entry.now at result }
+    { element(bytes, at) };
+    let planes_at = many_of(vertex_end, HEADER, vertices)?;
+    let elements_at = many_of(plane_end, planes_at, hyperplanes)?;
+    let end = many_of(element_end, elements_at, elements)?;
     if end != bytes.len() {
-        return broken();
+        return None;
     }
-    Laid {
-        whole: true,
+    Some(Laid {
         dimension,
         elements,
         vertices,
         hyperplanes,
         planes_at,
         elements_at,
-    }
+    })
 }

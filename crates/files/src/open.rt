@@ -7,6 +7,8 @@ ghost use Rattle.rules.specs.Files.{open_reply};
 use crate::judge::table_sound;
 use crate::layout::laid_out;
 use crate::put::put;
+use rules::{Refusal, Reply};
+use space::memory::Memory;
 use space::words::right_size;
 
 // The file is judged on its bytes, so nothing is written until it is taken.
@@ -16,20 +18,25 @@ pub fn open(
     planes: &mut [f64],
     elements: &mut [u16],
     file: &[u8],
-) -> u8
+) -> Reply<()>
     ensures { (result, memory_of counts.new points.new planes.new elements.new) ≡
         open_reply desk file.now (memory_of counts.old points.old planes.old elements.old) }
 {
-    let laid = laid_out(file);
-    if !laid.whole {
-        return 13;
-    }
-    if !right_size(counts, points, planes, elements) {
-        return 3;
+    let Some(laid) = laid_out(file) else {
+        return Err(Refusal::Layout);
+    };
+    let memory = Memory {
+        counts,
+        points,
+        planes,
+        elements,
+    };
+    if !right_size(memory) {
+        return Err(Refusal::NotSound);
     }
     if !table_sound(file, laid) {
-        return 3;
+        return Err(Refusal::NotSound);
     }
     put(file, laid, counts, points, planes, elements);
-    0
+    Ok(())
 }

@@ -11,9 +11,10 @@ ghost use Rattle.files.specs.Putting.{RecordsReady, RecordsPut, CountsReady, Put
 
 use crate::entries::{plane_at, point_at, row_at};
 use crate::layout::{HEADER, Laid};
-use space::words::{AXES, ELEMENT_WORDS, PLANE_FLOATS, PLANE_WIDTH, POINT_FLOATS, WIDTH, wide};
-use space::{memo, restore, rows};
+use space::words::{AXES, PLANE_WIDTH, WIDTH, wide};
+use space::{memo, rows};
 
+// Three loops of one shape: one over a step that writes would say what each step leaves of the slice, in clauses longer than the loops.
 // A vertex's record has a mark, and 8 bytes for each coordinate.
 fn put_points(bytes: &[u8], from: usize, n: usize, d: usize, points: &mut [f64])
     requires d_le_dimensions { d ≤ desk.dimensions }
@@ -26,7 +27,7 @@ fn put_points(bytes: &[u8], from: usize, n: usize, d: usize, points: &mut [f64])
         memo::put_point(points, i * AXES, p);
         at = at + 2 + 8 * d;
     }
-    restore::clear_floats(points, n * AXES, POINT_FLOATS - n * AXES);
+    points[n * AXES..].fill(0.0);
 }
 
 // A hyperplane's has 8 more, its distance behind the normal.
@@ -42,7 +43,7 @@ fn put_planes(bytes: &[u8], from: usize, n: usize, d: usize, planes: &mut [f64])
         memo::put_hyperplane(planes, i * PLANE_WIDTH, row);
         at = at + 10 + 8 * d;
     }
-    restore::clear_floats(planes, n * PLANE_WIDTH, PLANE_FLOATS - n * PLANE_WIDTH);
+    planes[n * PLANE_WIDTH..].fill(0.0);
 }
 
 // An element's has 8 bytes before its boundary, whose count is the row's fourth word.
@@ -56,9 +57,10 @@ fn put_elements(bytes: &[u8], from: usize, n: usize, elements: &mut [u16])
         rows::put_row(elements, i * WIDTH, &row);
         at = at + 8 + 2 * wide(row[3]);
     }
-    restore::clear_numbers(elements, n * WIDTH, ELEMENT_WORDS - n * WIDTH);
+    elements[n * WIDTH..].fill(0);
 }
 
+// By `as`, as wherever a count that fits becomes a word: the library has no `From` here, and `try_from` would need a case that never comes.
 fn put_counts(laid: Laid, counts: &mut [u16])
     requires { CountsReady laid counts.old }
     ensures { counts.new ≡ laid.dimension ∷ laid.elements ∷ laid.vertices ∷ laid.hyperplanes ∷ [] }

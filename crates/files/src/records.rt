@@ -1,5 +1,5 @@
 // The records of a file, written out of the rows of the lent slices, each behind the one before.
-ghost use Rattle.std.specs.Prelude.{◌+◌, ◌≤◌, [], ◌∷◌, length};
+ghost use Rattle.std.specs.Prelude.{◌≤◌};
 ghost use Rattle.rules.specs.Limits.{desk};
 ghost use Rattle.rules.specs.Memory.{plane_width};
 ghost use Rattle.space.specs.Numbers.{row_width};
@@ -7,26 +7,14 @@ ghost use Rattle.lent_bytes.specs.Lent.{Put};
 ghost use Rattle.files.specs.Saved.{header_saved, point_saved, plane_saved, row_saved, point_clear, plane_clear, count_fits, row_at, saved, RowReady, RowsReady, HeaderReady};
 
 use lent_bytes::write;
+use soundness::row::HEAD;
 use space::words::{AXES, COUNTS, PLANE_WIDTH, WIDTH, wide};
-
-// How many words stand before a boundary: rank, mark, hyperplane, count.
-const HEAD_WORDS: usize = 4;
-
-// The two bytes that a record begins with.
-fn mark(first: u8, second: u8, room: &mut [u8], at: usize) -> usize
-    requires { at + 2 ≤ length room.old }
-    ensures { Put room.old at (first ∷ second ∷ []) result room.new }
-{
-    room[at] = first;
-    room[at + 1] = second;
-    at + 2
-}
 
 pub fn header(counts: &[u16], room: &mut [u8], at: usize) -> usize
     requires { HeaderReady counts.now room.old at }
     ensures { Put room.old at (header_saved counts.now) result room.new }
 {
-    let end = mark(0x48, 0x44, room, at);
+    let end = write::word(b"HD", room, at);
     write::numbers(2, counts, 0, COUNTS, room, end)
 }
 
@@ -36,10 +24,11 @@ fn vertex_record(points: &[f64], i: usize, d: usize, room: &mut [u8], at: usize)
     ensures { Put room.old at (point_saved d (row_at desk.dimensions i points.now)) result room.new }
 {
     let from = i * AXES;
-    let end = mark(0x56, 0x58, room, at);
+    let end = write::word(b"VX", room, at);
     write::floats(points, from, from + d, room, end)
 }
 
+// Three loops of one shape: one over a step that writes would say what each step finds in the room and puts there, in clauses longer than the loops.
 pub fn vertices(points: &[f64], n: usize, d: usize, room: &mut [u8], at: usize) -> usize
     requires d_le_dimensions { d ≤ desk.dimensions }
     requires rows_ready { RowsReady (point_clear d) (point_saved d) desk.dimensions n points.now room.old at }
@@ -59,7 +48,7 @@ fn hyperplane_record(planes: &[f64], i: usize, d: usize, room: &mut [u8], at: us
     ensures { Put room.old at (plane_saved d (row_at (plane_width desk) i planes.now)) result room.new }
 {
     let from = i * PLANE_WIDTH;
-    let end = mark(0x48, 0x50, room, at);
+    let end = write::word(b"HP", room, at);
     let last = write::floats(planes, from, from + d, room, end);
     write::float(planes[from + AXES], room, last)
 }
@@ -83,9 +72,9 @@ fn element_record(elements: &[u16], e: usize, room: &mut [u8], at: usize) -> usi
 {
     let row = e * WIDTH;
     let n = wide(elements[row + 3]);
-    let end = mark(0x45, 0x4c, room, at);
+    let end = write::word(b"EL", room, at);
     let middle = write::numbers(1, elements, row, row + 2, room, end);
-    write::numbers(2, elements, row + 2, row + HEAD_WORDS + n, room, middle)
+    write::numbers(2, elements, row + 2, row + HEAD + n, room, middle)
 }
 
 pub fn elements(elements: &[u16], n: usize, room: &mut [u8], at: usize) -> usize

@@ -35,7 +35,7 @@ fn same_as_kept(
     same_row(&old, 0, row, 0)
 }
 
-// Along the chain of the row's key down to its end: one more than the lowest of the first n elements that has the row, or 0.
+// Along the chain of the row's key down to its end: the lowest of the first n elements that has the row. A loop: the next place is read off the index, not counted.
 fn last_kept(
     bytes: &[u8],
     laid: Laid,
@@ -43,15 +43,15 @@ fn last_kept(
     n: usize,
     row: &[u16; WIDTH],
     index: &[u16; INDEX],
-) -> usize
+) -> Option<usize>
     requires { SearchKept bytes.now laid kept.now n row.now index.now }
     ensures { LastKept bytes.now laid n row.now result }
 {
-    let mut met = 0usize;
+    let mut met = None;
     let mut x = wide(index[key_of(row, 0)]);
     while 0 < x {
         if same_as_kept(bytes, laid, kept, x - 1, row) {
-            met = x;
+            met = Some(x - 1);
         }
         x = wide(index[KEYS + (x - 1)]);
     }
@@ -70,7 +70,7 @@ fn row_new(
     requires { RowReadyToKeep bytes.now laid kept.now n row.now index.old }
     ensures { NewJudged bytes.now laid n index.old result index.new }
 {
-    if last_kept(bytes, laid, kept, n, row, index) != 0 {
+    if last_kept(bytes, laid, kept, n, row, index).is_some() {
         return false;
     }
     let key = key_of(row, 0);

@@ -1,225 +1,186 @@
-// A loop for each table, and what is printed for each of its cases. A case stands at `at` in the words of its table.
-ghost use Rattle.std.specs.Prelude.{◌+◌, ◌<◌, ◌≤◌, length};
+// The cases of each table, by bit patterns, and the line that is printed for each.
+ghost use Rattle.std.specs.Prelude.{◌<◌};
 
-use crate::{print, read};
+use crate::print::{self, Bits, Crossed, Found, Narrowed, Plane, Point};
+use hypermath::patterns::float_of;
 use rules::{Hyperplane, HyperplaneId};
 use std::io;
 
-pub fn ones(rt: &HostRuntime, words: &[u64]) -> io::Result<()> {
-    for i in 0..words.len() {
-        one(rt, words, i)?;
-    }
-    Ok(())
-}
+// What there is to search, in lists of as many floats: points of four, or hyperplanes of five.
+pub const POINTS: usize = 10;
+
+pub const HYPERPLANES: usize = 8;
+
+pub const FLOATS: usize = 40;
 
 // A single float: its side, whether it is a close call, its use as a distance, and whether it is zero bits.
-fn one(rt: &HostRuntime, words: &[u64], at: usize) -> io::Result<()>
-    requires { at < length words.now }
-{
-    let x = read::float(words, at);
-    print::name(rt, b"one")?;
+pub fn one(rt: &HostRuntime, pattern: u64) -> io::Result<()> {
+    let x = float_of(pattern);
     let test = hypermath::side_of(x);
-    let side = test.side;
-    print::side(rt, side)?;
-    print::test(rt, test.warning)?;
-    print::kind(rt, hypermath::distance_kind(x))?;
-    print::test(rt, hypermath::is_zero_bits(x))?;
-    print::line_end(rt)
-}
-
-pub fn narrowings(rt: &HostRuntime, words: &[u64]) -> io::Result<()> {
-    for i in 0..words.len() {
-        narrowing(rt, words, i)?;
-    }
-    Ok(())
+    println!(rt;
+        "one {} {} {} {}",
+        print::side(test.side),
+        u8::from(test.warning),
+        print::kind(hypermath::distance_kind(x)),
+        u8::from(hypermath::is_zero_bits(x))
+    )
 }
 
 // A float narrowed to 32 bits; a NaN has none to show.
-fn narrowing(rt: &HostRuntime, words: &[u64], at: usize) -> io::Result<()>
-    requires { at < length words.now }
-{
-    let x = read::float(words, at);
-    print::name(rt, b"narrow")?;
-    print::narrowed(rt, x)?;
-    print::line_end(rt)
-}
-
-pub fn pairs(rt: &HostRuntime, words: &[u64]) -> io::Result<()> {
-    for i in 0..words.len() / 2 {
-        pair(rt, words, i * 2)?;
-    }
-    Ok(())
+pub fn narrowing(rt: &HostRuntime, pattern: u64) -> io::Result<()> {
+    println!(rt; "narrow {}", Narrowed(float_of(pattern)))
 }
 
 // Two floats: a bound and x, two coordinates, and the ends of an edge on the first axis, whose signed distances they are.
-fn pair(rt: &HostRuntime, words: &[u64], at: usize) -> io::Result<()>
-    requires { at + 2 ≤ length words.now }
-{
-    let a = read::float(words, at);
-    let b = read::float(words, at + 1);
-    print::name(rt, b"pair")?;
-    print::test(rt, hypermath::is_within(a, b))?;
-    print::test(rt, hypermath::same_bits(a, b))?;
-    print::test(rt, hypermath::coordinates_match(a, b))?;
-    let normal = read::on_first_axis(1.0);
-    let distance = 0.0;
-    let h = Hyperplane { normal, distance };
-    let p = read::on_first_axis(a);
-    let q = read::on_first_axis(b);
-    print::edge(rt, hypermath::edge_test(1, h, [p, q]))?;
-    print::line_end(rt)
-}
-
-pub fn clamps(rt: &HostRuntime, words: &[u64]) -> io::Result<()> {
-    for i in 0..words.len() / 3 {
-        clamp(rt, words, i * 3)?;
-    }
-    Ok(())
+pub fn pair(rt: &HostRuntime, patterns: [u64; 2]) -> io::Result<()> {
+    let [a, b] = patterns.map(float_of);
+    let first_axis = Hyperplane {
+        normal: [1.0, 0.0, 0.0, 0.0],
+        distance: 0.0,
+    };
+    let ends = [[a, 0.0, 0.0, 0.0], [b, 0.0, 0.0, 0.0]];
+    println!(rt;
+        "pair {} {} {} {}",
+        u8::from(hypermath::is_within(a, b)),
+        u8::from(hypermath::same_bits(a, b)),
+        u8::from(hypermath::coordinates_match(a, b)),
+        Crossed(hypermath::edge_test(1, first_axis, ends))
+    )
 }
 
 // Two ends, and x brought between them.
-fn clamp(rt: &HostRuntime, words: &[u64], at: usize) -> io::Result<()>
-    requires { at + 3 ≤ length words.now }
-{
-    let a = read::float(words, at);
-    let b = read::float(words, at + 1);
-    let x = read::float(words, at + 2);
-    print::name(rt, b"clamp")?;
-    print::float(rt, hypermath::clamp(a, b, x))?;
-    print::line_end(rt)
-}
-
-pub fn ends(rt: &HostRuntime, words: &[u64]) -> io::Result<()> {
-    for i in 0..words.len() / 10 {
-        two_ends(rt, words, i * 10)?;
-    }
-    Ok(())
-}
-
-// Two points: their product, whether they match, and the crossing between them.
-fn two_ends(rt: &HostRuntime, words: &[u64], at: usize) -> io::Result<()>
-    requires { at + 10 ≤ length words.now }
-{
-    let d = read::number(words, at);
-    let t = read::float(words, at + 1);
-    let a = read::point(words, at + 2);
-    let b = read::point(words, at + 6);
-    print::name(rt, b"ends")?;
-    print::float(rt, hypermath::dot(d, a, b))?;
-    print::test(rt, hypermath::points_match(d, a, b))?;
-    print::point(rt, hypermath::crossing_point(d, [a, b], t))?;
-    print::line_end(rt)
-}
-
-pub fn edges(rt: &HostRuntime, words: &[u64]) -> io::Result<()> {
-    for i in 0..words.len() / 14 {
-        edge(rt, words, i * 14)?;
-    }
-    Ok(())
-}
-
-// A hyperplane and the ends of an edge: both signed distances, and the crossing.
-fn edge(rt: &HostRuntime, words: &[u64], at: usize) -> io::Result<()>
-    requires { at + 14 ≤ length words.now }
-{
-    let d = read::number(words, at);
-    let h = read::hyperplane(words, at + 2, at + 1);
-    let a = read::point(words, at + 6);
-    let b = read::point(words, at + 10);
-    print::name(rt, b"edge")?;
-    print::float(rt, hypermath::signed_distance(d, h, a))?;
-    print::float(rt, hypermath::signed_distance(d, h, b))?;
-    print::edge(rt, hypermath::edge_test(d, h, [a, b]))?;
-    print::line_end(rt)
-}
-
-pub fn normals(rt: &HostRuntime, words: &[u64]) -> io::Result<()> {
-    for i in 0..words.len() / 5 {
-        normal(rt, words, i * 5)?;
-    }
-    Ok(())
-}
-
-// A normal: whether it is unit.
-fn normal(rt: &HostRuntime, words: &[u64], at: usize) -> io::Result<()>
-    requires { at + 5 ≤ length words.now }
-{
-    let d = read::number(words, at);
-    print::name(rt, b"normal")?;
-    print::test(rt, hypermath::is_unit(d, read::point(words, at + 1)))?;
-    print::line_end(rt)
-}
-
-pub fn plane_pairs(rt: &HostRuntime, words: &[u64]) -> io::Result<()> {
-    for i in 0..words.len() / 11 {
-        plane_pair(rt, words, i * 11)?;
-    }
-    Ok(())
-}
-
-// Two hyperplanes: whether they match.
-fn plane_pair(rt: &HostRuntime, words: &[u64], at: usize) -> io::Result<()>
-    requires { at + 11 ≤ length words.now }
-{
-    let d = read::number(words, at);
-    let earlier = read::hyperplane(words, at + 3, at + 1);
-    let later = read::hyperplane(words, at + 7, at + 2);
-    print::name(rt, b"planes")?;
-    print::test(rt, hypermath::hyperplanes_match(d, earlier, later))?;
-    print::line_end(rt)
-}
-
-pub fn rows(rt: &HostRuntime, planes: &[f64; 40]) -> io::Result<()> {
-    for k in 0..8 {
-        row(rt, planes, HyperplaneId(k))?;
-    }
-    Ok(())
+pub fn clamp(rt: &HostRuntime, patterns: [u64; 3]) -> io::Result<()> {
+    let [a, b, x] = patterns.map(float_of);
+    println!(rt; "clamp {}", Bits(hypermath::clamp(a, b, x)))
 }
 
 // A row of the hyperplanes, as it is read.
-fn row(rt: &HostRuntime, planes: &[f64; 40], k: HyperplaneId) -> io::Result<()>
-    requires { k.0 < 8 }
+pub fn row(rt: &HostRuntime, planes: &[f64; FLOATS], k: usize) -> io::Result<()>
+    requires { k < HYPERPLANES }
 {
-    print::name(rt, b"row")?;
-    print::hyperplane(rt, hypermath::hyperplane_at(planes, k))?;
-    print::line_end(rt)
+    println!(rt;
+        "row {}",
+        Plane(hypermath::hyperplane_at(planes, HyperplaneId(k)))
+    )
 }
 
-pub fn vertices(rt: &HostRuntime, points: &[f64; 40], words: &[u64]) -> io::Result<()> {
-    for i in 0..words.len() / 6 {
-        vertex(rt, points, words, i * 6)?;
+// Two points, and where between them.
+pub struct TwoPoints {
+    pub dimension: usize,
+    pub t: u64,
+    pub a: [u64; 4],
+    pub b: [u64; 4],
+}
+
+impl TwoPoints {
+    // Their product, whether they match, and the crossing between them.
+    pub fn print(&self, rt: &HostRuntime) -> io::Result<()> {
+        let a = self.a.map(float_of);
+        let b = self.b.map(float_of);
+        println!(rt;
+            "ends {} {} {}",
+            Bits(hypermath::dot(self.dimension, a, b)),
+            u8::from(hypermath::points_match(self.dimension, a, b)),
+            Point(hypermath::crossing_point(self.dimension, [a, b], float_of(self.t)))
+        )
     }
-    Ok(())
 }
 
-// The lowest vertex that matches.
-fn vertex(rt: &HostRuntime, points: &[f64; 40], words: &[u64], at: usize) -> io::Result<()>
-    requires { at + 6 ≤ length words.now }
-{
-    let d = read::number(words, at);
-    let n = read::count(words, at + 1, 10);
-    let wanted = read::point(words, at + 2);
-    print::name(rt, b"vertex")?;
-    print::vertex(rt, hypermath::find_vertex(d, points, n, wanted))?;
-    print::line_end(rt)
-}
-
-pub fn hyperplanes(rt: &HostRuntime, planes: &[f64; 40], words: &[u64]) -> io::Result<()> {
-    for i in 0..words.len() / 8 {
-        hyperplane(rt, planes, words, i * 8)?;
+fn hyperplane(normal: [u64; 4], distance: u64) -> Hyperplane {
+    Hyperplane {
+        normal: normal.map(float_of),
+        distance: float_of(distance),
     }
-    Ok(())
 }
 
-// The lowest hyperplane that matches, from a first one up.
-fn hyperplane(rt: &HostRuntime, planes: &[f64; 40], words: &[u64], at: usize) -> io::Result<()>
-    requires { at + 8 ≤ length words.now }
-{
-    let d = read::number(words, at);
-    let first = HyperplaneId(read::number(words, at + 1));
-    let n = read::count(words, at + 2, 8);
-    let wanted = read::hyperplane(words, at + 4, at + 3);
-    print::name(rt, b"hyperplane")?;
-    print::found_hyperplane(rt, hypermath::find_hyperplane(d, planes, first, n, wanted))?;
-    print::line_end(rt)
+// A hyperplane and the ends of an edge.
+pub struct Edge {
+    pub dimension: usize,
+    pub distance: u64,
+    pub normal: [u64; 4],
+    pub a: [u64; 4],
+    pub b: [u64; 4],
+}
+
+impl Edge {
+    // Both signed distances, and the crossing.
+    pub fn print(&self, rt: &HostRuntime) -> io::Result<()> {
+        let h = hyperplane(self.normal, self.distance);
+        let a = self.a.map(float_of);
+        let b = self.b.map(float_of);
+        println!(rt;
+            "edge {} {} {}",
+            Bits(hypermath::signed_distance(self.dimension, h, a)),
+            Bits(hypermath::signed_distance(self.dimension, h, b)),
+            Crossed(hypermath::edge_test(self.dimension, h, [a, b]))
+        )
+    }
+}
+
+pub struct Normal {
+    pub dimension: usize,
+    pub normal: [u64; 4],
+}
+
+impl Normal {
+    // Whether it is unit.
+    pub fn print(&self, rt: &HostRuntime) -> io::Result<()> {
+        let is_unit = hypermath::is_unit(self.dimension, self.normal.map(float_of));
+        println!(rt; "normal {}", u8::from(is_unit))
+    }
+}
+
+pub struct TwoPlanes {
+    pub dimension: usize,
+    pub earlier_distance: u64,
+    pub later_distance: u64,
+    pub earlier: [u64; 4],
+    pub later: [u64; 4],
+}
+
+impl TwoPlanes {
+    // Whether they match.
+    pub fn print(&self, rt: &HostRuntime) -> io::Result<()> {
+        let earlier = hyperplane(self.earlier, self.earlier_distance);
+        let later = hyperplane(self.later, self.later_distance);
+        let matches = hypermath::hyperplanes_match(self.dimension, earlier, later);
+        println!(rt; "planes {}", u8::from(matches))
+    }
+}
+
+// A point to find among so many.
+pub struct PointSearch {
+    pub dimension: usize,
+    pub count: usize,
+    pub wanted: [u64; 4],
+}
+
+impl PointSearch {
+    // The lowest vertex that matches.
+    pub fn print(&self, rt: &HostRuntime, points: &[f64; FLOATS]) -> io::Result<()> {
+        let count = self.count.min(POINTS);
+        let wanted = self.wanted.map(float_of);
+        let found = hypermath::find_vertex(self.dimension, points, count, wanted);
+        println!(rt; "vertex {}", Found::from(found))
+    }
+}
+
+// A hyperplane to find among so many, from a first one up.
+pub struct PlaneSearch {
+    pub dimension: usize,
+    pub first: usize,
+    pub count: usize,
+    pub distance: u64,
+    pub wanted: [u64; 4],
+}
+
+impl PlaneSearch {
+    // The lowest hyperplane that matches.
+    pub fn print(&self, rt: &HostRuntime, planes: &[f64; FLOATS]) -> io::Result<()> {
+        let first = HyperplaneId(self.first);
+        let count = self.count.min(HYPERPLANES);
+        let wanted = hyperplane(self.wanted, self.distance);
+        let found = hypermath::find_hyperplane(self.dimension, planes, first, count, wanted);
+        println!(rt; "hyperplane {}", Found::from(found))
+    }
 }

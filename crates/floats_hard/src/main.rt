@@ -4,28 +4,43 @@
 
 mod cases;
 mod print;
-mod read;
 mod table;
 
+use cases::HYPERPLANES;
+use hypermath::patterns::float_of;
 use std::io;
 
 fn main(rt: HostRuntime) -> io::Result<()> {
-    cases::ones(&rt, &table::ONES)?;
-    cases::pairs(&rt, &table::PAIRS)?;
-    cases::clamps(&rt, &table::CLAMPS)?;
-    cases::ends(&rt, &table::ENDS)?;
-    cases::edges(&rt, &table::EDGES)?;
-    cases::normals(&rt, &table::NORMALS)?;
-    cases::plane_pairs(&rt, &table::PLANE_PAIRS)?;
+    table::ONES.iter().try_for_each(|x| cases::one(&rt, *x))?;
+    table::PAIRS
+        .iter()
+        .try_for_each(|pair| cases::pair(&rt, *pair))?;
+    table::CLAMPS
+        .iter()
+        .try_for_each(|clamp| cases::clamp(&rt, *clamp))?;
+    table::ENDS.iter().try_for_each(|ends| ends.print(&rt))?;
+    table::EDGES.iter().try_for_each(|edge| edge.print(&rt))?;
+    table::NORMALS
+        .iter()
+        .try_for_each(|normal| normal.print(&rt))?;
+    table::PLANE_PAIRS
+        .iter()
+        .try_for_each(|pair| pair.print(&rt))?;
     search(&rt)?;
-    cases::narrowings(&rt, &table::NARROWINGS)
+    table::NARROWINGS
+        .iter()
+        .try_for_each(|x| cases::narrowing(&rt, *x))
 }
 
 // The searches, over the rows that they read.
 fn search(rt: &HostRuntime) -> io::Result<()> {
-    let points = read::rows(&table::POINTS);
-    let planes = read::rows(&table::PLANES);
-    cases::rows(rt, &planes)?;
-    cases::vertices(rt, &points, &table::VERTEX_SEARCHES)?;
-    cases::hyperplanes(rt, &planes, &table::PLANE_SEARCHES)
+    let points = table::POINTS.map(float_of);
+    let planes = table::PLANES.map(float_of);
+    (0..HYPERPLANES).try_for_each(|k| cases::row(rt, &planes, k))?;
+    table::VERTEX_SEARCHES
+        .iter()
+        .try_for_each(|search| search.print(rt, &points))?;
+    table::PLANE_SEARCHES
+        .iter()
+        .try_for_each(|search| search.print(rt, &planes))
 }

@@ -1,116 +1,106 @@
-// Words of the output, each after a space.
+// How a line shows what the functions answer.
+use hypermath::DistanceKind;
 use hypermath::narrow::narrowed_bits;
-use hypermath::{DistanceKind, FoundHyperplane, FoundVertex};
-use rules::{Crossing, EdgeTest, Hyperplane, HyperplaneId, Side, VertexId};
-use std::io::{self, Write};
+use rules::{EdgeTest, Hyperplane, HyperplaneId, Side, VertexId};
+use std::fmt;
 
-// What starts a line.
-pub fn name(rt: &HostRuntime, text: &[u8]) -> io::Result<()> {
-    rt.stdout().write_all(text)
-}
+// The 16 hexadecimal digits of a float: a NaN has no bits to show.
+#[derive(Clone, Copy)]
+pub struct Bits(pub f64);
 
-pub fn line_end(rt: &HostRuntime) -> io::Result<()> {
-    rt.stdout().write_all(b"\n")
-}
-
-// 16 hexadecimal digits: a NaN has no bits to show.
-pub fn float(rt: &HostRuntime, x: f64) -> io::Result<()> {
-    if x != x {
-        rt.stdout().write_all(b" nan")?;
-        return Ok(());
+impl fmt::Display for Bits {
+    fn fmt<W: fmt::Write>(&self, f: &mut fmt::Formatter<W>) -> fmt::Result {
+        if self.0.is_nan() {
+            return f.write_str("nan");
+        }
+        write!(f, "{:016x}", self.0.to_bits())
     }
-    rt.stdout().write_all(b" ")?;
-    print!(rt; "{:016x}", f64::to_bits(x))?;
-    Ok(())
 }
 
 // The 8 hexadecimal digits of the nearest float of 32 bits.
-pub fn narrowed(rt: &HostRuntime, x: f64) -> io::Result<()> {
-    if x != x {
-        rt.stdout().write_all(b" nan")?;
-        return Ok(());
+#[derive(Clone, Copy)]
+pub struct Narrowed(pub f64);
+
+impl fmt::Display for Narrowed {
+    fn fmt<W: fmt::Write>(&self, f: &mut fmt::Formatter<W>) -> fmt::Result {
+        if self.0.is_nan() {
+            return f.write_str("nan");
+        }
+        write!(f, "{:08x}", narrowed_bits(self.0))
     }
-    rt.stdout().write_all(b" ")?;
-    print!(rt; "{:08x}", narrowed_bits(x))?;
-    Ok(())
 }
 
-pub fn point(rt: &HostRuntime, p: [f64; 4]) -> io::Result<()> {
-    float(rt, p[0])?;
-    float(rt, p[1])?;
-    float(rt, p[2])?;
-    float(rt, p[3])
-}
+#[derive(Clone, Copy)]
+pub struct Point(pub [f64; 4]);
 
-pub fn hyperplane(rt: &HostRuntime, h: Hyperplane) -> io::Result<()> {
-    let normal = h.normal;
-    point(rt, normal)?;
-    float(rt, h.distance)
-}
-
-pub fn test(rt: &HostRuntime, answer: bool) -> io::Result<()> {
-    if answer {
-        rt.stdout().write_all(b" 1")?;
-    } else {
-        rt.stdout().write_all(b" 0")?;
+impl fmt::Display for Point {
+    fn fmt<W: fmt::Write>(&self, f: &mut fmt::Formatter<W>) -> fmt::Result {
+        let [x, y, z, w] = self.0;
+        write!(f, "{} {} {} {}", Bits(x), Bits(y), Bits(z), Bits(w))
     }
-    Ok(())
 }
 
-pub fn side(rt: &HostRuntime, s: Side) -> io::Result<()> {
-    match s {
-        Side::Inside => rt.stdout().write_all(b" inside")?,
-        Side::On => rt.stdout().write_all(b" on")?,
-        Side::Outside => rt.stdout().write_all(b" outside")?,
-    };
-    Ok(())
-}
+#[derive(Clone, Copy)]
+pub struct Plane(pub Hyperplane);
 
-pub fn kind(rt: &HostRuntime, k: DistanceKind) -> io::Result<()> {
-    match k {
-        DistanceKind::Unfit => rt.stdout().write_all(b" unfit")?,
-        DistanceKind::Finite => rt.stdout().write_all(b" finite")?,
-        DistanceKind::PlusInfinity => rt.stdout().write_all(b" plus_infinity")?,
-        DistanceKind::MinusInfinity => rt.stdout().write_all(b" minus_infinity")?,
-    };
-    Ok(())
+impl fmt::Display for Plane {
+    fn fmt<W: fmt::Write>(&self, f: &mut fmt::Formatter<W>) -> fmt::Result {
+        write!(f, "{} {}", Point(self.0.normal), Bits(self.0.distance))
+    }
 }
 
 // The crossing, and the warning.
-pub fn edge(rt: &HostRuntime, e: EdgeTest) -> io::Result<()> {
-    let c = e.crossing;
-    match c {
-        Crossing::None => none(rt)?,
-        Crossing::At(t) => {
-            rt.stdout().write_all(b" at")?;
-            float(rt, t)?;
-        },
+#[derive(Clone, Copy)]
+pub struct Crossed(pub EdgeTest);
+
+impl fmt::Display for Crossed {
+    fn fmt<W: fmt::Write>(&self, f: &mut fmt::Formatter<W>) -> fmt::Result {
+        let warning = u8::from(self.0.warning);
+        match self.0.crossing {
+            None => write!(f, "none {warning}"),
+            Some(t) => write!(f, "at {} {warning}", Bits(t)),
+        }
     }
-    test(rt, e.warning)
 }
 
-pub fn vertex(rt: &HostRuntime, v: FoundVertex) -> io::Result<()> {
-    match v {
-        FoundVertex::None => none(rt)?,
-        FoundVertex::At(id) => found(rt, id.0)?,
+// The number of what was found, if anything was.
+#[derive(Clone, Copy)]
+pub struct Found(Option<usize>);
+
+impl From<Option<VertexId>> for Found {
+    fn from(found: Option<VertexId>) -> Self {
+        Found(found.map(|id| id.0))
     }
-    Ok(())
 }
 
-pub fn found_hyperplane(rt: &HostRuntime, h: FoundHyperplane) -> io::Result<()> {
-    match h {
-        FoundHyperplane::None => none(rt)?,
-        FoundHyperplane::At(id) => found(rt, id.0)?,
+impl From<Option<HyperplaneId>> for Found {
+    fn from(found: Option<HyperplaneId>) -> Self {
+        Found(found.map(|id| id.0))
     }
-    Ok(())
 }
 
-fn none(rt: &HostRuntime) -> io::Result<()> {
-    rt.stdout().write_all(b" none")
+impl fmt::Display for Found {
+    fn fmt<W: fmt::Write>(&self, f: &mut fmt::Formatter<W>) -> fmt::Result {
+        match self.0 {
+            None => f.write_str("none"),
+            Some(number) => write!(f, "at {number}"),
+        }
+    }
 }
 
-fn found(rt: &HostRuntime, k: usize) -> io::Result<()> {
-    rt.stdout().write_all(b" at ")?;
-    print!(rt; "{}", k as u64)?;
-    Ok(())
+pub fn side(side: Side) -> &'static str {
+    match side {
+        Side::Inside => "inside",
+        Side::On => "on",
+        Side::Outside => "outside",
+    }
+}
+
+pub fn kind(kind: DistanceKind) -> &'static str {
+    match kind {
+        DistanceKind::Unfit => "unfit",
+        DistanceKind::Finite => "finite",
+        DistanceKind::PlusInfinity => "plus_infinity",
+        DistanceKind::MinusInfinity => "minus_infinity",
+    }
 }

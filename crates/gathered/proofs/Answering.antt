@@ -5,14 +5,13 @@ use mathlib.Core.Bool.{Bool}
 use mathlib.Core.List.{List, [], ◌∷◌}
 use native.Mathlib.Nat.{le_trans, le_of_eq}
 use native.Mathlib.Omega.{arith}
-use lib.ListN.{length, get_or, set}
+use lib.ListN.{length, get_or}
 use lib.Ieee.{Float}
 use Rattle.rules.specs.Limits.{desk}
 use Rattle.rules.specs.Table.{Element, Table, rank_of, element}
 use Rattle.rules.specs.Held.{Extends, Holds, Came, went, Ranked, AllOf, SetOf, SomeOf}
 use Rattle.rules.specs.Replies.{is_kept}
-use Rattle.rules.specs.Cut.{Outcome, done, next, give, Gathered, Cutting, given, new_intersection, side_of_cut, rule7, rule6}
-use Rattle.rules.specs.declared.ElementOrNone.{ElementOrNone}
+use Rattle.rules.specs.Cut.{Outcome, done, next, give, Gathered, Cutting, new_intersection, side_of_cut, rule7, rule6}
 use Rattle.rules.specs.declared.ElementAnswer.{ElementAnswer}
 use Rattle.rules.specs.declared.ElementCutOutput.TheVariants.{Flush, NonFlush}
 use Rattle.rules.proofs.Extends.{extends_refl, begins_length, count_more, element_same}
@@ -21,16 +20,19 @@ use Rattle.rules.proofs.Laws.{test_le}
 use Rattle.rules.proofs.Ranked.{set_later, some_later}
 use Rattle.rules.proofs.Stays.{Kept, Stays}
 use Rattle.rules.proofs.StaysCut.{new_intersection_stays, side_stays}
-use Rattle.space.specs.declared.memo.Added.{Added}
-use Rattle.space.specs.declared.memo.Added.TheVariants as added
-use Rattle.gathered.specs.declared.answer.ElementReply.{ElementReply}
-use Rattle.gathered.specs.declared.answer.ElementReply.TheVariants as reply
-use Rattle.gathered.specs.Sets.{numbers_in, tally_in, inside_in, outside_in, intersections_in, SizedSet, Shaped, Used}
+use Rattle.gathered.specs.Sets.{numbers_in, inside_in, outside_in, intersections_in, SizedSet, Used}
+use Rattle.gathered.specs.declared.sets.Set.{Set}
+use Rattle.gathered.specs.declared.sets.Room.{Room}
 use Rattle.gathered.specs.Cutting.{cut_of, answered_by, Fit, IntersectionFit, IntersectionReady, IntersectionMade, SideFit, SideReady, SideMade, Rule6Fit, Rule6Ready, Rule6Done, SideSet, Rule7Fit, Rule7Ready, Rule7Done}
 use Rattle.rules.specs.declared.Cutter.{Cutter}
 use Rattle.gathered.proofs.Fitting.{rank_before, owner_of, rank_low}
-use Rattle.gathered.proofs.Gathering.{by_four, outside_other, inside_sized, outside_sized, intersections_sized}
+use Rattle.gathered.proofs.Gathering.{inside_sized, outside_sized, intersections_sized}
 use Rattle.gathered.proofs.Steps.{made_is, came_refused, came_answered, came_next}
+use Rattle.rules.specs.declared.ElementId.{ElementId}
+use Rattle.std.specs.Prelude.{Option, Some, Ok, Err}
+use Rattle.rules.specs.Refusals.{Reply}
+use Rattle.rules.specs.declared.ElementCutOutput.{ElementCutOutput}
+use Rattle.rules.specs.declared.Refusal.{Refusal}
 
 -- ---- in a later table
 
@@ -40,7 +42,7 @@ record Later (cs : List ℕ) (ps hs : List Float) (es : List ℕ) (t u : Table) 
   pub good : Good desk u
   pub holds : Holds desk cs ps hs es u
 
-side_later : {r : ℕ} {t u : Table} {set xs : List ℕ} → Extends t u → SideSet r t set xs → SideSet r u set xs
+side_later : {r : ℕ} {t u : Table} {set : Set} {xs : List ℕ} → Extends t u → SideSet r t set xs → SideSet r u set xs
 side_later {xs = xs} x S = record { held = S.held; sized = S.sized; sets = set_later xs x S.sets }
 
 module _ {cs es : List ℕ} {r e : ℕ} {k : Cutter} {ps hs : List Float} {t : Table} (F : Fit cs ps hs es r e k t) (some : 1 ≤ r) where
@@ -61,7 +63,7 @@ module _ {cs es : List ℕ} {r e : ℕ} {k : Cutter} {ps hs : List Float} {t : T
     }
 
     -- a side of the element may be added
-    module _ (x : ElementOrNone) (h : SomeOf r x t) {set xs : List ℕ} (S : SideSet r t set xs) where
+    module _ (x : Option ElementId) (h : SomeOf r x t) {set : Set} {xs : List ℕ} (S : SideSet r t set xs) where
       set_now : SetOf u r (numbers_in set)
       set_now = subst (λ (l : List ℕ). SetOf u r l) (sym S.held) (set_later xs U.extends S.sets)
 
@@ -80,10 +82,10 @@ module _ {cs es : List ℕ} {r e : ℕ} {k : Cutter} {ps hs : List Float} {t : T
       same_step : (keep : Bool) → side_of_cut desk keep (element u e) x (numbers_in set) u ≡ side_of_cut desk keep (element t e) x xs u
       same_step keep = ap₂ (λ (y : Element) (l : List ℕ). side_of_cut desk keep y x l u) (element_same t u e U.extends F.used) S.held
 
-      side_came : {cs₂ es₂ ix₂ set₂ : List ℕ} {keep : Bool} {y : Added} → SideMade cs₁ es₁ r e keep set x y cs₂ es₂ ix₂ set₂
-          → Came added.Made added.Refused (Holds desk cs₂ ps hs es₂) u (side_of_cut desk keep (element t e) x xs u) y
+      side_came : {cs₂ es₂ ix₂ : List ℕ} {set₂ : Set} {keep : Bool} {y : Reply (Option ElementId)} → SideMade cs₁ es₁ r e keep set x y cs₂ es₂ ix₂ set₂
+          → Came Ok Err (Holds desk cs₂ ps hs es₂) u (side_of_cut desk keep (element t e) x xs u) y
       side_came {cs₂} {es₂} {keep = keep} {y} M =
-          subst (λ (o : Outcome ElementOrNone). Came added.Made added.Refused (Holds desk cs₂ ps hs es₂) u o y) (same_step keep) (M.of ps hs u side_fit)
+          subst (λ (o : Outcome (Option ElementId)). Came Ok Err (Holds desk cs₂ ps hs es₂) u o y) (same_step keep) (M.of ps hs u side_fit)
 
       side_keeps : (keep : Bool) → Stays desk (SomeOf (suc (suc (r - 1)))) u (side_of_cut desk keep (element t e) x xs u)
       side_keeps keep =
@@ -94,7 +96,7 @@ module _ {cs es : List ℕ} {r e : ℕ} {k : Cutter} {ps hs : List Float} {t : T
           (subst (λ (q : ℕ). SomeOf q x u) n (some_later r x U.extends h)) (subst (λ (q : ℕ). SetOf u q (numbers_in set)) n set_now))
 
       -- the table after a side that was not refused
-      side_after : {cs₂ es₂ ix₂ set₂ : List ℕ} {keep : Bool} {y : Added} → SideMade cs₁ es₁ r e keep set x y cs₂ es₂ ix₂ set₂ → (i : ElementOrNone) → y ≡ added.Made i
+      side_after : {cs₂ es₂ ix₂ : List ℕ} {set₂ : Set} {keep : Bool} {y : Reply (Option ElementId)} → SideMade cs₁ es₁ r e keep set x y cs₂ es₂ ix₂ set₂ → (i : Option ElementId) → y ≡ Ok i
           → (v : Table) × (side_of_cut desk keep (element t e) x xs u ≡ done i v) × Later cs₂ ps hs es₂ u v
       side_after {keep = keep} M i q =
           let m = made_is i q (side_came M) in
@@ -103,25 +105,11 @@ module _ {cs es : List ℕ} {r e : ℕ} {k : Cutter} {ps hs : List Float} {t : T
 
 -- ---- rule 7
 
--- the room after one of its sides, and after both
-module _ (s : List (List ℕ)) (i : List ℕ) where
-  one_used : Shaped s → length i ≡ 34 → Used s (set s 1 i)
-  one_used S l = by_four (λ (r : List (List ℕ)). Shaped r → Used r (set r 1 i)) go s S.four S
-    where
-      go : (f ri ro rx : List ℕ) → Shaped (f ∷ ri ∷ ro ∷ rx ∷ []) → Used (f ∷ ri ∷ ro ∷ rx ∷ []) (f ∷ i ∷ ro ∷ rx ∷ [])
-      go f ri ro rx T = record { shaped = record { four = refl; tally = T.tally; inside = l; outside = T.outside; intersections = T.intersections }; warning = refl }
-
-  both_used : (o : List ℕ) → Shaped s → length i ≡ 34 → length o ≡ 34 → Used s (set (set s 1 i) 2 o)
-  both_used o S l m = by_four (λ (r : List (List ℕ)). Shaped r → Used r (set (set r 1 i) 2 o)) go s S.four S
-    where
-      go : (f ri ro rx : List ℕ) → Shaped (f ∷ ri ∷ ro ∷ rx ∷ []) → Used (f ∷ ri ∷ ro ∷ rx ∷ []) (f ∷ i ∷ o ∷ rx ∷ [])
-      go f ri ro rx T = record { shaped = record { four = refl; tally = T.tally; inside = l; outside = m; intersections = T.intersections }; warning = refl }
-
 -- the three places and the warning
-abbrev sides : ElementOrNone → ElementOrNone → ElementOrNone → Bool → ElementAnswer
+abbrev sides : Option ElementId → Option ElementId → Option ElementId → Bool → ElementAnswer
 sides i o x w = record { output = NonFlush i o x; warning = w }
 
-module _ {cs es : List ℕ} {r e : ℕ} {k : Cutter} {s : List (List ℕ)} {x : ElementOrNone} where
+module _ {cs es : List ℕ} {r e : ℕ} {k : Cutter} {s : Room} {x : Option ElementId} where
   pub inside_ready : {ix : List ℕ} → Rule7Ready cs es ix r e k s x → SideReady cs es ix r e (inside_in s) x
   inside_ready R =
       let F = R.fit in
@@ -133,54 +121,52 @@ module _ {cs es : List ℕ} {r e : ℕ} {k : Cutter} {s : List (List ℕ)} {x : 
         indexed = R.indexed;
       }
 
-  module _ {y : Added} {cs₁ es₁ ix₁ i : List ℕ} (M : SideMade cs es r e (is_kept k.params.inside) (inside_in s) x y cs₁ es₁ ix₁ i) where
-    pub inside_refused : Shaped s → (n : ℕ) → y ≡ added.Refused n → Rule7Done cs es r e k s x (reply.Refused n) cs₁ es₁ ix₁ (set s 1 i)
+  module _ {y : Reply (Option ElementId)} {cs₁ es₁ ix₁ : List ℕ} {i : Set} (M : SideMade cs es r e (is_kept k.params.inside) (inside_in s) x y cs₁ es₁ ix₁ i) where
+    pub inside_refused : {s' : Room} → s'.warning ≡ s.warning → (n : Refusal) → y ≡ Err n → Rule7Done cs es r e k s x (Err n) cs₁ es₁ ix₁ s'
     unfolding rule7
-    inside_refused S n q = record {
+    inside_refused W n q = record {
       of = λ ps hs t g F. came_refused n _ q (side_came F.fit F.some (here F.fit F.some) x F.intersection F.inside M);
       indexed = M.indexed;
-      used = one_used s i S M.long;
+      used = record { warning = W };
     }
 
-    module _ (a : ElementOrNone) (q : y ≡ added.Made a) where
+    module _ (a : Option ElementId) (q : y ≡ Ok a) where
       inner : {ps hs : List Float} {t : Table} {g : Gathered} → Rule7Fit cs ps hs es r e k s x t g
           → (v : Table) × (side_of_cut desk (is_kept k.params.inside) (element t e) x g.inside t ≡ done a v) × Later cs₁ ps hs es₁ t v
       inner F = side_after F.fit F.some (here F.fit F.some) x F.intersection F.inside M a q
 
-      pub outside_ready : {ix : List ℕ} → Rule7Ready cs es ix r e k s x → SideReady cs₁ es₁ ix₁ r e (outside_in (set s 1 i)) x
+      pub outside_ready : {ix : List ℕ} → Rule7Ready cs es ix r e k s x → SideReady cs₁ es₁ ix₁ r e (outside_in s) x
       outside_ready R =
           let F = R.fit in
           let m = inner F in
-          subst (λ (l : List ℕ). SideReady cs₁ es₁ ix₁ r e l x) (sym (outside_other s i))
-          (record {
+          record {
             points = R.points;
             planes = R.planes;
             table = m.0;
             fit = side_fit F.fit F.some m.2 x F.intersection F.outside;
             indexed = M.indexed;
-          })
+          }
 
-      module _ {z : Added} {cs₂ es₂ ix₂ o : List ℕ} (N : SideMade cs₁ es₁ r e (is_kept k.params.outside) (outside_in (set s 1 i)) x z cs₂ es₂ ix₂ o) where
+      module _ {z : Reply (Option ElementId)} {cs₂ es₂ ix₂ : List ℕ} {o : Set} (N : SideMade cs₁ es₁ r e (is_kept k.params.outside) (outside_in s) x z cs₂ es₂ ix₂ o) where
         outer : {ps hs : List Float} {t : Table} {g : Gathered} (F : Rule7Fit cs ps hs es r e k s x t g)
-            → Came added.Made added.Refused (Holds desk cs₂ ps hs es₂) (inner F).0 (side_of_cut desk (is_kept k.params.outside) (element t e) x g.outside (inner F).0) z
+            → Came Ok Err (Holds desk cs₂ ps hs es₂) (inner F).0 (side_of_cut desk (is_kept k.params.outside) (element t e) x g.outside (inner F).0) z
         outer F =
-            side_came F.fit F.some (inner F).2 x F.intersection F.outside
-            (subst (λ (l : List ℕ). SideMade cs₁ es₁ r e (is_kept k.params.outside) l x z cs₂ es₂ ix₂ o) (outside_other s i) N)
+            side_came F.fit F.some (inner F).2 x F.intersection F.outside N
 
-        pub outside_refused : Shaped s → (n : ℕ) → z ≡ added.Refused n → Rule7Done cs es r e k s x (reply.Refused n) cs₂ es₂ ix₂ (set (set s 1 i) 2 o)
+        pub outside_refused : {s' : Room} → s'.warning ≡ s.warning → (n : Refusal) → z ≡ Err n → Rule7Done cs es r e k s x (Err n) cs₂ es₂ ix₂ s'
         unfolding rule7
-        outside_refused S n w = record {
+        outside_refused W n w = record {
           of = λ ps hs t g F. came_next a _ (inner F).1 (inner F).2.extends (came_refused n (λ b. give (sides a b x g.warning)) w (outer F));
           indexed = N.indexed;
-          used = both_used s i o S M.long N.long;
+          used = record { warning = W };
         }
 
-        pub rule7_answered : Shaped s → (b : ElementOrNone) → z ≡ added.Made b → Rule7Done cs es r e k s x (reply.Answered (NonFlush a b x)) cs₂ es₂ ix₂ (set (set s 1 i) 2 o)
+        pub rule7_answered : {s' : Room} → s'.warning ≡ s.warning → (b : Option ElementId) → z ≡ Ok b → Rule7Done cs es r e k s x (Ok (NonFlush a b x)) cs₂ es₂ ix₂ s'
         unfolding rule7
-        rule7_answered S b w = record {
+        rule7_answered W b w = record {
           of = λ ps hs t g F. came_next a _ (inner F).1 (inner F).2.extends (came_answered b (λ d. sides a d x g.warning) w (outer F));
           indexed = N.indexed;
-          used = both_used s i o S M.long N.long;
+          used = record { warning = W };
         }
 
 -- ---- rule 6, by the flush answers
@@ -202,19 +188,18 @@ no_flush (a ∷ []) h n = absurd (n refl)
 no_flush (a ∷ b ∷ fs) h n = absurd (let z : ⊥ = omega (arith, h) in z)
 
 -- the intersection's step, as rule 6 asks for it
-abbrev intersected : Cutter → ℕ → Table → Gathered → Outcome ElementOrNone
+abbrev intersected : Cutter → ℕ → Table → Gathered → Outcome (Option ElementId)
 intersected k e t g = new_intersection desk (cut_of t.dimension k) (rank_of (element t e)) g.intersections t
 
 -- from what rule 6 has: its sets for rule 7, and its intersection
-module _ {cs es : List ℕ} {r e : ℕ} {k : Cutter} {s : List (List ℕ)} {ps hs : List Float} {t : Table} {g : Gathered} (F : Rule6Fit cs ps hs es r e k s t g) where
-  side_set : {set xs : List ℕ} → numbers_in set ≡ xs → SizedSet set 32 → SetOf t (suc (r - 1)) xs → SideSet r t set xs
+module _ {cs es : List ℕ} {r e : ℕ} {k : Cutter} {s : Room} {ps hs : List Float} {t : Table} {g : Gathered} (F : Rule6Fit cs ps hs es r e k s t g) where
+  side_set : {set : Set} {xs : List ℕ} → numbers_in set ≡ xs → SizedSet set 32 → SetOf t (suc (r - 1)) xs → SideSet r t set xs
   side_set {xs = xs} h z q = record { held = h; sized = z; sets = subst (λ (n : ℕ). SetOf t n xs) (sym (rank_before r F.some)) q }
 
-  rule7_fit : {cs₁ es₁ : List ℕ} {u : Table} (U : Later cs₁ ps hs es₁ t u) (x : ElementOrNone) → SomeOf r x u → Rule7Fit cs₁ ps hs es₁ r e k s x u g
+  rule7_fit : {cs₁ es₁ : List ℕ} {u : Table} (U : Later cs₁ ps hs es₁ t u) (x : Option ElementId) → SomeOf r x u → Rule7Fit cs₁ ps hs es₁ r e k s x u g
   rule7_fit U x h = record {
     fit = fit_later F.fit F.some U;
     some = F.some;
-    shaped = F.sized.shaped;
     inside = side_later U.extends (side_set F.gathers.inside (inside_sized F.sized) F.sets.inside);
     outside = side_later U.extends (side_set F.gathers.outside (outside_sized F.sized) F.sets.outside);
     intersection = h;
@@ -240,37 +225,37 @@ module _ {cs es : List ℕ} {r e : ℕ} {k : Cutter} {s : List (List ℕ)} {ps h
       (test_le (suc (r - 1)) t.dimension (subst (λ (q : ℕ). q ≤ t.dimension) n f.low)) f.sets)
 
 -- the room where no side was asked for
-untouched : {s : List (List ℕ)} → Shaped s → Used s s
-untouched S = record { shaped = S; warning = refl }
+untouched : {s : Room} → Used s s
+untouched = record { warning = refl }
 
-module _ {cs es : List ℕ} {r e : ℕ} {k : Cutter} {s : List (List ℕ)} where
-  pub rule6_flush : 1 < get_or (tally_in s) 0 0 → {ix : List ℕ} → Rule6Ready cs es ix r e k s → Rule6Done cs es r e k s (reply.Answered Flush) cs es ix s
+module _ {cs es : List ℕ} {r e : ℕ} {k : Cutter} {s : Room} where
+  pub rule6_flush : 1 < s.flushes → {ix : List ℕ} → Rule6Ready cs es ix r e k s → Rule6Done cs es r e k s (Ok Flush) cs es ix s
   rule6_flush h R = record {
     of = λ ps hs t g F.
         went (record { output = Flush; warning = g.warning }) t (many_flush (cut_of t.dimension k) (element t e) g g.flush t (le_trans h (le_of_eq F.gathers.flushes)))
         refl F.fit.holds;
     indexed = R.indexed;
-    used = untouched R.fit.sized.shaped;
+    used = untouched;
   }
 
   -- exactly one
-  module _ (h : get_or (tally_in s) 0 0 ≡ 1) (f : ℕ) (w : f ≡ get_or (tally_in s) 1 0) where
-    sole : {ps hs : List Float} {t : Table} {g : Gathered} → Rule6Fit cs ps hs es r e k s t g → g.flush ≡ f ∷ []
-    sole {g = g} F = one_flush g.flush f (sym F.gathers.flushes ∙ h) (w ∙ F.gathers.flush)
+  module _ (h : s.flushes ≡ 1) (f : ElementId) (w : f ≡ s.flush) where
+    sole : {ps hs : List Float} {t : Table} {g : Gathered} → Rule6Fit cs ps hs es r e k s t g → g.flush ≡ f.0 ∷ []
+    sole {g = g} F = one_flush g.flush f.0 (sym F.gathers.flushes ∙ h) (ap (λ (y : ElementId). y.0) w ∙ F.gathers.flush)
 
-    flush_fit : {ps hs : List Float} {t : Table} {g : Gathered} → Rule6Fit cs ps hs es r e k s t g → Rule7Fit cs ps hs es r e k s (given f) t g
+    flush_fit : {ps hs : List Float} {t : Table} {g : Gathered} → Rule6Fit cs ps hs es r e k s t g → Rule7Fit cs ps hs es r e k s (Some f) t g
     flush_fit {t = t} F =
-        rule7_fit F (here F.fit F.some) (given f)
-        (subst (λ (n : ℕ). Ranked t n f) (sym (rank_before r F.some)) (subst (AllOf (Ranked t (suc (r - 1)))) (sole F) F.sets.flush).0)
+        rule7_fit F (here F.fit F.some) (Some f)
+        (subst (λ (n : ℕ). Ranked t n f.0) (sym (rank_before r F.some)) (subst (AllOf (Ranked t (suc (r - 1)))) (sole F) F.sets.flush).0)
 
-    pub flush_ready : {ix : List ℕ} → Rule6Ready cs es ix r e k s → Rule7Ready cs es ix r e k s (given f)
+    pub flush_ready : {ix : List ℕ} → Rule6Ready cs es ix r e k s → Rule7Ready cs es ix r e k s (Some f)
     flush_ready R = record { points = R.points; planes = R.planes; table = R.table; gathered = R.gathered; fit = flush_fit R.fit; indexed = R.indexed }
 
-    pub rule6_one : {y : ElementReply} {cs' es' ix' : List ℕ} {s' : List (List ℕ)} → Rule7Done cs es r e k s (given f) y cs' es' ix' s' → Rule6Done cs es r e k s y cs' es' ix' s'
+    pub rule6_one : {y : Reply ElementCutOutput} {cs' es' ix' : List ℕ} {s' : Room} → Rule7Done cs es r e k s (Some f) y cs' es' ix' s' → Rule6Done cs es r e k s y cs' es' ix' s'
     unfolding rule6
     rule6_one {y} {cs'} {es'} D = record {
       of = λ ps hs t g F.
-          subst (λ (fs : List ℕ). Came answered_by reply.Refused (Holds desk cs' ps hs es') t (rule6 desk (cut_of t.dimension k) (element t e) g fs t) y) (sym (sole F))
+          subst (λ (fs : List ℕ). Came answered_by Err (Holds desk cs' ps hs es') t (rule6 desk (cut_of t.dimension k) (element t e) g fs t) y) (sym (sole F))
           (D.of ps hs t g (flush_fit F));
       indexed = D.indexed;
       used = D.used;
@@ -280,7 +265,7 @@ module _ {cs es : List ℕ} {r e : ℕ} {k : Cutter} {s : List (List ℕ)} where
   pub intersection_ready : {ix : List ℕ} → Rule6Ready cs es ix r e k s → IntersectionReady cs es ix r k (intersections_in s)
   intersection_ready R = record { points = R.points; planes = R.planes; table = R.table; fit = intersection_fit R.fit; indexed = R.indexed }
 
-  module _ (h : get_or (tally_in s) 0 0 ≤ 1) (n : get_or (tally_in s) 0 0 ≡ 1 → ⊥) {y : Added} {cs₁ es₁ ix₁ : List ℕ}
+  module _ (h : s.flushes ≤ 1) (n : s.flushes ≡ 1 → ⊥) {y : Reply (Option ElementId)} {cs₁ es₁ ix₁ : List ℕ}
       (M : IntersectionMade cs es r k (intersections_in s) y cs₁ es₁ ix₁) where
     none_flush : {ps hs : List Float} {t : Table} {g : Gathered} → Rule6Fit cs ps hs es r e k s t g → [] ≡ g.flush
     none_flush {g = g} F =
@@ -290,23 +275,23 @@ module _ {cs es : List ℕ} {r e : ℕ} {k : Cutter} {s : List (List ℕ)} where
         → new_intersection desk (cut_of t.dimension k) r (numbers_in (intersections_in s)) t ≡ intersected k e t g
     same_intersection {t = t} F = ap₂ (λ (m : ℕ) (l : List ℕ). new_intersection desk (cut_of t.dimension k) m l t) (sym F.fit.ranked) F.gathers.intersections
 
-    middle : {ps hs : List Float} {t : Table} {g : Gathered} → Rule6Fit cs ps hs es r e k s t g → Came added.Made added.Refused (Holds desk cs₁ ps hs es₁) t (intersected k e t g) y
+    middle : {ps hs : List Float} {t : Table} {g : Gathered} → Rule6Fit cs ps hs es r e k s t g → Came Ok Err (Holds desk cs₁ ps hs es₁) t (intersected k e t g) y
     middle {ps} {hs} {t} F =
-        subst (λ (o : Outcome ElementOrNone). Came added.Made added.Refused (Holds desk cs₁ ps hs es₁) t o y) (same_intersection F) (M.of ps hs t (intersection_fit F))
+        subst (λ (o : Outcome (Option ElementId)). Came Ok Err (Holds desk cs₁ ps hs es₁) t o y) (same_intersection F) (M.of ps hs t (intersection_fit F))
 
     module _ {ps hs : List Float} {t : Table} {g : Gathered} (F : Rule6Fit cs ps hs es r e k s t g) where
       -- rule 6 without a flush answer
-      by_none : {z : ElementReply} {cs₂ es₂ : List ℕ}
-          → Came answered_by reply.Refused (Holds desk cs₂ ps hs es₂) t (next (intersected k e t g) (rule7 desk (cut_of t.dimension k) (element t e) g)) z
-          → Came answered_by reply.Refused (Holds desk cs₂ ps hs es₂) t (rule6 desk (cut_of t.dimension k) (element t e) g g.flush t) z
+      by_none : {z : Reply ElementCutOutput} {cs₂ es₂ : List ℕ}
+          → Came answered_by Err (Holds desk cs₂ ps hs es₂) t (next (intersected k e t g) (rule7 desk (cut_of t.dimension k) (element t e) g)) z
+          → Came answered_by Err (Holds desk cs₂ ps hs es₂) t (rule6 desk (cut_of t.dimension k) (element t e) g g.flush t) z
       unfolding rule6
       by_none {z} {cs₂} {es₂} c =
-          subst (λ (fs : List ℕ). Came answered_by reply.Refused (Holds desk cs₂ ps hs es₂) t (rule6 desk (cut_of t.dimension k) (element t e) g fs t) z) (none_flush F) c
+          subst (λ (fs : List ℕ). Came answered_by Err (Holds desk cs₂ ps hs es₂) t (rule6 desk (cut_of t.dimension k) (element t e) g fs t) z) (none_flush F) c
 
-    pub intersection_refused : {ix : List ℕ} → Rule6Ready cs es ix r e k s → (j : ℕ) → y ≡ added.Refused j → Rule6Done cs es r e k s (reply.Refused j) cs₁ es₁ ix₁ s
-    intersection_refused R j q = record { of = λ ps hs t g F. by_none F (came_refused j _ q (middle F)); indexed = M.indexed; used = untouched R.fit.sized.shaped }
+    pub intersection_refused : {ix : List ℕ} → Rule6Ready cs es ix r e k s → (j : Refusal) → y ≡ Err j → Rule6Done cs es r e k s (Err j) cs₁ es₁ ix₁ s
+    intersection_refused R j q = record { of = λ ps hs t g F. by_none F (came_refused j _ q (middle F)); indexed = M.indexed; used = untouched }
 
-    module _ (x : ElementOrNone) (q : y ≡ added.Made x) where
+    module _ (x : Option ElementId) (q : y ≡ Ok x) where
       -- the table after the intersection
       crossed : {ps hs : List Float} {t : Table} {g : Gathered} → Rule6Fit cs ps hs es r e k s t g
           → (u : Table) × (intersected k e t g ≡ done x u) × Later cs₁ ps hs es₁ t u × Rule7Fit cs₁ ps hs es₁ r e k s x u g
@@ -321,13 +306,13 @@ module _ {cs es : List ℕ} {r e : ℕ} {k : Cutter} {s : List (List ℕ)} where
           let m = crossed R.fit in
           record { points = R.points; planes = R.planes; table = m.0; gathered = R.gathered; fit = m.3; indexed = M.indexed }
 
-      pub rule6_none : {z : ElementReply} {cs₂ es₂ ix₂ : List ℕ} {s₂ : List (List ℕ)} → Rule7Done cs₁ es₁ r e k s x z cs₂ es₂ ix₂ s₂ → Rule6Done cs es r e k s z cs₂ es₂ ix₂ s₂
+      pub rule6_none : {z : Reply ElementCutOutput} {cs₂ es₂ ix₂ : List ℕ} {s₂ : Room} → Rule7Done cs₁ es₁ r e k s x z cs₂ es₂ ix₂ s₂ → Rule6Done cs es r e k s z cs₂ es₂ ix₂ s₂
       rule6_none {z} {cs₂} {es₂} D = record {
         of = λ ps hs t g F. (
             let m = crossed F in
             let X = m.2.extends in
             by_none F (came_next x (rule7 desk (cut_of t.dimension k) (element t e) g) m.1 X
-            (subst (λ (o : Outcome ElementAnswer). Came answered_by reply.Refused (Holds desk cs₂ ps hs es₂) m.0 o z)
+            (subst (λ (o : Outcome ElementAnswer). Came answered_by Err (Holds desk cs₂ ps hs es₂) m.0 o z)
             (ap₂ (λ (d : ℕ) (v : Element). rule7 desk (cut_of d k) v g x m.0) X.dimension (element_same t m.0 e X F.fit.used)) (D.of ps hs m.0 g m.3)))
             );
         indexed = D.indexed;

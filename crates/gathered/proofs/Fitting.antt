@@ -13,8 +13,6 @@ use Rattle.rules.specs.Lists.{rises, member}
 use Rattle.rules.specs.Table.{Element, corner, polytope, Table, rank_of, boundary, boundary_of, element_count, rank, element}
 use Rattle.rules.specs.Sound.{closed, sound_element}
 use Rattle.rules.specs.Held.{Fits, elements_of, Ranked, AllOf, SomeOf}
-use Rattle.rules.specs.declared.ElementOrNone.{ElementOrNone}
-use Rattle.rules.specs.declared.ElementOrNone.TheVariants.{None, Some}
 use Rattle.rules.proofs.Apart.{distinct_apart, plain, plain_once}
 use Rattle.rules.proofs.Borders.{rise_at}
 use Rattle.rules.proofs.Extends.{Below, below_more, below_get}
@@ -25,16 +23,19 @@ use Rattle.rules.proofs.StaysCut.{Owner, facts}
 use Rattle.space.specs.Closed.{Low, LowEnds, EndsLow, EachEdge, Edges, Untwinned}
 use Rattle.space.proofs.Room.{list_of, list_word_lem}
 use Rattle.gathered.specs.Sets.{size_in, numbers_in, InRoom}
+use Rattle.gathered.specs.declared.sets.Set.{Set}
+use Rattle.rules.specs.declared.ElementId.{ElementId}
+use Rattle.std.specs.Prelude.{Option, Some, None}
 
 -- what is in use is within the room
-pub some_fits : (t : Table) → element_count t ≤ 512 → (q : ℕ) (x : ElementOrNone) → SomeOf q x t → InRoom x
+pub some_fits : (t : Table) → element_count t ≤ 512 → (q : ℕ) (x : Option ElementId) → SomeOf q x t → InRoom x
 some_fits t c q None h = tt
 some_fits t c q (Some e) h = le_trans h.0 c
 
-pub low_of : (t : Table) → element_count t ≤ 512 → (q : ℕ) (s : List ℕ) → AllOf (Ranked t q) (numbers_in s) → Low s (size_in s)
+pub low_of : (t : Table) → element_count t ≤ 512 → (q : ℕ) (s : Set) → AllOf (Ranked t q) (numbers_in s) → Low s.numbers (size_in s)
 low_of t c q s a = record {
   at = λ k h.
-      subst (λ (y : ℕ). y < 512) (get_or-take (size_in s) s k 0 h)
+      subst (λ (y : ℕ). y < 512) (get_or-take (size_in s) s.numbers k 0 h)
       (below_get 512 (numbers_in s) k (lit≤ tt) (below_more (numbers_in s) c (all_below_lem (element_count t) (numbers_in s) (set_under t q (numbers_in s) a))));
 }
 
@@ -99,10 +100,10 @@ module _ (t : Table) (F : Fits desk t) (g : Good desk t) where
           let l = rise_at b w.1 0 1 (lit≤ tt) (let q : 1 < length b = omega (arith, two) in q) in
           omega (arith, w₀, w₁, l)
 
-  pub ends_low : (es : List ℕ) → es ≡ elements_of desk t → (s : List ℕ) → size_in s ≤ length s → rises (numbers_in s) ≡ true → AllOf (Ranked t 2) (numbers_in s) → LowEnds es s (size_in s)
+  pub ends_low : (es : List ℕ) → es ≡ elements_of desk t → (s : Set) → size_in s ≤ length s.numbers → rises (numbers_in s) ≡ true → AllOf (Ranked t 2) (numbers_in s) → LowEnds es s.numbers (size_in s)
   ends_low es e s l up a = record {
     rising = up;
-    each = λ k h. subst (λ (w : List ℕ). EndsLow w (get_or s k 0)) (sym e) (record { apart = end_apart (get_or s k 0) (ranked k h); second = end_low (get_or s k 0) 1 (ranked k h) (lit≤ tt) });
+    each = λ k h. subst (λ (w : List ℕ). EndsLow w (get_or s.numbers k 0)) (sym e) (record { apart = end_apart (get_or s.numbers k 0) (ranked k h); second = end_low (get_or s.numbers k 0) 1 (ranked k h) (lit≤ tt) });
   }
     where
       at : (xs : List ℕ) (k : ℕ) → AllOf (Ranked t 2) xs → k < length xs → Ranked t 2 (get_or xs k 0)
@@ -110,10 +111,10 @@ module _ (t : Table) (F : Fits desk t) (g : Good desk t) where
       at (x ∷ xs) zero p h = p.0
       at (x ∷ xs) (suc k) p h = at xs k p.1 (le_of_suc-le-suc h)
 
-      ranked : (k : ℕ) → k < size_in s → Ranked t 2 (get_or s k 0)
+      ranked : (k : ℕ) → k < size_in s → Ranked t 2 (get_or s.numbers k 0)
       ranked k h =
-          let m = length-take-le (size_in s) s l in
-          subst (Ranked t 2) (get_or-take (size_in s) s k 0 h) (at (numbers_in s) k a (let q : k < length (numbers_in s) = omega (arith, m, h) in q))
+          let m = length-take-le (size_in s) s.numbers l in
+          subst (Ranked t 2) (get_or-take (size_in s) s.numbers k 0 h) (at (numbers_in s) k a (let q : k < length (numbers_in s) = omega (arith, m, h) in q))
 
 -- ---- the element that is cut
 

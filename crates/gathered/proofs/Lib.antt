@@ -5,3 +5,4 @@ pub mod Steps
 pub mod IntersectionAdded
 pub mod SideAdded
 pub mod Answering
+pub mod OwnRows

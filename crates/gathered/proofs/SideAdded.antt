@@ -7,8 +7,8 @@ use mathlib.Core.List.{List}
 use native.Mathlib.Nat.{le_trans}
 use native.Mathlib.Omega.{arith}
 use lib.Dec.{leb, eqb, lit≤}
-use lib.ListN.{length, get_or, take}
-use lib.Seq.{get_or-take, length-take-le, ext_get_or}
+use lib.ListN.{length, get_or}
+use lib.Seq.{ext_get_or}
 use lib.Ieee.{Float}
 use Rattle.rules.specs.Limits.{desk, no_plane}
 use Rattle.rules.specs.Lists.{rises}
@@ -17,8 +17,6 @@ use Rattle.rules.specs.Sound.{names_none}
 use Rattle.rules.specs.Memory.{plane_number, plane_named}
 use Rattle.rules.specs.Held.{Holds, Came, went, SetOf, Ranked, AllOf, fitting}
 use Rattle.rules.specs.Cut.{Outcome, done, given, add_polytope, including, side_of_cut}
-use Rattle.rules.specs.declared.ElementOrNone.{ElementOrNone}
-use Rattle.rules.specs.declared.ElementOrNone.TheVariants.{None}
 use Rattle.rules.proofs.Good.{sound_good}
 use Rattle.rules.proofs.Growing.{all_get}
 use Rattle.rules.proofs.Laws.{le_test, and_left, and_right, mark_back}
@@ -27,16 +25,19 @@ use Rattle.rules.proofs.Ranked.{set_including}
 use Rattle.rules.proofs.RoundTrip.{plane_back}
 use Rattle.space.specs.Ready.{ElementReady, PolytopeReady}
 use Rattle.space.specs.Chains.{Indexed}
-use Rattle.space.specs.Closed.{Low, LowEnds, Edges}
+use Rattle.space.specs.Closed.{Edges}
+use Rattle.space.proofs.RowMade.{taken, front_low, front_ends}
 use Rattle.space.specs.Shared.{PolytopeAdded}
-use Rattle.space.specs.declared.memo.Added.{Added}
-use Rattle.space.specs.declared.memo.Added.TheVariants as added
 use Rattle.space.proofs.Room.{size_of, list_of, plane_word, mark_word, size_word_lem, list_word_lem}
 use Rattle.space.proofs.RowAdds.{readable_desk}
 use Rattle.space.proofs.Slices.{slices}
 use Rattle.gathered.specs.Sets.{size_in, numbers_in, IncludeReady, Included}
+use Rattle.gathered.specs.declared.sets.Set.{Set}
 use Rattle.gathered.specs.Cutting.{RowReadable, OwnBoundary, SideFit, SideReady, SideMade}
 use Rattle.gathered.proofs.Fitting.{some_fits, low_of, edges_of, ends_low, rank_low}
+use Rattle.rules.specs.declared.ElementId.{ElementId}
+use Rattle.std.specs.Prelude.{Option, None, Ok, Err}
+use Rattle.rules.specs.Refusals.{Reply}
 
 -- a row that fits names its hyperplane, or none
 plane_named_lem : (z : Element) → fitting desk z ≡ true → plane_named (plane_number (plane_of z)) ≡ plane_of z
@@ -52,7 +53,7 @@ list_size_lem : (z : Element) → length (list_of z) ≡ size_of z
 list_size_lem (corner v) = refl
 list_size_lem (polytope a b h c) = refl
 
-module _ {cs es : List ℕ} {r e : ℕ} {set : List ℕ} {x : ElementOrNone} where
+module _ {cs es : List ℕ} {r e : ℕ} {set : Set} {x : Option ElementId} where
   -- what the calls ask for
   pub reads_ask : {ix : List ℕ} → SideReady cs es ix r e set x → ElementReady es e
   reads_ask R = record { elements = (slices R.fit.holds).elements; room = le_trans R.fit.used R.fit.holds.fits.element_room }
@@ -63,37 +64,36 @@ module _ {cs es : List ℕ} {r e : ℕ} {set : List ℕ} {x : ElementOrNone} whe
   set_with : {ps hs : List Float} {t : Table} → SideFit cs ps hs es r e set x t → SetOf t r (including x (numbers_in set))
   set_with {t = t} F = set_including t r x (numbers_in set) F.intersection F.sets
 
-  -- n is the size of the set, as it was read
-  pub side_asks : {ix : List ℕ} → SideReady cs es ix r e set x → (all : List ℕ) → Included set x all → (n : ℕ) → n ≡ size_in all → PolytopeReady cs es ix r all n
-  side_asks R all I n size =
+  pub side_asks : {ix : List ℕ} → SideReady cs es ix r e set x → (all : Set) → Included set x all → (list : List ℕ) → list ≡ numbers_in all → PolytopeReady cs es ix r list
+  side_asks {ix} R all I list whole =
       let F = R.fit in
       let t = R.table in
       let z = I.sized 32 F.sized in
       let most = z.most in
-      let long = z.long in
+      let long = I.long in
       let g = sound_good desk t F.sound in
       let low = rank_low t e r g F.used F.ranked F.some in
       let four = le_test t.dimension 4 g.high in
-      record {
+      let fit : size_in all ≤ length all.numbers = omega (arith, most, long) in
+      let size = taken all.numbers (size_in all) fit in
+      subst (PolytopeReady cs es ix r) (sym whole) (record {
         counts = (slices F.holds).counts;
         elements = (slices F.holds).elements;
         room = (slices F.holds).elements_fit;
-        words = z.long;
-        size = (let q : n ≤ 33 = omega (arith, size, most) in q);
+        size = omega (arith, size, most);
         rank = (let q : r < 65536 = omega (arith, low, four) in q);
-        low = subst (Low all) (sym size) (low_of t F.holds.fits.element_room r all (subst (AllOf (Ranked t r)) (sym I.of) (set_with F).ranked));
+        low = front_low all.numbers (size_in all) fit (low_of t F.holds.fits.element_room r all (subst (AllOf (Ranked t r)) (sym I.of) (set_with F).ranked));
         edges = (λ two.
-            subst (LowEnds es all) (sym size)
-            (ends_low t F.holds.fits g es F.holds.elements all (let q : size_in all ≤ length all = omega (arith, most, long) in q) (subst (λ (ys : List ℕ). rises ys ≡ true) (sym I.of) (set_with F).rising)
+            front_ends all.numbers (size_in all) fit
+            (ends_low t F.holds.fits g es F.holds.elements all fit (subst (λ (ys : List ℕ). rises ys ≡ true) (sym I.of) (set_with F).rising)
             (subst (λ (m : ℕ). AllOf (Ranked t m) (numbers_in all)) two (subst (AllOf (Ranked t r)) (sym I.of) (set_with F).ranked))));
         index = R.indexed;
-      }
+      })
 
-  pub side_removed : {ix : List ℕ} {keep : Bool} → SideReady cs es ix r e set x → keep ≡ false → SideMade cs es r e keep set x (added.Made None) cs es ix set
+  pub side_removed : {ix : List ℕ} {keep : Bool} → SideReady cs es ix r e set x → keep ≡ false → SideMade cs es r e keep set x (Ok None) cs es ix set
   side_removed R q = record {
     of = λ ps hs t F. went None t (ap (λ (b : Bool). side_of_cut desk b (element t e) x (numbers_in set) t) q) refl F.holds;
     indexed = R.indexed;
-    long = R.fit.sized.long;
   }
 
   module _ {ps hs : List Float} {t : Table} (F : SideFit cs ps hs es r e set x t) where
@@ -119,23 +119,19 @@ module _ {cs es : List ℕ} {r e : ℕ} {set : List ℕ} {x : ElementOrNone} whe
         (edges_of t (sound_good desk t F.sound) (including x (numbers_in set)) (set_with F).rising (subst (λ (n : ℕ). AllOf (Ranked t n) (including x (numbers_in set))) two (set_with F).ranked))
 
     -- the set's numbers are those of the row, so the search would find the element itself
-    module _ (all : List ℕ) (n : ℕ) (size : n ≡ size_in all) (I : Included set x all) (O : OwnBoundary es e all n) where
+    module _ (all : Set) (I : Included set x all) (O : OwnBoundary es e (numbers_in all) (length (numbers_in all))) where
       own_list : numbers_in all ≡ list_of (element t e)
       own_list =
-          let most = (I.sized 32 F.sized).most in
-          let long = (I.sized 32 F.sized).long in
-          let taken = length-take-le (size_in all) all (let q : size_in all ≤ length all = omega (arith, most, long) in q) in
           let count = sym O.size ∙ own_size ∙ sym (list_size_lem (element t e)) in
           let short = row_short (element t e) own_fits in
           let listed = list_size_lem (element t e) in
-          ext_get_or 0 (numbers_in all) (list_of (element t e)) (taken ∙ sym size ∙ count)
+          ext_get_or 0 (numbers_in all) (list_of (element t e)) count
           (λ i l.
-          get_or-take (size_in all) all i 0 (let q : i < size_in all = omega (arith, l, taken) in q)
-          ∙ O.same i (let q : i < n = omega (arith, l, taken, size) in q)
+          O.same i l
           ∙ ap (λ (w : List ℕ). get_or w (e * 36 + (4 + i)) 0) F.holds.elements
           ∙ list_word_lem desk t F.holds.fits e F.used i
-          (let q : i < length (list_of (element t e)) = omega (arith, l, taken, size, count) in q)
-          (let q : 4 + i < 36 = omega (arith, l, taken, size, count, listed, short) in q))
+          (let q : i < length (list_of (element t e)) = omega (arith, l, count) in q)
+          (let q : 4 + i < 36 = omega (arith, l, count, listed, short) in q))
 
       own_found : side_of_cut desk true (element t e) x (numbers_in set) t ≡ done (given e) t
       own_found = go (element t e) refl F.ranked
@@ -154,23 +150,21 @@ module _ {cs es : List ℕ} {r e : ℕ} {set : List ℕ} {x : ElementOrNone} whe
     short = subst (λ (n : ℕ). n ≤ 32) (sym (own_size R.fit)) (row_short (element R.table e) (own_fits R.fit));
   }
 
-  pub side_own : {ix : List ℕ} {keep : Bool} → SideReady cs es ix r e set x → (all : List ℕ) (n : ℕ) → n ≡ size_in all → keep ≡ true → Included set x all → OwnBoundary es e all n
-      → SideMade cs es r e keep set x (added.Made (given e)) cs es ix all
-  side_own R all n size q I O = record {
+  pub side_own : {ix : List ℕ} {keep : Bool} → SideReady cs es ix r e set x → (all : Set) (list : List ℕ) → list ≡ numbers_in all → keep ≡ true → Included set x all → OwnBoundary es e list (length list)
+      → SideMade cs es r e keep set x (Ok (given e)) cs es ix all
+  side_own R all list whole q I O = record {
     of = λ ps hs t F.
-        went (given e) t (ap (λ (b : Bool). side_of_cut desk b (element t e) x (numbers_in set) t) q ∙ own_found F all n size I O) refl F.holds;
+        went (given e) t (ap (λ (b : Bool). side_of_cut desk b (element t e) x (numbers_in set) t) q ∙ own_found F all I (subst (λ (l : List ℕ). OwnBoundary es e l (length l)) whole O)) refl F.holds;
     indexed = R.indexed;
-    long = (I.sized 32 R.fit.sized).long;
   }
 
-  pub side_kept : {ix : List ℕ} {keep : Bool} {y : Added} {cs' es' ix' : List ℕ} → SideReady cs es ix r e set x → (plane : ℕ) (mark : Bool) (all : List ℕ) (n : ℕ) → n ≡ size_in all → keep ≡ true
+  pub side_kept : {ix : List ℕ} {keep : Bool} {y : Reply (Option ElementId)} {cs' es' ix' : List ℕ} → SideReady cs es ix r e set x → (plane : ℕ) (mark : Bool) (all : Set) (list : List ℕ) → list ≡ numbers_in all → keep ≡ true
       → plane ≡ get_or es (e * 36 + 2) 0 → mark ≡ eqb (get_or es (e * 36 + 1) 0) 1 → Included set x all
-      → PolytopeAdded cs es r (take n all) plane mark y cs' es' → Indexed es' (get_or cs' 1 0) ix' → SideMade cs es r e keep set x y cs' es' ix' all
-  side_kept {ix} {keep} {y} {cs'} {es'} R plane mark all n size q p m I A indexed = record {
+      → PolytopeAdded cs es r list plane mark y cs' es' → Indexed es' (get_or cs' 1 0) ix' → SideMade cs es r e keep set x y cs' es' ix' all
+  side_kept {ix} {keep} {y} {cs'} {es'} R plane mark all list whole q p m I A indexed = record {
     of = λ ps hs t F.
-        subst (λ (o : Outcome ElementOrNone). Came added.Made added.Refused (Holds desk cs' ps hs es') t o y)
+        subst (λ (o : Outcome (Option ElementId)). Came Ok Err (Holds desk cs' ps hs es') t o y)
         ((λ i. add_polytope desk (sym F.ranked i) (I.of i) (own_plane F plane p i) (own_mark F mark m i) t) ∙ sym (ap (λ (b : Bool). side_of_cut desk b (element t e) x (numbers_in set) t) q))
-        ((subst (λ (j : ℕ). PolytopeAdded cs es r (take j all) plane mark y cs' es') size A).of ps hs t F.holds (λ l. F.some) (side_edges F (numbers_in all) I.of));
+        ((subst (λ (l : List ℕ). PolytopeAdded cs es r l plane mark y cs' es') whole A).of ps hs t F.holds (λ l. F.some) (side_edges F (numbers_in all) I.of));
     indexed = indexed;
-    long = (I.sized 32 R.fit.sized).long;
   }

@@ -1,30 +1,18 @@
 // Rules 6 to 8: what a cut adds for an element whose boundary has answered, and the element's own answer.
-ghost use Rattle.std.specs.Prelude.{◌≡◌, eqb, get_or, if◌then◌else◌};
+ghost use Rattle.std.specs.Prelude.{◌≡◌, eqb, get_or, length, if◌then◌else◌};
 ghost use Rattle.rules.specs.Limits.{no_plane};
 ghost use Rattle.rules.specs.Replies.{is_kept};
 ghost use Rattle.gathered.specs.Cutting.{PlaneReady, IntersectionReady, IntersectionMade, RowReadable, OwnTold, SideReady, SideMade, Rule7Ready, Rule7Done, Rule6Ready, Rule6Done};
 
-use crate::including::include;
-use crate::sets::{FLUSH, FLUSHES, INSIDE, INTERSECTIONS, OUTSIDE, ROOM, TALLY};
-use rules::{Cutter, ElementCutOutput, ElementId, ElementOrNone, HyperplaneId, PolytopeFate};
-use space::memo::Added;
-use space::words::{NO_PLANE, SET, SIZE, wide};
+use crate::sets::{Room, Set};
+use rules::{Cutter, ElementCutOutput, ElementId, HyperplaneId, PolytopeFate, Reply};
+use space::words::{NO_PLANE, WIDTH, wide};
 use space::{memo, rows};
-
-// How the cut of an element ended: what the functions of a cut hand each other. Its warning is in the room.
-#[derive(Clone, Copy)]
-pub enum ElementReply {
-    Refused(u8),
-    Answered(ElementCutOutput),
-}
 
 fn is_kept(fate: PolytopeFate) -> bool
     ensures { result ≡ is_kept fate }
 {
-    match fate {
-        PolytopeFate::Remove => false,
-        PolytopeFate::Keep => true,
-    }
+    matches!(fate, PolytopeFate::Keep)
 }
 
 // The divider's hyperplane if the rank is the dimension.
@@ -46,32 +34,26 @@ fn new_intersection(
     index: &mut [u16],
     rank: usize,
     k: Cutter,
-    set: &[u16; SET],
-) -> Added
+    set: &Set,
+) -> Reply<Option<ElementId>>
     requires { IntersectionReady counts.old elements.old index.old rank k set.now }
     ensures { IntersectionMade counts.old elements.old rank k set.now result
         counts.new elements.new index.new }
 {
     let number = k.number;
     let plane = plane_of_intersection(counts, rank, number);
-    let n = wide(set[SIZE]);
-    memo::add_polytope(counts, elements, index, rank - 1, set, n, plane, false)
+    let numbers = set.as_slice();
+    memo::add_polytope(counts, elements, index, rank - 1, numbers, plane, false)
 }
 
-// Whether the first n numbers of a set are the boundary that element e has already.
-fn is_own(elements: &[u16], e: ElementId, set: &[u16; SET], n: usize) -> bool
+// Whether a list is the boundary that element e has already.
+fn is_own(elements: &[u16], e: ElementId, list: &[u16]) -> bool
     requires { RowReadable elements.now e.0 }
-    ensures { OwnTold elements.now e.0 set.now n result }
+    ensures { OwnTold elements.now e.0 list.now (length list.now) result }
 {
-    if rows::size_of(elements, e) != n {
-        return false;
-    }
-    for j in 0..n {
-        if rows::boundary_at(elements, e, j) != set[j] {
-            return false;
-        }
-    }
-    true
+    let from = e.0 * WIDTH + 4;
+    let size = rows::size_of(elements, e);
+    &elements[from..from + size] == list
 }
 
 // A side's set and the intersection, with the old rank, hyperplane and mark; a removed side is none.
@@ -82,25 +64,25 @@ fn side_of_cut(
     e: ElementId,
     rank: usize,
     fate: PolytopeFate,
-    set: &mut [u16; SET],
-    x: ElementOrNone,
-) -> Added
+    set: &mut Set,
+    x: Option<ElementId>,
+) -> Reply<Option<ElementId>>
     requires { SideReady counts.old elements.old index.old rank e.0 set.old x }
     ensures { SideMade counts.old elements.old rank e.0 (is_kept fate) set.old x result
         counts.new elements.new index.new set.new }
 {
     if !is_kept(fate) {
-        return Added::Made(ElementOrNone::None);
+        return Ok(None);
     }
     let plane = rows::plane_of(elements, e);
     let mark = rows::is_primordial(elements, e);
-    include(set, x);
-    let n = wide(set[SIZE]);
+    set.include(x);
+    let numbers = set.as_slice();
     // a side that lost nothing is the element itself, with no search for its row
-    if is_own(elements, e, set, n) {
-        return Added::Made(ElementOrNone::Some(e));
+    if is_own(elements, e, numbers) {
+        return Ok(Some(e));
     }
-    memo::add_polytope(counts, elements, index, rank, set, n, plane, mark)
+    memo::add_polytope(counts, elements, index, rank, numbers, plane, mark)
 }
 
 // The intersection is known: then inside, then outside.
@@ -111,9 +93,9 @@ fn rule7(
     e: ElementId,
     rank: usize,
     k: Cutter,
-    room: &mut [[u16; SET]; ROOM],
-    x: ElementOrNone,
-) -> ElementReply
+    room: &mut Room,
+    x: Option<ElementId>,
+) -> Reply<ElementCutOutput>
     requires { Rule7Ready counts.old elements.old index.old rank e.0 k room.old x }
     ensures { Rule7Done counts.old elements.old rank e.0 k room.old x result
         counts.new elements.new index.new room.new }
@@ -121,39 +103,31 @@ fn rule7(
     let params = k.params;
     let fate_inside = params.inside;
     let fate_outside = params.outside;
-    let first = side_of_cut(
+    let inside = side_of_cut(
         counts,
         elements,
         index,
         e,
         rank,
         fate_inside,
-        &mut room[INSIDE],
+        &mut room.inside,
         x,
-    );
-    match first {
-        Added::Refused(no) => ElementReply::Refused(no),
-        Added::Made(i) => {
-            let second = side_of_cut(
-                counts,
-                elements,
-                index,
-                e,
-                rank,
-                fate_outside,
-                &mut room[OUTSIDE],
-                x,
-            );
-            match second {
-                Added::Refused(no) => ElementReply::Refused(no),
-                Added::Made(o) => ElementReply::Answered(ElementCutOutput::NonFlush {
-                    inside: i,
-                    outside: o,
-                    intersection: x,
-                }),
-            }
-        }
-    }
+    )?;
+    let outside = side_of_cut(
+        counts,
+        elements,
+        index,
+        e,
+        rank,
+        fate_outside,
+        &mut room.outside,
+        x,
+    )?;
+    Ok(ElementCutOutput::NonFlush {
+        inside,
+        outside,
+        intersection: x,
+    })
 }
 
 // More than one flush answer make the element flush, exactly one is the intersection; without one it is worked out, whichever sides are kept.
@@ -164,23 +138,20 @@ pub fn rule6(
     e: ElementId,
     rank: usize,
     k: Cutter,
-    room: &mut [[u16; SET]; ROOM],
-) -> ElementReply
+    room: &mut Room,
+) -> Reply<ElementCutOutput>
     requires { Rule6Ready counts.old elements.old index.old rank e.0 k room.old }
     ensures { Rule6Done counts.old elements.old rank e.0 k room.old result
         counts.new elements.new index.new room.new }
 {
-    let flushes = room[TALLY][FLUSHES];
+    let flushes = room.flushes;
     if 1 < flushes {
-        return ElementReply::Answered(ElementCutOutput::Flush);
+        return Ok(ElementCutOutput::Flush);
     }
     if flushes == 1 {
-        let x = ElementOrNone::Some(ElementId(wide(room[TALLY][FLUSH])));
+        let x = Some(room.flush);
         return rule7(counts, elements, index, e, rank, k, room, x);
     }
-    let middle = new_intersection(counts, elements, index, rank, k, &room[INTERSECTIONS]);
-    match middle {
-        Added::Refused(no) => ElementReply::Refused(no),
-        Added::Made(x) => rule7(counts, elements, index, e, rank, k, room, x),
-    }
+    let x = new_intersection(counts, elements, index, rank, k, &room.intersections)?;
+    rule7(counts, elements, index, e, rank, k, room, x)
 }

@@ -2,5 +2,4 @@
 #![tactic(auto)]
 
 pub mod answer;
-mod including;
 pub mod sets;

@@ -1,84 +1,147 @@
-// The one room of a cut, which every element uses in turn: flush answers of its boundary are counted, all other answers go to three sets. One word of it is the cut's warning.
-ghost use Rattle.std.specs.Prelude.{◌||◌, ◌≡◌, ltb};
-ghost use Rattle.gathered.specs.Sets.{warning_in, Shaped, Noted, Cleared, OutputReady, OutputGathered};
+// The one room of a cut, which every element uses in turn: flush answers of its boundary are counted, all other answers go to three sets. With them it keeps the cut's warning.
+ghost use Rattle.std.specs.Prelude.{◌≡◌, Some};
+ghost use Rattle.gathered.specs.Sets.{warning_in, numbers_in, empty_set, empty_room, emptied, SizedSet, Place, Included, IncludeReady, Noted, Cleared, OutputReady, OutputGathered};
 
-use crate::including::include;
 use rules::{ElementCutOutput, ElementId};
-use space::words::{SET, SIZE};
+use space::words::SET;
 
-// The tally and the three sets, each in words of its own.
-pub const ROOM: usize = 4;
-
-pub const TALLY: usize = 0;
-
-pub const INSIDE: usize = 1;
-
-pub const OUTSIDE: usize = 2;
-
-pub const INTERSECTIONS: usize = 3;
-
-// The words of the tally: how many answers were flush, the last such element, and 1 once a corner of the cut was a close call.
-pub const FLUSHES: usize = 0;
-
-pub const FLUSH: usize = 1;
-
-pub const WARNING: usize = 2;
-
-// Whether a corner of the cut was a close call.
-pub fn has_warning(room: &[[u16; SET]; ROOM]) -> bool
-    ensures { result ≡ warning_in room.now }
-{
-    0 < room[TALLY][WARNING]
+// Numbers in order, and never twice, with places for one more than a boundary has, so that rule 8 can refuse.
+#[derive(Clone, Copy)]
+pub struct Set {
+    numbers: [u16; SET],
+    size: usize,
 }
 
-// The cut's warning, with that of one test more.
-fn noted(word: u16, warning: bool) -> u16
-    ensures { ltb 0 result ≡ (ltb 0 word || warning) }
-{
-    if warning {
-        return 1;
-    }
-    word
+// How many answers were flush and the last such element, whether a corner of the cut was a close call, and the sets of all other answers.
+#[derive(Clone, Copy)]
+pub struct Room {
+    pub flushes: usize,
+    pub flush: ElementId,
+    pub warning: bool,
+    pub inside: Set,
+    pub outside: Set,
+    pub intersections: Set,
 }
 
-// A test's warning is the cut's.
-pub fn note(room: &mut [[u16; SET]; ROOM], warning: bool)
-    requires { Shaped room.old }
-    ensures { Noted room.old warning room.new }
-{
-    room[TALLY][WARNING] = noted(room[TALLY][WARNING], warning);
-}
-
-// Nothing is gathered; the cut's warning stays.
-pub fn clear(room: &mut [[u16; SET]; ROOM])
-    requires { Shaped room.old }
-    ensures { Cleared room.old room.new }
-{
-    room[TALLY][FLUSHES] = 0;
-    room[TALLY][FLUSH] = 0;
-    room[INSIDE][SIZE] = 0;
-    room[OUTSIDE][SIZE] = 0;
-    room[INTERSECTIONS][SIZE] = 0;
-}
-
-// The answer of boundary element b is counted, or goes to the sets.
-pub fn gather_in(room: &mut [[u16; SET]; ROOM], b: ElementId, a: ElementCutOutput)
-    requires { OutputReady room.old b.0 a }
-    ensures { OutputGathered room.old b.0 a room.new }
-{
-    match a {
-        ElementCutOutput::Flush => {
-            room[TALLY][FLUSHES] = room[TALLY][FLUSHES] + 1;
-            room[TALLY][FLUSH] = b.0 as u16;
+impl Set {
+    fn new() -> Self
+        ensures { result ≡ empty_set }
+    {
+        Set {
+            numbers: [0; SET],
+            size: 0,
         }
-        ElementCutOutput::NonFlush {
-            inside: i,
-            outside: o,
-            intersection: x,
-        } => {
-            include(&mut room[INSIDE], i);
-            include(&mut room[OUTSIDE], o);
-            include(&mut room[INTERSECTIONS], x);
+    }
+
+    fn clear(&mut self)
+        ensures { self.new ≡ emptied self.old }
+    {
+        self.size = 0;
+    }
+
+    pub(crate) fn as_slice(&self) -> &[u16]
+        requires { SizedSet self.now 33 }
+        ensures { result.now ≡ numbers_in self.now }
+    {
+        &self.numbers[..self.size]
+    }
+
+    // The first place whose number is not below x, or the end.
+    fn place(&self, x: u16) -> usize
+        requires { SizedSet self.now 32 }
+        ensures { Place self.now x result }
+    {
+        self.as_slice()
+            .iter()
+            .position(|y| x <= *y)
+            .unwrap_or(self.size)
+    }
+
+    // A number that is there already is not put in again; those above it move up by one.
+    fn insert(&mut self, x: u16)
+        requires { SizedSet self.old 32 }
+        ensures { Included self.old (Some (record { 0 = x })) self.new }
+    {
+        let at = self.place(x);
+        let n = self.size;
+        if at < n && self.numbers[at] == x {
+            return;
+        }
+        self.numbers.copy_within(at..n, at + 1);
+        self.numbers[at] = x;
+        self.size = n + 1;
+    }
+
+    // None leaves the set as it is.
+    pub(crate) fn include(&mut self, p: Option<ElementId>)
+        requires { IncludeReady self.old p }
+        ensures { Included self.old p self.new }
+    {
+        if let Some(e) = p {
+            self.insert(e.0 as u16);
+        }
+    }
+}
+
+impl Room {
+    // The room before anything was asked.
+    pub fn new() -> Self
+        ensures { result ≡ empty_room }
+    {
+        Room {
+            flushes: 0,
+            flush: ElementId(0),
+            warning: false,
+            inside: Set::new(),
+            outside: Set::new(),
+            intersections: Set::new(),
+        }
+    }
+
+    // Whether a corner of the cut was a close call.
+    pub fn has_warning(&self) -> bool
+        ensures { result ≡ warning_in self.now }
+    {
+        self.warning
+    }
+
+    // A test's warning is the cut's.
+    pub fn note(&mut self, warning: bool)
+        ensures { Noted self.old warning self.new }
+    {
+        self.warning = self.warning || warning;
+    }
+
+    // Nothing is gathered; the cut's warning stays.
+    pub fn clear(&mut self)
+        ensures { Cleared self.old self.new }
+    {
+        self.flushes = 0;
+        self.flush = ElementId(0);
+        self.inside.clear();
+        self.outside.clear();
+        self.intersections.clear();
+    }
+
+    // The answer of boundary element b is counted, or goes to the sets.
+    pub fn gather_in(&mut self, b: ElementId, a: ElementCutOutput)
+        requires { OutputReady self.old b.0 a }
+        ensures { OutputGathered self.old b.0 a self.new }
+    {
+        match a {
+            ElementCutOutput::Flush => {
+                self.flushes += 1;
+                self.flush = b;
+            }
+            ElementCutOutput::NonFlush {
+                inside,
+                outside,
+                intersection,
+            } => {
+                self.inside.include(inside);
+                self.outside.include(outside);
+                self.intersections.include(intersection);
+            }
         }
     }
 }

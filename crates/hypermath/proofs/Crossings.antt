@@ -1,5 +1,5 @@
 -- Crossings: the edge test, the clamp by its tests, and the point axis by axis, filled from the front over zeros.
-use Rattle.std.specs.Prelude.{if◌then◌else◌}
+use Rattle.std.specs.Prelude.{if◌then◌else◌, Option, Some, None}
 use Prim.Native.Nat.{ℕ, zero, suc, ◌+◌, ◌-◌, ◌≤◌, ◌<◌}
 use mathlib.Core.Path.{◌≡◌, refl, sym, ap, ◌∙◌, subst}
 use mathlib.Core.Bool.{Bool, true, false, ◌&&◌, ◌||◌}
@@ -12,8 +12,6 @@ use lib.Ieee.{Float, nan, fin, binary64, add, sub, mul, div, lt, ne}
 use Rattle.rules.specs.Lists.{pad}
 use Rattle.rules.specs.Floats.{plus_zero, within, side_of, side_test, opposite, crossing_of, edge_test, greater, lesser, clamp, crossing_point}
 use Rattle.rules.specs.Promises.{Between}
-use Rattle.rules.specs.declared.Crossing.{Crossing}
-use Rattle.rules.specs.declared.Crossing.TheVariants.{None, At}
 use Rattle.rules.specs.declared.EdgeTest.{EdgeTest}
 use Rattle.rules.specs.declared.SideTest.{SideTest}
 use Rattle.rules.proofs.Clamp.{clamp_within, clamp_between}
@@ -24,7 +22,7 @@ use Rattle.hypermath.proofs.Filling.{fill_next}
 
 -- ---- the edge test
 
-pub crossed : (a b : Float) → opposite (side_of a) (side_of b) ≡ true → At (div binary64 a (sub binary64 a b)) ≡ crossing_of a b
+pub crossed : (a b : Float) → opposite (side_of a) (side_of b) ≡ true → Some (div binary64 a (sub binary64 a b)) ≡ crossing_of a b
 unfolding crossing_of
 crossed a b h = sym (if_true (opposite (side_of a) (side_of b)) _ _ h)
 
@@ -32,10 +30,10 @@ pub not_crossed : (a b : Float) → opposite (side_of a) (side_of b) ≡ false �
 unfolding crossing_of
 not_crossed a b h = sym (if_false (opposite (side_of a) (side_of b)) _ _ h)
 
-abbrev pub tested : Crossing → Bool → EdgeTest
+abbrev pub tested : Option Float → Bool → EdgeTest
 tested x w = record { crossing = x; warning = w }
 
-pub tested_is : (a b : Float) (x : Crossing) (s t : SideTest) (w : Bool) → x ≡ crossing_of a b → s ≡ side_test a → t ≡ side_test b → w ≡ (s.warning || t.warning) → tested x w ≡ edge_test a b
+pub tested_is : (a b : Float) (x : Option Float) (s t : SideTest) (w : Bool) → x ≡ crossing_of a b → s ≡ side_test a → t ≡ side_test b → w ≡ (s.warning || t.warning) → tested x w ≡ edge_test a b
 tested_is a b x s t w e p q v = λ j. tested (e j) ((v ∙ (λ i. (p i).warning || (q i).warning)) j)
 
 -- ---- the clamp

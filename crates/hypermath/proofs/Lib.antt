@@ -1,5 +1,6 @@
 pub mod Tests
 pub mod Bits
+pub mod Chains
 pub mod Products
 pub mod Filling
 pub mod Crossings

@@ -1,18 +1,17 @@
 -- Rows of the lent floats, read one by one, and the search over vertices: a row of the lent points matches when all its axes that the dimension uses do, and the code leaves it at the first that does not.
-use Prim.Native.Nat.{ℕ, zero, suc, ◌+◌, ◌*◌, ◌≤◌, ◌<◌}
-use mathlib.Core.Path.{◌≡◌, refl, sym, ap, ap₂, ◌∙◌}
+use Prim.Native.Nat.{ℕ, ◌+◌, ◌*◌, ◌≤◌, ◌<◌}
+use mathlib.Core.Path.{◌≡◌, sym, ap, ap₂, ◌∙◌}
 use mathlib.Core.Bool.{Bool, true, false}
-use mathlib.Core.List.{List, [], ◌∷◌}
-use native.Mathlib.Nat.{le_trans, le_of_eq, le_of_lt, suc-mul, mul-le-mul_right, not-suc-le-zero, le_of_suc-le-suc}
+use mathlib.Core.List.{List}
+use native.Mathlib.Nat.{le_trans, le_of_eq, suc-mul, mul-le-mul_right}
 use native.Mathlib.Omega.{arith}
-use lib.ListN.{length, get_or, set, take, drop, length-drop}
+use lib.ListN.{length, get_or, take, drop, length-drop}
 use lib.Seq.{length-take-le, get_or-take, get_or-drop}
 use lib.Ieee.{Float, nan}
 use Rattle.rules.specs.Lists.{alike}
-use Rattle.rules.specs.Floats.{plus_zero, matches, point_matches}
+use Rattle.rules.specs.Floats.{matches, point_matches}
 use Rattle.rules.proofs.Indexed.{alike_front_go, alike_front_no, alike_front_end}
 use Rattle.hypermath.specs.Axes.{axes, AxesOf}
-use Rattle.hypermath.proofs.Filling.{copied, copy_go, copy_end}
 
 -- a row that the list has room for is whole
 pub part_long : (w k : ℕ) (l : List Float) → k * w + w ≤ length l → length (take w (drop (k * w) l)) ≡ w
@@ -27,29 +26,6 @@ row_long w n k l h i =
 -- an entry of a row, by its place in the slice
 pub row_entry : (w k i : ℕ) (l : List Float) → i < w → get_or (take w (drop (k * w) l)) i nan ≡ get_or l (k * w + i) nan
 row_entry w k i l h = get_or-take w (drop (k * w) l) i nan h ∙ get_or-drop (k * w) l i nan
-
--- what stands at a place in use does not turn on the default
-pub get_d_any : (l : List Float) (i : ℕ) (x y : Float) → i < length l → get_or l i x ≡ get_or l i y
-get_d_any [] i x y h = absurd (not-suc-le-zero h)
-get_d_any (z ∷ l) zero x y h = refl
-get_d_any (z ∷ l) (suc i) x y h = get_d_any l i x y (le_of_suc-le-suc h)
-
--- the row that starts at a place, copied word by word
-pub copy_row : (w k at : ℕ) (l : List Float) {out : List Float} (n i : ℕ) → n ≤ w → k * w + w ≤ length l → at ≡ k * w
-    → out ≡ copied (take w (drop (k * w) l)) n i → i < n → set out i (get_or l (at + i) nan) ≡ copied (take w (drop (k * w) l)) n (i + 1)
-copy_row w k at l {out} n i few fits e c h =
-    ap (λ (x : Float). set out i x) (ap (λ (m : ℕ). get_or l (m + i) nan) e ∙ sym (row_entry w k i l (le_trans h few)))
-    ∙ copy_go (take w (drop (k * w) l)) n (le_trans few (le_of_eq (sym (part_long w k l fits)))) i c h
-
--- a whole row: its first entries and the one behind them
-pub row_is : (w k at : ℕ) (l : List Float) {out : List Float} (n i : ℕ) → n < w → k * w + w ≤ length l → at ≡ k * w
-    → out ≡ copied (take w (drop (k * w) l)) n i → i ≡ n
-    → (out ≡ take n (take w (drop (k * w) l))) × (get_or l (at + n) nan ≡ get_or (take w (drop (k * w) l)) n plus_zero)
-row_is w k at l n i less fits e c h = (
-  copy_end (take w (drop (k * w) l)) n (le_trans (le_of_lt less) (le_of_eq (sym (part_long w k l fits)))) i c h,
-  ap (λ (m : ℕ). get_or l (m + n) nan) e ∙ sym (row_entry w k n l less)
-      ∙ get_d_any (take w (drop (k * w) l)) n nan plus_zero (le_trans less (le_of_eq (sym (part_long w k l fits)))),
-)
 
 module _ (d n : ℕ) (points p : List Float) (used v : ℕ) (A : AxesOf d used) (room : n * axes ≤ length points) (long : length p ≡ axes) (in_use_lem : v < n) where
   row : List Float

@@ -58,12 +58,35 @@ outside_it s v w e l = λ j. told (sym (if_false (within tolerance s) On _ w ∙
 
 -- ---- unit normals
 
--- the four tests of a lent normal, in the order in which they are made
-pub unit_is : (d : ℕ) (normal : List Float) (a b c z : Bool) → all (within one) (take d normal) ≡ a
-    → le (sub binary64 one tolerance) (dot (take d normal) (take d normal)) ≡ b → le (dot (take d normal) (take d normal)) (add binary64 one tolerance) ≡ c
-    → all (same_bits plus_zero) (drop d normal) ≡ z → (a && b && c && z) ≡ unit_normal d normal
-unfolding unit
-unit_is d normal a b c z p q r s = sym (λ i. p i && q i && r i && s i)
+-- what a conjunction is worth: the second part where the first holds, and the first where it fails
+pub joined_then : (a b v : Bool) → a ≡ true → v ≡ b → v ≡ (a && b)
+joined_then true b v h e = e
+joined_then false b v h e = absurd (false≢true h)
+
+pub joined_else : (a b v : Bool) → a ≡ false → v ≡ a → v ≡ (a && b)
+joined_else true b v h e = absurd (true≢false h)
+joined_else false b v h e = e
+
+module _ (d : ℕ) (normal : List Float) where
+  -- a component that does not fit tells at once
+  pub unit_not : all (within one) (take d normal) ≡ false → false ≡ unit_normal d normal
+  unfolding unit
+  unit_not h = sym (λ i. h i && le (sub binary64 one tolerance) (dot (take d normal) (take d normal)) && le (dot (take d normal) (take d normal)) (add binary64 one tolerance)
+      && all (same_bits plus_zero) (drop d normal))
+
+  -- where all fit, v says whether the squares do
+  fit_tests : (s : Float) (v : Bool) → all (within one) (take d normal) ≡ true → s ≡ dot (take d normal) (take d normal) → v ≡ (le (sub binary64 one tolerance) s && le s (add binary64 one tolerance)) → v ≡ unit (take d normal)
+  unfolding unit
+  fit_tests s v h e f = f ∙ (λ i. le (sub binary64 one tolerance) (e i) && le (e i) (add binary64 one tolerance))
+      ∙ sym (λ i. h i && le (sub binary64 one tolerance) (dot (take d normal) (take d normal)) && le (dot (take d normal) (take d normal)) (add binary64 one tolerance))
+
+  pub unit_then : (s : Float) (v r : Bool) → all (within one) (take d normal) ≡ true → s ≡ dot (take d normal) (take d normal)
+      → v ≡ (le (sub binary64 one tolerance) s && le s (add binary64 one tolerance)) → v ≡ true → r ≡ all (same_bits plus_zero) (drop d normal) → r ≡ unit_normal d normal
+  unit_then s v r h e f g z = z ∙ (λ i. (sym g ∙ fit_tests s v h e f) i && all (same_bits plus_zero) (drop d normal))
+
+  pub unit_else : (s : Float) (v : Bool) → all (within one) (take d normal) ≡ true → s ≡ dot (take d normal) (take d normal)
+      → v ≡ (le (sub binary64 one tolerance) s && le s (add binary64 one tolerance)) → v ≡ false → v ≡ unit_normal d normal
+  unit_else s v h e f g = g ∙ (λ i. (sym g ∙ fit_tests s v h e f) i && all (same_bits plus_zero) (drop d normal))
 
 -- ---- distances
 

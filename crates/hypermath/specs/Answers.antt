@@ -1,6 +1,5 @@
 -- What each answer of this crate says, in the words of the rules. Definitions only.
-use Rattle.std.specs.Prelude.{ℕ, ◌+◌, ◌*◌, Bool, true, false, ◌&&◌, ◌≡◌, List, map, get_or, take, drop, ℤ, Float, if◌then◌else◌}
-use Rattle.std.proofs.Math.Option.{Option, none, some}
+use Rattle.std.specs.Prelude.{ℕ, ◌+◌, ◌*◌, Bool, true, false, ◌&&◌, ◌≡◌, List, map, get_or, take, drop, ℤ, Float, if◌then◌else◌, Option, Some, None}
 use Rattle.std.specs.Float.{nan, inf, fin}
 use Rattle.std.specs.Float.Ieee.{is_nan}
 use Rattle.rules.specs.Lists.{all, rows}
@@ -13,10 +12,8 @@ use Rattle.rules.specs.declared.Side.{Side}
 use Rattle.hypermath.specs.Axes.{axes}
 use Rattle.hypermath.specs.declared.DistanceKind.{DistanceKind}
 use Rattle.hypermath.specs.declared.DistanceKind.TheVariants.{Unfit, Finite, PlusInfinity, MinusInfinity}
-use Rattle.hypermath.specs.declared.FoundVertex.{FoundVertex}
-use Rattle.hypermath.specs.declared.FoundVertex.TheVariants.{None as NoVertex, At as AtVertex}
-use Rattle.hypermath.specs.declared.FoundHyperplane.{FoundHyperplane}
-use Rattle.hypermath.specs.declared.FoundHyperplane.TheVariants.{None as NoHyperplane, At as AtHyperplane}
+use Rattle.rules.specs.declared.HyperplaneId.{HyperplaneId}
+use Rattle.rules.specs.declared.VertexId.{VertexId}
 
 -- the signed distance of a lent point from a lent hyperplane, in a space of d dimensions
 abbrev pub distance_to : ℕ → Hyperplane → List Float → Float
@@ -39,13 +36,13 @@ distance_kind (inf true) = MinusInfinity
 distance_kind (fin s m e) = if within farthest_plane (fin s m e) then Finite else Unfit
 
 -- the number that a search of the rules gives
-abbrev pub vertex_number : FoundVertex → Option VertexNumber
-vertex_number NoVertex = none
-vertex_number (AtVertex v) = some v.0
+abbrev pub vertex_number : Option VertexId → Option VertexNumber
+vertex_number None = None
+vertex_number (Some v) = Some v.0
 
-abbrev pub hyperplane_number : FoundHyperplane → Option HyperplaneNumber
-hyperplane_number NoHyperplane = none
-hyperplane_number (AtHyperplane h) = some h.0
+abbrev pub hyperplane_number : Option HyperplaneId → Option HyperplaneNumber
+hyperplane_number None = None
+hyperplane_number (Some h) = Some h.0
 
 -- the points of n rows, as a table of d dimensions has them
 abbrev pub points_in : ℕ → ℕ → List Float → List (List Float)

@@ -7,23 +7,17 @@ ghost use Rattle.rules.specs.Floats as floats;
 pub fn above_both(a: f64, b: f64, x: f64) -> bool
     ensures { result ≡ (lt a x && lt b x) }
 {
-    if a < x {
-        return b < x;
-    }
-    false
+    a < x && b < x
 }
 
 // Whether x is below both ends.
 pub fn below_both(a: f64, b: f64, x: f64) -> bool
     ensures { result ≡ (lt x a && lt x b) }
 {
-    if x < a {
-        return x < b;
-    }
-    false
+    x < a && x < b
 }
 
-// The greater of two ends, of two that are equal the first.
+// The greater of two ends, of two that are equal the first: written out, for f64::max keeps no order of two zeros and drops a NaN.
 pub fn greater(a: f64, b: f64) -> f64
     ensures { result ≡ floats.greater a b }
 {
@@ -33,7 +27,7 @@ pub fn greater(a: f64, b: f64) -> f64
     a
 }
 
-// The lesser of two ends, of two that are equal the first.
+// The lesser of two ends, of two that are equal the first: written out as the greater is.
 pub fn lesser(a: f64, b: f64) -> f64
     ensures { result ≡ floats.lesser a b }
 {

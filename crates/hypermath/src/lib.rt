@@ -15,8 +15,8 @@ ghost use Rattle.hypermath.specs.Axes.{axes, AxesOf};
 ghost use Rattle.hypermath.specs.Answers.{distance_to, unit_normal, distance_kind, vertex_number, hyperplane_number, points_in, planes_in, row_hyperplane, SidesOf, Clamped};
 
 use between::{above_both, below_both, greater, lesser};
-use rules::{Crossing, EdgeTest, Hyperplane, HyperplaneId, Side, SideTest, VertexId};
-use sides::{either, opposed};
+use rules::{EdgeTest, Hyperplane, HyperplaneId, Side, SideTest, VertexId};
+use sides::opposed;
 
 // How many floats a point has.
 const AXES: usize = 4;
@@ -44,38 +44,21 @@ pub enum DistanceKind {
     MinusInfinity,
 }
 
-// The lowest vertex that matches, or none.
-#[derive(Clone, Copy)]
-pub enum FoundVertex {
-    None,
-    At(VertexId),
-}
-
-// The lowest hyperplane that matches, or none.
-#[derive(Clone, Copy)]
-pub enum FoundHyperplane {
-    None,
-    At(HyperplaneId),
-}
-
 // How many axes a dimension uses, of those that there are.
 fn axes_of(d: usize) -> usize
     ensures { AxesOf d result }
 {
-    if d < AXES { d } else { AXES }
+    d.min(AXES)
 }
 
 // Whether x lies from -bound to bound.
 pub fn is_within(bound: f64, x: f64) -> bool
     ensures { result ≡ floats.within bound x }
 {
-    if -bound <= x {
-        return x <= bound;
-    }
-    false
+    -bound <= x && x <= bound
 }
 
-// The products, each rounded, added in axis order.
+// The products, each rounded, added in axis order: a loop, for the order of the sum is the rule.
 pub fn dot(d: usize, a: [f64; 4], b: [f64; 4]) -> f64
     ensures { result ≡ floats.dot (take d a) (take d b) }
 {
@@ -123,12 +106,7 @@ fn components_fit(d: usize, normal: [f64; 4]) -> bool
     ensures { result ≡ all (floats.within floats.one) (take d normal) }
 {
     let n = axes_of(d);
-    for axis in 0..n {
-        if !is_within(1.0, normal[axis]) {
-            return false;
-        }
-    }
-    true
+    normal[..n].iter().all(|&x| is_within(1.0, x))
 }
 
 // Every component past the dimension is zero bits.
@@ -136,12 +114,7 @@ fn zero_past(d: usize, normal: [f64; 4]) -> bool
     ensures { result ≡ all (floats.same_bits floats.plus_zero) (drop d normal) }
 {
     let n = axes_of(d);
-    for axis in n..AXES {
-        if !is_zero_bits(normal[axis]) {
-            return false;
-        }
-    }
-    true
+    normal[n..].iter().all(|&x| is_zero_bits(x))
 }
 
 // Whether a normal is unit over the dimension and zero past it.
@@ -152,13 +125,7 @@ pub fn is_unit(d: usize, normal: [f64; 4]) -> bool
         return false;
     }
     let squares = dot(d, normal, normal);
-    if !(UNIT_LOW <= squares) {
-        return false;
-    }
-    if !(squares <= UNIT_HIGH) {
-        return false;
-    }
-    zero_past(d, normal)
+    UNIT_LOW <= squares && squares <= UNIT_HIGH && zero_past(d, normal)
 }
 
 // What a distance is good for.
@@ -179,14 +146,14 @@ pub fn distance_kind(x: f64) -> DistanceKind
 }
 
 // No crossing, or a crossing with its t, by the two ends' sides.
-fn crossing_of(sa: f64, a: Side, sb: f64, b: Side) -> Crossing
+fn crossing_of(sa: f64, a: Side, sb: f64, b: Side) -> Option<f64>
     requires { SidesOf sa a sb b }
     ensures { result ≡ floats.crossing_of sa sb }
 {
     if opposed(a, b) {
-        return Crossing::At(sa / (sa - sb));
+        return Some(sa / (sa - sb));
     }
-    Crossing::None
+    None
 }
 
 // The crossing of an edge, its lower-numbered end first, and whether an end was a close call.
@@ -202,11 +169,11 @@ pub fn edge_test(d: usize, h: Hyperplane, ends: [[f64; 4]; 2]) -> EdgeTest
     let side_a = first.side;
     let side_b = second.side;
     let crossing = crossing_of(sa, side_a, sb, side_b);
-    let warning = either(first.warning, second.warning);
+    let warning = first.warning || second.warning;
     EdgeTest { crossing, warning }
 }
 
-// x, brought back between the ends a and b.
+// x, brought back between the ends a and b: f64::clamp would keep a NaN.
 pub fn clamp(a: f64, b: f64, x: f64) -> f64
     ensures { Clamped a b x result }
 {
@@ -222,7 +189,7 @@ pub fn clamp(a: f64, b: f64, x: f64) -> f64
     x
 }
 
-// a + (b - a) x t on each axis of the dimension, clamped between the two, and zero past the dimension.
+// a + (b - a) x t on each axis of the dimension, clamped between the two, and zero past the dimension: one index goes through three arrays.
 fn point_between(d: usize, a: [f64; 4], b: [f64; 4], t: f64) -> [f64; 4]
     ensures { result ≡ pad floats.plus_zero axes (floats.crossing_point t (take d a) (take d b)) }
 {
@@ -285,12 +252,10 @@ pub fn points_match(d: usize, earlier: [f64; 4], later: [f64; 4]) -> bool
     ensures { result ≡ floats.point_matches (take d earlier) (take d later) }
 {
     let n = axes_of(d);
-    for axis in 0..n {
-        if !coordinates_match(earlier[axis], later[axis]) {
-            return false;
-        }
-    }
-    true
+    earlier[..n]
+        .iter()
+        .zip(later[..n].iter())
+        .all(|(&a, &b)| coordinates_match(a, b))
 }
 
 // Whether two hyperplanes match, field by field.
@@ -312,17 +277,15 @@ pub fn hyperplane_at(planes: &[f64], k: HyperplaneId) -> Hyperplane
 {
     let at = k.0 * (1 + AXES);
     let mut normal = [0.0; 4];
-    for axis in 0..AXES {
-        normal[axis] = planes[at + axis];
-    }
+    normal.copy_from_slice(&planes[at..at + AXES]);
     Hyperplane {
-        normal: normal,
+        normal,
         distance: planes[at + AXES],
     }
 }
 
-// The lowest of n vertices that matches a point; a vertex is left at its first unlike axis.
-fn search_vertices(d: usize, points: &[f64], n: usize, p: [f64; 4]) -> FoundVertex
+// The lowest of n vertices that matches a point; a vertex is left at its first unlike axis, by a label, as docs/RULES.md says.
+fn search_vertices(d: usize, points: &[f64], n: usize, p: [f64; 4]) -> Option<VertexId>
     requires { n * axes ≤ length points.now }
     ensures { vertex_number result ≡ find (λ q. floats.point_matches q (take d p)) (points_in d n points.now) }
 {
@@ -330,7 +293,7 @@ fn search_vertices(d: usize, points: &[f64], n: usize, p: [f64; 4]) -> FoundVert
     let mut v = 0;
     let found = 'vertices: loop {
         if v == n {
-            break FoundVertex::None;
+            break None;
         }
         for axis in 0..used {
             if !coordinates_match(points[v * AXES + axis], p[axis]) {
@@ -338,13 +301,13 @@ fn search_vertices(d: usize, points: &[f64], n: usize, p: [f64; 4]) -> FoundVert
                 continue 'vertices;
             }
         }
-        break FoundVertex::At(VertexId(v));
+        break Some(VertexId(v));
     };
     found
 }
 
 // The same; with the dimension as a number a vertex's axes are compared with no loop.
-pub fn find_vertex(d: usize, points: &[f64], n: usize, p: [f64; 4]) -> FoundVertex
+pub fn find_vertex(d: usize, points: &[f64], n: usize, p: [f64; 4]) -> Option<VertexId>
     requires { n * axes ≤ length points.now }
     ensures { vertex_number result ≡ find (λ q. floats.point_matches q (take d p)) (points_in d n points.now) }
 {
@@ -364,17 +327,15 @@ pub fn find_hyperplane(
     first: HyperplaneId,
     n: usize,
     h: Hyperplane,
-) -> FoundHyperplane
+) -> Option<HyperplaneId>
     requires { n * (1 + axes) ≤ length planes.now }
     ensures { hyperplane_number result ≡ find_from first.0 (λ g. plane_matches g (divider_of d h)) (drop first.0 (planes_in d n planes.now)) }
 {
-    let mut k = first.0;
-    while k < n {
+    for k in first.0..n {
         let g = hyperplane_at(planes, HyperplaneId(k));
         if hyperplanes_match(d, g, h) {
-            return FoundHyperplane::At(HyperplaneId(k));
+            return Some(HyperplaneId(k));
         }
-        k += 1;
     }
-    FoundHyperplane::None
+    None
 }

@@ -1,35 +1,17 @@
--- A part of a list of floats, none of them a NaN, put entry by entry: the first of those that are left, and the others.
-use Prim.Native.Nat.{ℕ, suc, ◌+◌, ◌≤◌, ◌<◌}
-use mathlib.Core.Bool.{Bool, true, false, not}
-use mathlib.Core.List.{List, ◌∷◌, map}
-use mathlib.Core.Path.{◌≡◌, sym, ap, ◌∙◌}
-use native.Mathlib.Omega.{arith}
-use lib.ListN.{length, get_or, take, drop}
-use lib.Seq.{slice-cons}
-use lib.Ieee.{Float, nan, is_nan}
-use Rattle.rules.specs.Lists.{all, joined}
+-- A part of a list of floats, none of them a NaN: each of them is no NaN.
+use Rattle.std.proofs.Common.{ℕ, zero, suc, ◌-◌, ◌≤◌, ◌≡◌, sym, ap, ◌∙◌, Bool, true, false, not, List, [], ◌∷◌, take, drop, All, arith}
+use lib.Ieee.{Float, is_nan}
+use Rattle.rules.specs.Lists.{all}
 use Rattle.rules.proofs.Laws.{not_true, and_left, and_right}
-use Rattle.lent_bytes.proofs.Rests.{Rest}
+use Rattle.lent_bytes.proofs.Fronts.{part_is}
 
 abbrev is_number : Float → Bool
 is_number x = not (is_nan x)
 
--- the first of those that are left, and the others
-module _ (list : List Float) (i to : ℕ) (h : i < to) (k : to ≤ length list) (n : all is_number (drop i (take to list)) ≡ true) where
-  parted : all is_number (get_or list i nan ∷ drop (suc i) (take to list)) ≡ true
-  parted = sym (ap (all is_number) (slice-cons i to list nan h k)) ∙ n
+each_is : (xs : List Float) → all is_number xs ≡ true → All (λ x. is_nan x ≡ false) xs
+each_is [] h k d l = absurd (omega (arith, l))
+each_is (x ∷ xs) h zero d l = not_true (is_nan x) (and_left (is_number x) (all is_number xs) h)
+each_is (x ∷ xs) h (suc k) d l = each_is xs (and_right (is_number x) (all is_number xs) h) k d (omega (arith, l))
 
-  pub first_is : is_nan (get_or list i nan) ≡ false
-  first_is = not_true (is_nan (get_or list i nan)) (and_left (is_number (get_or list i nan)) (all is_number (drop (suc i) (take to list))) parted)
-
-  pub others_are : all is_number (drop (i + 1) (take to list)) ≡ true
-  others_are =
-      ap (λ (j : ℕ). all is_number (drop j (take to list))) (let q : i + 1 ≡ suc i = omega arith in q)
-      ∙ and_right (is_number (get_or list i nan)) (all is_number (drop (suc i) (take to list))) parted
-
--- where a loop stands, by the bytes of an entry
-pub record SoFar (f : Float → List ℕ) (list : List Float) (from to : ℕ) (before : List ℕ) (at : ℕ) (room : List ℕ) (end i : ℕ) : Type 0 where
-  pub within : i ≤ to
-  pub numbers : all is_number (drop i (take to list)) ≡ true
-  pub long : length room ≡ length before
-  pub rest : Rest before at (joined (map f (drop from (take to list)))) room end (joined (map f (drop i (take to list))))
+pub part_numbers : (list : List Float) (from to : ℕ) → from ≤ to → all is_number (drop from (take to list)) ≡ true → All (λ x. is_nan x ≡ false) (take (to - from) (drop from list))
+part_numbers list from to h n = each_is _ (sym (ap (all is_number) (part_is from to list h)) ∙ n)

@@ -29,3 +29,7 @@ float_front at n bs h = ap (of_bits binary64) (number_front 8 at n bs h)
 pub floats_front : (d at n : ℕ) (bs : List ℕ) → at + 8 * d ≤ n → floats_at d at (take n bs) ≡ floats_at d at bs
 floats_front zero at n bs h = refl
 floats_front (suc d) at n bs h = ap₂ (λ (x : Float) (xs : List Float). x ∷ xs) (float_front at n bs (omega (arith, h))) (floats_front d (8 + at) n bs (omega (arith, h)))
+
+-- and by both its ends
+pub part_is : {A : Type 0} (from to : ℕ) (xs : List A) → from ≤ to → drop from (take to xs) ≡ take (to - from) (drop from xs)
+part_is from to xs h = ap (λ (n : ℕ). drop from (take n xs)) (let q : to ≡ from + (to - from) = omega (arith, h) in q) ∙ drop_front from (to - from) xs

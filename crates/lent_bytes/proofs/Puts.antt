@@ -1,10 +1,12 @@
 -- What was put, and more behind it, is one thing put.
-use Prim.Native.Nat.{ℕ, suc, ◌+◌}
-use mathlib.Core.List.{List, [], ◌∷◌, ◌++◌}
-use mathlib.Core.Path.{◌≡◌, refl, ap, ap₂, ◌∙◌}
+use Prim.Native.Nat.{ℕ, suc, ◌+◌, ◌≤◌}
+use mathlib.Core.List.{List, [], ◌∷◌, ◌++◌, append-nil, append_assoc}
+use mathlib.Core.Path.{◌≡◌, refl, sym, ap, ap₂, ◌∙◌}
 use native.Mathlib.Omega.{arith}
-use lib.ListN.{length, set, length-append}
-use lib.Seq.{sets, length-sets}
+use lib.ListN.{length, set, take, drop, length-append, drop_of_length-le}
+use lib.Seq.{sets, length-sets, drop-drop}
+use Rattle.std.proofs.lemmas.List.Edits.{sets-eq}
+use borrow.Rule.Slice.PartMut.{put_mid}
 use Rattle.lent_bytes.specs.Lent.{Put}
 
 pub sets_on : (room : List ℕ) (at : ℕ) (xs ys : List ℕ) → sets (sets room at xs) (at + length xs) ys ≡ sets room at (xs ++ ys)
@@ -28,3 +30,21 @@ put_length {room} {after} {at} {end} {xs} p = ap length p.room ∙ length-sets r
 -- the same bytes by another word for them
 pub put_as : {room after : List ℕ} {at end : ℕ} {xs ys : List ℕ} → xs ≡ ys → Put room at xs end after → Put room at ys end after
 put_as {room} {after} {at} {end} e p = record { place = p.place ∙ ap (λ (zs : List ℕ). at + length zs) e; room = p.room ∙ ap (sets room at) e }
+
+-- a part of k bytes of the room, all of them written
+pub put_part : (room part bytes : List ℕ) (at k n : ℕ) → at + k ≤ length room → length bytes ≡ k → n ≡ k → part ≡ bytes → Put room at bytes (at + k) (put_mid at n room part)
+put_part room part bytes at k n h l m e = record {
+  place = omega (arith, l);
+  room =
+      ap (put_mid at n room) e
+      ∙ ap (λ (xs : List ℕ). take at room ++ (bytes ++ xs)) (drop-drop n at room ∙ ap (λ (j : ℕ). drop j room) (let q : at + n ≡ at + length bytes = omega (arith, l, m) in q))
+      ∙ sym (sets-eq bytes room at (omega (arith, h, l)) ∙ append_assoc (take at room) bytes (drop (at + length bytes) room));
+}
+
+-- and the part, written from its front on
+pub whole_part : {part after bytes : List ℕ} {end : ℕ} → length part ≡ length bytes → Put part 0 bytes end after → after ≡ bytes
+whole_part {part} {after} {bytes} {end} n p =
+    p.room
+    ∙ sets-eq bytes part 0 (omega (arith, n))
+    ∙ ap (λ (xs : List ℕ). bytes ++ xs) (drop_of_length-le part {i = 0 + length bytes} (omega (arith, n)))
+    ∙ append-nil bytes

@@ -5,38 +5,15 @@ ghost use Rattle.lent_bytes.specs.Lent.{ReadAt};
 
 use hypermath::patterns::float_of;
 
-pub fn one(bytes: &[u8], at: usize) -> u64
-    requires { at + 1 ≤ length bytes.now }
-    ensures { ReadAt 1 at bytes.now result }
+// The number in K bytes.
+pub fn number<const K: usize>(bytes: &[u8], at: usize) -> u64
+    requires fits_word { K ≤ 8 }
+    requires within { at + K ≤ length bytes.now }
+    ensures { ReadAt K at bytes.now result }
 {
-    bytes[at] as u64
-}
-
-pub fn two(bytes: &[u8], at: usize) -> u64
-    requires { at + 2 ≤ length bytes.now }
-    ensures { ReadAt 2 at bytes.now result }
-{
-    let low = one(bytes, at);
-    let high = one(bytes, at + 1);
-    low + 0x100 * high
-}
-
-pub fn four(bytes: &[u8], at: usize) -> u64
-    requires { at + 4 ≤ length bytes.now }
-    ensures { ReadAt 4 at bytes.now result }
-{
-    let low = two(bytes, at);
-    let high = two(bytes, at + 2);
-    low + 0x1_0000 * high
-}
-
-pub fn eight(bytes: &[u8], at: usize) -> u64
-    requires { at + 8 ≤ length bytes.now }
-    ensures { ReadAt 8 at bytes.now result }
-{
-    let low = four(bytes, at);
-    let high = four(bytes, at + 4);
-    low + 0x1_0000_0000 * high
+    let mut word = [0u8; 8];
+    word[..K].copy_from_slice(&bytes[at..at + K]);
+    u64::from_le_bytes(word)
 }
 
 // Of every NaN's bits, the one NaN.
@@ -44,5 +21,5 @@ pub fn float(bytes: &[u8], at: usize) -> f64
     requires { at + 8 ≤ length bytes.now }
     ensures { result ≡ float_at at bytes.now }
 {
-    float_of(eight(bytes, at))
+    float_of(number::<8>(bytes, at))
 }

@@ -6,6 +6,8 @@ mod print;
 
 use elements::questions;
 use rules::{CutParams, ElementId, Hyperplane, PolytopeFate};
+use space::memory::Memory;
+use space::words::{COUNTS, ELEMENT_WORDS, PLANE_FLOATS, POINT_FLOATS};
 use std::io;
 
 // 2^-20, and the next float above it.
@@ -27,18 +29,7 @@ fn slanted() -> Hyperplane {
     }
 }
 
-// A cube of radius 1 in the memory, and its counts.
-fn start(
-    dimension: u64,
-    counts: &mut [u16],
-    points: &mut [f64],
-    planes: &mut [f64],
-    elements: &mut [u16],
-) {
-    cube::with_primordial_cube_radius(dimension, 1.0, counts, points, planes, elements);
-}
-
-// What an example cuts: a cube of so many dimensions, by a divider, at a root.
+// What an example cuts: a cube of so many dimensions, at a root.
 #[derive(Clone, Copy)]
 struct Given {
     dimension: u64,
@@ -53,83 +44,95 @@ fn cut_of(
     outside: PolytopeFate,
     root: usize,
 ) -> Given {
-    let params = CutParams {
-        divider,
-        inside,
-        outside,
-    };
     Given {
         dimension,
-        params,
+        params: CutParams {
+            divider,
+            inside,
+            outside,
+        },
         root,
     }
 }
 
-// A cut of the table at hand, and the counts after it.
-fn cut_line(
-    rt: &HostRuntime,
-    g: Given,
-    counts: &mut [u16],
-    points: &mut [f64],
-    planes: &mut [f64],
-    elements: &mut [u16],
-) -> io::Result<()> {
-    let params = g.params;
-    let root = ElementId(g.root);
-    print::reply(rt, cut::cut(counts, points, planes, elements, params, root))?;
-    print::counts(rt, counts)
+// The memory of a table.
+#[derive(Drop)]
+struct Table {
+    counts: [u16; COUNTS],
+    points: [f64; POINT_FLOATS],
+    planes: [f64; PLANE_FLOATS],
+    elements: [u16; ELEMENT_WORDS],
 }
 
-// A cut of a new cube.
-fn example(
-    rt: &HostRuntime,
-    name: &[u8],
-    g: Given,
-    counts: &mut [u16],
-    points: &mut [f64],
-    planes: &mut [f64],
-    elements: &mut [u16],
-) -> io::Result<()> {
-    start(g.dimension, counts, points, planes, elements);
-    print::text(rt, name)?;
-    cut_line(rt, g, counts, points, planes, elements)
-}
+impl Table {
+    fn new() -> Self {
+        Table {
+            counts: [0; COUNTS],
+            points: [0.0; POINT_FLOATS],
+            planes: [0.0; PLANE_FLOATS],
+            elements: [0; ELEMENT_WORDS],
+        }
+    }
 
-// M9: the greatest common sub-elements of some roots of the table at hand.
-fn common_line(
-    rt: &HostRuntime,
-    roots: &[u16],
-    counts: &[u16],
-    points: &[f64],
-    planes: &[f64],
-    elements: &[u16],
-) -> io::Result<()> {
-    let mut list = [0u16; 8];
-    print::text(rt, b"M9")?;
-    print::list_reply(
-        rt,
-        questions::greatest_common_subelements(counts, points, planes, elements, roots, &mut list),
-        &list,
-    )
-}
+    // What is lent to a question.
+    fn memory(&self) -> Memory<'_> {
+        Memory {
+            counts: &self.counts,
+            points: &self.points,
+            planes: &self.planes,
+            elements: &self.elements,
+        }
+    }
 
-// M10: the edges of an element of the table at hand, in order.
-fn walk_line(
-    rt: &HostRuntime,
-    root: usize,
-    counts: &[u16],
-    points: &[f64],
-    planes: &[f64],
-    elements: &[u16],
-) -> io::Result<()> {
-    let mut list = [0u16; 8];
-    let root = ElementId(root);
-    print::text(rt, b"M10")?;
-    print::list_reply(
-        rt,
-        walk::edges_in_order(counts, points, planes, elements, root, &mut list),
-        &list,
-    )
+    // A cube of radius 1, in place of what there was.
+    fn start(&mut self, dimension: u64) {
+        let Table {
+            counts,
+            points,
+            planes,
+            elements,
+        } = self;
+        let _ = cube::with_primordial_cube_radius(dimension, 1.0, counts, points, planes, elements);
+    }
+
+    // A cut of the table at hand, and the counts after it.
+    fn cut_line(&mut self, rt: &HostRuntime, given: &Given) -> io::Result<()> {
+        let Table {
+            counts,
+            points,
+            planes,
+            elements,
+        } = self;
+        let root = ElementId(given.root);
+        print::reply(
+            rt,
+            cut::cut(counts, points, planes, elements, given.params, root),
+        )?;
+        print::counts(rt, self.counts)
+    }
+
+    // A cut of a new cube.
+    fn example(&mut self, rt: &HostRuntime, name: &str, given: &Given) -> io::Result<()> {
+        self.start(given.dimension);
+        print!(rt; "{name} ")?;
+        self.cut_line(rt, given)
+    }
+
+    // M9: the greatest common sub-elements of some roots of the table at hand.
+    fn common_line(&self, rt: &HostRuntime, roots: &[u16]) -> io::Result<()> {
+        let mut list = [0u16; 8];
+        let reply = questions::greatest_common_subelements(self.memory(), roots, &mut list);
+        print::text(rt, b"M9")?;
+        print::list_reply(rt, reply, &list)
+    }
+
+    // M10: the edges of an element of the table at hand, in order.
+    fn walk_line(&self, rt: &HostRuntime, root: usize) -> io::Result<()> {
+        let mut list = [0u16; 8];
+        let reply = walk::edges_in_order(self.memory(), ElementId(root), &mut list);
+        print::text(rt, b"M10")?;
+        print::list_reply(rt, reply, &list)
+    }
 }
 
 // M11: where On ends.
@@ -144,35 +147,30 @@ fn sides(rt: &HostRuntime) -> io::Result<()> {
 fn main(rt: HostRuntime) -> io::Result<()> {
     let keep = PolytopeFate::Keep;
     let remove = PolytopeFate::Remove;
-    let mut c = [0u16; 4];
-    let mut p = [0.0; 1024];
-    let mut h = [0.0; 320];
-    let mut e = [0u16; 18432];
-    start(2, &mut c, &mut p, &mut h, &mut e);
+    let session = cut_of(2, at_x(0.0), keep, keep, 8);
+    let examples = [
+        ("M1", cut_of(2, at_x(0.0), keep, keep, 8)),
+        ("M2", cut_of(2, at_x(0.0), remove, remove, 8)),
+        ("M3", cut_of(2, at_x(1.0), keep, remove, 8)),
+        ("M4", cut_of(2, at_x(1.0 / 0.0), remove, remove, 8)),
+        ("M5", cut_of(2, at_x(0.0), remove, keep, 0)),
+        ("M6", cut_of(2, at_x(1.0), keep, keep, 7)),
+        ("M7", cut_of(2, slanted(), keep, keep, 8)),
+        ("M8", cut_of(1, at_x(0.0), keep, keep, 2)),
+    ];
+    let mut table = Table::new();
+    table.start(2);
     print::text(&rt, b"cube")?;
-    print::counts(&rt, &c)?;
-    let m1 = cut_of(2, at_x(0.0), keep, keep, 8);
-    cut_line(&rt, m1, &mut c, &mut p, &mut h, &mut e)?;
-    cut_line(&rt, m1, &mut c, &mut p, &mut h, &mut e)?;
-    example(&rt, b"M1 ", m1, &mut c, &mut p, &mut h, &mut e)?;
-    let m2 = cut_of(2, at_x(0.0), remove, remove, 8);
-    example(&rt, b"M2 ", m2, &mut c, &mut p, &mut h, &mut e)?;
-    let m3 = cut_of(2, at_x(1.0), keep, remove, 8);
-    example(&rt, b"M3 ", m3, &mut c, &mut p, &mut h, &mut e)?;
-    let m4 = cut_of(2, at_x(1.0 / 0.0), remove, remove, 8);
-    example(&rt, b"M4 ", m4, &mut c, &mut p, &mut h, &mut e)?;
-    let m5 = cut_of(2, at_x(0.0), remove, keep, 0);
-    example(&rt, b"M5 ", m5, &mut c, &mut p, &mut h, &mut e)?;
-    let m6 = cut_of(2, at_x(1.0), keep, keep, 7);
-    example(&rt, b"M6 ", m6, &mut c, &mut p, &mut h, &mut e)?;
-    let m7 = cut_of(2, slanted(), keep, keep, 8);
-    example(&rt, b"M7 ", m7, &mut c, &mut p, &mut h, &mut e)?;
-    let m8 = cut_of(1, at_x(0.0), keep, keep, 2);
-    example(&rt, b"M8 ", m8, &mut c, &mut p, &mut h, &mut e)?;
-    start(2, &mut c, &mut p, &mut h, &mut e);
-    common_line(&rt, &[2, 6], &c, &p, &h, &e)?;
-    common_line(&rt, &[8], &c, &p, &h, &e)?;
-    common_line(&rt, &[0], &c, &p, &h, &e)?;
-    walk_line(&rt, 8, &c, &p, &h, &e)?;
+    print::counts(&rt, table.counts)?;
+    table.cut_line(&rt, &session)?;
+    table.cut_line(&rt, &session)?;
+    for (name, given) in &examples {
+        table.example(&rt, name, given)?;
+    }
+    table.start(2);
+    table.common_line(&rt, &[2, 6])?;
+    table.common_line(&rt, &[8])?;
+    table.common_line(&rt, &[0])?;
+    table.walk_line(&rt, 8)?;
     sides(&rt)
 }

@@ -1,8 +1,8 @@
 // Words of a line, as the session program has them.
 ghost use Rattle.std.specs.Prelude.{◌≤◌, length};
 
-use rules::{CutReply, ElementCutOutput, ElementOrNone, ListReply, Side, SideTest};
-use space::words::wide;
+use rules::{ElementAnswer, ElementCutOutput, ElementId, Refusal, Reply, Side, SideTest};
+use space::words::COUNTS;
 use std::io::{self, Write};
 
 pub fn text(rt: &HostRuntime, words: &[u8]) -> io::Result<()> {
@@ -10,9 +10,7 @@ pub fn text(rt: &HostRuntime, words: &[u8]) -> io::Result<()> {
 }
 
 pub fn number(rt: &HostRuntime, n: u64) -> io::Result<()> {
-    text(rt, b" ")?;
-    print!(rt; "{}", n)?;
-    Ok(())
+    print!(rt; " {n}")
 }
 
 pub fn line_end(rt: &HostRuntime) -> io::Result<()> {
@@ -20,19 +18,15 @@ pub fn line_end(rt: &HostRuntime) -> io::Result<()> {
 }
 
 // How many elements, vertices and hyperplanes are in use.
-pub fn counts(rt: &HostRuntime, words: &[u16]) -> io::Result<()> {
-    if words.len() == 4 {
-        number(rt, wide(words[1]) as u64)?;
-        number(rt, wide(words[2]) as u64)?;
-        number(rt, wide(words[3]) as u64)?;
-    }
-    line_end(rt)
+pub fn counts(rt: &HostRuntime, counts: [u16; COUNTS]) -> io::Result<()> {
+    let [_, elements, vertices, planes] = counts;
+    println!(rt; " {elements} {vertices} {planes}")
 }
 
-fn element(rt: &HostRuntime, e: ElementOrNone) -> io::Result<()> {
+fn element(rt: &HostRuntime, e: Option<ElementId>) -> io::Result<()> {
     match e {
-        ElementOrNone::None => text(rt, b" -")?,
-        ElementOrNone::Some(id) => number(rt, id.0 as u64)?,
+        None => text(rt, b" -")?,
+        Some(id) => number(rt, id.0 as u64)?,
     }
     Ok(())
 }
@@ -54,15 +48,17 @@ fn output(rt: &HostRuntime, a: ElementCutOutput) -> io::Result<()> {
     Ok(())
 }
 
-pub fn reply(rt: &HostRuntime, r: CutReply) -> io::Result<()> {
+fn refused(rt: &HostRuntime, refusal: Refusal) -> io::Result<()> {
+    text(rt, b"refused")?;
+    number(rt, u64::from(u8::from(refusal)))
+}
+
+pub fn reply(rt: &HostRuntime, r: Reply<ElementAnswer>) -> io::Result<()> {
     match r {
-        CutReply::Refused(no) => {
-            text(rt, b"refused")?;
-            number(rt, no as u64)?;
-        }
-        CutReply::Answered { output: a, warning } => {
-            output(rt, a)?;
-            if warning {
+        Err(refusal) => refused(rt, refusal)?,
+        Ok(answer) => {
+            output(rt, answer.output)?;
+            if answer.warning {
                 text(rt, b" close")?;
             }
         }
@@ -84,20 +80,20 @@ pub fn side(rt: &HostRuntime, t: SideTest) -> io::Result<()> {
 fn list(rt: &HostRuntime, words: &[u16], n: usize) -> io::Result<()>
     requires { n ≤ length words.now }
 {
-    for i in 0..n {
-        number(rt, wide(words[i]) as u64)?;
+    for word in &words[..n] {
+        number(rt, u64::from(*word))?;
     }
     Ok(())
 }
 
 // The numbers that a question gave.
-pub fn list_reply(rt: &HostRuntime, r: ListReply, words: &[u16]) -> io::Result<()> {
+pub fn list_reply(rt: &HostRuntime, r: Reply<usize>, words: &[u16]) -> io::Result<()> {
     match r {
-        ListReply::Refused(no) => {
-            text(rt, b" refused")?;
-            number(rt, no as u64)?;
+        Err(refusal) => {
+            text(rt, b" ")?;
+            refused(rt, refusal)?;
         }
-        ListReply::Listed(n) => {
+        Ok(n) => {
             if n <= words.len() {
                 list(rt, words, n)?;
             }

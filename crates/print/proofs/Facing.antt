@@ -3,16 +3,13 @@ use Prim.Native.Nat.{ℕ, zero, suc, ◌+◌, ◌*◌, ◌-◌, ◌≤◌, ◌<�
 use mathlib.Core.Path.{◌≡◌, refl, sym, ap, ◌∙◌, subst}
 use mathlib.Core.List.{List, [], ◌∷◌, ◌++◌, map}
 use native.Mathlib.Omega.{arith}
-use lib.Dec.{leb}
 use lib.ListN.{length, get_or, drop, replicate, length-append}
 use lib.Ieee.{Float}
+use lib.Seq.{sets, sets-eq}
+use Rattle.std.proofs.Common.{zero-add}
 use Rattle.rules.specs.Lists.{joined}
 use Rattle.rules.specs.Held.{AllOf}
-use Rattle.rules.specs.Questions.{answer}
-use Rattle.rules.specs.Replies.{listed}
 use Rattle.rules.specs.Print.{triangle_bytes, total_of}
-use Rattle.rules.specs.declared.ListReply.{ListReply}
-use Rattle.rules.proofs.Laws.{if_true, test_le}
 use Rattle.lent_bytes.specs.Lent.{Put}
 use Rattle.lent_bytes.proofs.Rests.{Rest, less_left, none_left, left_as}
 use Rattle.space.specs.Ready.{ElementReady}
@@ -36,7 +33,7 @@ module _ (es : List ℕ) (f : ℕ) (W : FaceWalks es f) where
   unfolding words_in_order
   walk_long = let xs = row_boundary es f in two_each (length xs) es xs (lowest_end es no_edge xs) (first_way es (lowest_end es no_edge xs) xs)
 
-  module _ (n : ℕ) (q : n ≡ get_or es (f * 36 + 3) 0) (r : ListReply) (out : List ℕ) (e : (r, out) ≡ listed (answer (walk_in es f)) (replicate 64 0)) where
+  module _ (n : ℕ) (q : n ≡ get_or es (f * 36 + 3) 0) (out : List ℕ) (e : out ≡ sets (replicate 64 0) 0 (walk_in es f)) where
     pub edges_are : edges_in es f ≡ n
     edges_are = row_size es f n W.face.bounds q
 
@@ -44,8 +41,8 @@ module _ (es : List ℕ) (f : ℕ) (W : FaceWalks es f) where
     written =
         let l = walk_long in
         let m = W.walk.few in
-        ap (λ (x : ListReply × List ℕ). x.1) e
-        ∙ ap (λ (x : ListReply × List ℕ). x.1) (if_true (leb (length (walk_in es f)) 64) _ _ (test_le (length (walk_in es f)) 64 (omega (arith, l, m))))
+        e ∙ sets-eq (walk_in es f) (replicate 64 0) 0 (omega (arith, l, m))
+        ∙ ap (λ (k : ℕ). walk_in es f ++ drop k (replicate 64 0)) (zero-add (length (walk_in es f)))
 
     same_at : (k : ℕ) → k < 2 * n → get_or out k 0 ≡ get_or (walk_in es f) k 0
     same_at k h =

@@ -6,17 +6,18 @@ mod triangles;
 ghost use Rattle.std.specs.Prelude.{map, ◌≡◌};
 ghost use Rattle.rules.specs.Limits.{desk};
 ghost use Rattle.rules.specs.Lists.{joined};
-ghost use Rattle.rules.specs.Held.{memory_of};
 ghost use Rattle.rules.specs.Questions.{answer};
 ghost use Rattle.rules.specs.Replies.{listed};
 ghost use Rattle.rules.specs.Print.{print_reply};
+ghost use Rattle.space.specs.Lent.{lent};
 ghost use Rattle.space.specs.Numbers.{NumberBelow};
 ghost use Rattle.lent_bytes.specs.Lent.{Put};
 ghost use Rattle.walk.specs.Boundaries.{row_boundary};
 ghost use Rattle.print.specs.Pieces.{face_in, count_in, file_in, FacesReady, SolidReady, PieceReady};
 
 use lent_bytes::write;
-use rules::{ElementId, FacetReply, ListReply};
+use rules::{ElementId, Refusal, Reply};
+use space::memory::Memory;
 use space::rows;
 use space::words::wide;
 use triangles::face;
@@ -43,7 +44,7 @@ fn triangle_count(elements: &[u16], root: ElementId) -> usize
     count
 }
 
-// The triangles of all faces, which rise.
+// The triangles of all faces, which rise. They are counted: a slice of them would be one more public function, and no shorter.
 fn faces(points: &[f64], elements: &[u16], root: ElementId, room: &mut [u8], at: usize) -> usize
     requires { PieceReady points.now elements.now root.0 room.old at }
     ensures { Put room.old at (joined (map (face_in points.now elements.now) (row_boundary elements.now root.0))) result room.new }
@@ -58,41 +59,30 @@ fn faces(points: &[f64], elements: &[u16], root: ElementId, room: &mut [u8], at:
 }
 
 // 12, and only then is the file written.
-fn solid(points: &[f64], elements: &[u16], root: ElementId, file: &mut [u8]) -> ListReply
+fn solid(points: &[f64], elements: &[u16], root: ElementId, file: &mut [u8]) -> Reply<usize>
     requires { SolidReady points.now elements.now root.0 }
     ensures { (result, file.new) ≡ listed (answer (file_in points.now elements.now root.0)) file.old }
 {
     let n = triangle_count(elements, root);
     if file.len() < HEAD + TRIANGLE * n {
-        return ListReply::Refused(12);
+        return Err(Refusal::RoomShort);
     }
     let counted = write::number(HEADER, 0, file, 0);
     let start = write::number(4, n as u64, file, counted);
     let end = faces(points, elements, root, file, start);
-    ListReply::Listed(end)
+    Ok(end)
 }
 
 // The print file of a piece at the front of the room.
-pub fn stl(
-    counts: &[u16],
-    points: &[f64],
-    planes: &[f64],
-    elements: &[u16],
-    root: ElementId,
-    file: &mut [u8],
-) -> ListReply
-    ensures { (result, file.new) ≡ print_reply desk (memory_of counts.now points.now planes.now elements.now) root.0 file.old }
+pub fn stl(memory: Memory, root: ElementId, file: &mut [u8]) -> Reply<usize>
+    ensures { (result, file.new) ≡ print_reply desk (lent memory.entry) root.0 file.old }
 {
-    match has_primordial_facet(counts, points, planes, elements, root) {
-        FacetReply::Refused(n) => ListReply::Refused(n),
-        FacetReply::Has(primordial) => {
-            if wide(counts[0]) != 3 {
-                return ListReply::Refused(6);
-            }
-            if primordial {
-                return ListReply::Refused(16);
-            }
-            solid(points, elements, root, file)
-        }
+    let primordial = has_primordial_facet(memory, root)?;
+    if wide(memory.counts[0]) != 3 {
+        return Err(Refusal::Rank);
     }
+    if primordial {
+        return Err(Refusal::PrimordialFacet);
+    }
+    solid(memory.points, memory.elements, root, file)
 }

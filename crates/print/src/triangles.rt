@@ -9,7 +9,7 @@ use lent_bytes::write;
 use rules::{ElementId, VertexId};
 use space::rows;
 use space::words::{AXES, BOUNDARY, wide};
-use walk::face_in_order;
+use walk::walk_face;
 
 // A walk has two numbers for each edge of a face.
 const WALK: usize = 2 * BOUNDARY;
@@ -48,6 +48,7 @@ fn fan(points: &[f64], list: &[u16; WALK], n: usize, room: &mut [u8], at: usize)
 {
     let first = VertexId(wide(list[0]));
     let mut end = at;
+    // The edge is counted, since its two places in the list are twice its number.
     for k in 1..n - 1 {
         let from = VertexId(wide(list[2 * k]));
         let to = VertexId(wide(list[2 * k + 1]));
@@ -62,6 +63,6 @@ pub fn face(points: &[f64], elements: &[u16], f: ElementId, room: &mut [u8], at:
 {
     let mut list = [0u16; WALK];
     let n = rows::size_of(elements, f);
-    face_in_order(elements, f, &mut list);
+    walk_face(elements, f, &mut list);
     fan(points, &list, n, room, at)
 }

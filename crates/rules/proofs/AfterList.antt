@@ -1,5 +1,5 @@
 -- What each single cut keeps of the memory, a list of cuts keeps: a refused list leaves it, and each cut of one that is made goes on from the cut before it.
-use Rattle.std.specs.Prelude.{if◌then◌else◌}
+use Rattle.std.specs.Prelude.{if◌then◌else◌, Err, Ok}
 use Prim.Native.Nat.{ℕ, suc}
 use mathlib.Core.Bool.{Bool, true, false, not}
 use mathlib.Core.List.{List, [], ◌∷◌}
@@ -11,10 +11,11 @@ use Rattle.rules.specs.Memory.{Memory, sound_memory}
 use Rattle.rules.specs.Replies.{output_word, cut_reply}
 use Rattle.rules.specs.CutLists.{CutList, list_fits, ListedCut, cuts_of, going_on, cuts_from, cut_list_reply}
 use Rattle.rules.specs.declared.CutParams.{CutParams}
-use Rattle.rules.specs.declared.CutReply.{CutReply}
-use Rattle.rules.specs.declared.CutReply.TheVariants as one
 use Rattle.rules.specs.declared.CutListReply.{CutListReply}
 use Rattle.rules.specs.declared.CutListReply.TheVariants.{Refused}
+use Rattle.rules.specs.Refusals.{Reply}
+use Rattle.rules.specs.declared.ElementAnswer.{ElementAnswer}
+use Rattle.rules.specs.declared.Refusal.TheVariants.{ListLong, NotSound, RoomShort}
 
 -- a list's reply, the room for answers after it, and the memory
 abbrev pub Result : Type 0
@@ -24,7 +25,7 @@ Result = CutListReply × List ℕ × Memory
 
 module _ (L : Limits) (l : CutList) (room : List ℕ) (m : Memory) where
   abbrev pub list_by : Bool → Bool → Bool → Result
-  list_by s f k = if not s then (Refused 3, room, m) else if not f then (Refused 26, room, m) else if k then (Refused 12, room, m) else cuts_from L (cuts_of L l) 0 room m
+  list_by s f k = if not s then (Refused NotSound, room, m) else if not f then (Refused ListLong, room, m) else if k then (Refused RoomShort, room, m) else cuts_from L (cuts_of L l) 0 room m
 
   pub list_by_lem : cut_list_reply L l room m ≡ list_by (sound_memory L m) (list_fits L l) (ltb (length room) (length l.roots))
   unfolding cut_list_reply
@@ -37,9 +38,9 @@ module _ (L : Limits) (P : Memory → Type 0) (kept : (p : CutParams) (root : �
   after_cuts [] i room m h = h
   after_cuts (c ∷ cs) i room m h = go (cut_reply L c.params c.root m).0 (cut_reply L c.params c.root m).1 (kept c.params c.root m h) (after_cuts cs (suc i))
     where
-      go : (r : CutReply) (m' : Memory) → P m' → ((room : List ℕ) (m : Memory) → P m → P (cuts_from L cs (suc i) room m).2) → P (going_on i room (r, m') (cuts_from L cs (suc i))).2
-      go (one.Refused n) m' k later = k
-      go (one.Answered a w) m' k later = later (set room i (output_word a w)) m' k
+      go : (r : Reply ElementAnswer) (m' : Memory) → P m' → ((room : List ℕ) (m : Memory) → P m → P (cuts_from L cs (suc i) room m).2) → P (going_on i room (r, m') (cuts_from L cs (suc i))).2
+      go (Err n) m' k later = k
+      go (Ok a) m' k later = later (set room i (output_word a.output a.warning)) m' k
 
   pub after_list : (l : CutList) (room : List ℕ) (m : Memory) → P m → P (cut_list_reply L l room m).2
   after_list l room m h = subst (λ (r : Result). P r.2) (sym (list_by_lem L l room m)) (go (sound_memory L m) (list_fits L l) (ltb (length room) (length l.roots)))

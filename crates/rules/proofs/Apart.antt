@@ -1,10 +1,9 @@
 -- No two elements of a sound table are equal. So from three dimensions on no two edges share both ends:
 -- an edge names no hyperplane there and has no mark, and so its ends are all that it is.
-use Rattle.std.specs.Prelude.{if◌then◌else◌}
+use Rattle.std.specs.Prelude.{if◌then◌else◌, Option, Some, None}
 use Prim.Native.Nat.{ℕ, ◌+◌, ◌<◌}
 use mathlib.Core.Bool.{Bool, true, false, not, ◌&&◌, false≢true}
 use mathlib.Core.List.{List}
-use mathlib.Core.Option.{Option, none, some}
 use mathlib.Core.Path.{◌≡◌, refl, ap, sym, ◌∙◌, subst}
 use native.Mathlib.Nat.{zero-add}
 use native.Mathlib.Omega.{arith}
@@ -30,18 +29,18 @@ distinct_apart t d e e' l l' q =
 
 -- an edge that is its ends: no hyperplane and no mark
 abbrev pub Plain : Element → Type 0
-Plain y = y ≡ polytope 1 (boundary_of y) none false
+Plain y = y ≡ polytope 1 (boundary_of y) None false
 
-pub plain_facet : (t : Table) (h : Option ℕ) (m : Bool) → 2 < t.dimension → sound_facet t 1 h m ≡ true → (h ≡ none) × (m ≡ false)
+pub plain_facet : (t : Table) (h : Option ℕ) (m : Bool) → 2 < t.dimension → sound_facet t 1 h m ≡ true → (h ≡ None) × (m ≡ false)
 unfolding sound_facet
 plain_facet t h m l s =
     let k : (names_none h && not m) ≡ true =
     subst (λ (b : Bool). (if b then names_plane t h else (names_none h && not m)) ≡ true) (not_eq 2 t.dimension (λ e. let z : ⊥ = omega (arith, e, l) in z)) s in
     (named h (and_left (names_none h) (not m) k), not_true m (and_right (names_none h) (not m) k))
   where
-    named : (h : Option ℕ) → names_none h ≡ true → h ≡ none
-    named none e = refl
-    named (some p) e = absurd (false≢true e)
+    named : (h : Option ℕ) → names_none h ≡ true → h ≡ None
+    named None e = refl
+    named (Some p) e = absurd (false≢true e)
 
 pub plain : (t : Table) (e : ℕ) (y : Element) → 2 < t.dimension → sound_element t e y ≡ true → rank_of y ≡ 1 → Plain y
 plain t e (corner v) l s q = absurd (let z : ⊥ = omega (arith, q) in z)
@@ -50,4 +49,4 @@ plain t e (polytope r b h m) l s q =
 
 -- two of them with the same ends are one
 pub plain_once : (t : Table) → Apart t → (x y : ℕ) → x < element_count t → y < element_count t → Plain (element t x) → Plain (element t y) → boundary t x ≡ boundary t y → x ≡ y
-plain_once t apart x y l k p q e = apart x y l k (p ∙ ap (λ (b : List ℕ). polytope 1 b none false) e ∙ sym q)
+plain_once t apart x y l k p q e = apart x y l k (p ∙ ap (λ (b : List ℕ). polytope 1 b None false) e ∙ sym q)

@@ -1,9 +1,8 @@
 -- The promises of an area sheet. Its reply is what `listed` makes of it, so what holds of every list holds of it; its numbers are by cases on its tests.
-use Rattle.std.specs.Prelude.{if◌then◌else◌}
+use Rattle.std.specs.Prelude.{if◌then◌else◌, Some}
 use Prim.Native.Nat.{ℕ, suc, ◌^◌, ◌≤◌}
 use mathlib.Core.Bool.{Bool, true, false, not, ◌&&◌}
 use mathlib.Core.List.{List, [], ◌∷◌, ◌++◌, map}
-use mathlib.Core.Option.{some}
 use mathlib.Core.Path.{◌≡◌, refl, sym, ap, ◌∙◌, subst}
 use native.Mathlib.Nat.{le_trans, mul-le-mul_right}
 use lib.Dec.{leb, ltb, eqb, lit≤}
@@ -21,6 +20,8 @@ use Rattle.rules.proofs.AreaSizes.{area_few, sizes_few}
 use Rattle.rules.proofs.Laws.{and_true, le_test, test_le, none_some}
 use Rattle.rules.proofs.OneCall.{sound_table}
 use Rattle.rules.proofs.Refusals.{RefusedIn, listed_refused, listed_fills, listed_in, listed_by}
+use Rattle.rules.specs.declared.Refusal.TheVariants.{ListLong, NotInUse, NotSound, OffGrid, Rank}
+use Rattle.rules.specs.declared.Refusal.{Refusal}
 
 -- ---- a refusal is no answer
 
@@ -32,18 +33,18 @@ abbrev Answered : Asked (List ℤ) → Type 0
 Answered (no_answer n) = ⊥
 Answered (answer xs) = Unit {0}
 
-not_answered : {B : Type 0} (n : ℕ) (xs : List ℤ) → no_answer n ≡ answer xs → B
+not_answered : {B : Type 0} (n : Refusal) (xs : List ℤ) → no_answer n ≡ answer xs → B
 not_answered n xs q = absurd (subst Answered (sym q) tt)
 
 -- ---- the tests in turn
 
 abbrev pub sheet_by : Table → List ℕ → Bool → Bool → Bool → Bool → Bool → Asked (List ℤ)
 sheet_by t pieces s n u r g =
-    if not s then no_answer 3
-    else if not n then no_answer 26
-    else if not u then no_answer 4
-    else if not r then no_answer 6
-    else if not g then no_answer 25
+    if not s then no_answer NotSound
+    else if not n then no_answer ListLong
+    else if not u then no_answer NotInUse
+    else if not r then no_answer Rank
+    else if not g then no_answer OffGrid
     else answer (sheet t pieces)
 
 abbrev pub few : List ℕ → Bool
@@ -83,11 +84,11 @@ module _ (L : Limits) (m : Memory) (pieces : List ℕ) where
     where
       go : (s n u r g : Bool) → sound_memory L m ≡ s → few pieces ≡ n → sheet_by t pieces s n u r g ≡ answer xs
           → (sound_memory L m ≡ true) × (length pieces ≤ most_pieces) × (sheet t pieces ≡ xs)
-      go false n u r g p₁ p₂ q = not_answered 3 xs q
-      go true false u r g p₁ p₂ q = not_answered 26 xs q
-      go true true false r g p₁ p₂ q = not_answered 4 xs q
-      go true true true false g p₁ p₂ q = not_answered 6 xs q
-      go true true true true false p₁ p₂ q = not_answered 25 xs q
+      go false n u r g p₁ p₂ q = not_answered NotSound xs q
+      go true false u r g p₁ p₂ q = not_answered ListLong xs q
+      go true true false r g p₁ p₂ q = not_answered NotInUse xs q
+      go true true true false g p₁ p₂ q = not_answered Rank xs q
+      go true true true true false p₁ p₂ q = not_answered OffGrid xs q
       go true true true true true p₁ p₂ q = (p₁, le_test (length pieces) most_pieces p₂, ap entries q)
 
 -- ---- every number of it
@@ -135,11 +136,11 @@ pub areas_fill_front : (L : Limits) → AreasFillFront L
 unfolding areas_reply
 areas_fill_front L m pieces room n e = (go (area_sheet L m pieces) refl e, listed_fills (area_sheet L m pieces) room n e)
   where
-    go : (a : Asked (List ℤ)) → area_sheet L m pieces ≡ a → list_size (listed a room).0 ≡ some n → n ≡ suc (suc (length pieces))
+    go : (a : Asked (List ℤ)) → area_sheet L m pieces ≡ a → list_size (listed a room).0 ≡ Some n → n ≡ suc (suc (length pieces))
     go (no_answer k) q z = none_some n z
     go (answer xs) q z = by (leb (length xs) (length room)) z
       where
-        by : (b : Bool) → list_size (listed_by xs room b).0 ≡ some n → n ≡ suc (suc (length pieces))
+        by : (b : Bool) → list_size (listed_by xs room b).0 ≡ Some n → n ≡ suc (suc (length pieces))
         by true w = let k : length xs ≡ n = cc in sym k ∙ ap length (sym (answered L m pieces xs q).2) ∙ long (decode L m) pieces
         by false w = none_some n w
 

@@ -21,6 +21,7 @@ use Rattle.rules.proofs.Comparisons.{fact}
 use Rattle.rules.proofs.Each.{all_get_d, all_map}
 use Rattle.rules.proofs.Good.{sound_good}
 use Rattle.rules.proofs.Laws.{truly, and_left, and_right, le_test, test_le, either}
+use Rattle.rules.specs.declared.Refusal.TheVariants.{NotClosed, Rank}
 
 -- ---- a coordinate
 
@@ -137,8 +138,8 @@ module _ (L : Limits) (t : Table) (s : sound L t ≡ true) where
   steps_few : (f : ℕ) → length (steps (edges_in_order t f)) ≤ length (boundary t f)
   unfolding edges_in_order
   steps_few f =
-      either (λ (a : Asked (List (ℕ × ℕ))). length (steps a) ≤ length (boundary t f)) (not (eqb (rank t f) 2)) (no_answer 6) _ zero-le
-      (either (λ (a : Asked (List (ℕ × ℕ))). length (steps a) ≤ length (boundary t f)) (each_once (boundary t f) (around t (boundary t f))) _ (no_answer 7)
+      either (λ (a : Asked (List (ℕ × ℕ))). length (steps a) ≤ length (boundary t f)) (not (eqb (rank t f) 2)) (no_answer Rank) _ zero-le
+      (either (λ (a : Asked (List (ℕ × ℕ))). length (steps a) ≤ length (boundary t f)) (each_once (boundary t f) (around t (boundary t f))) _ (no_answer NotClosed)
       (le_trans (le_of_eq (pairs_long (start_of t (boundary t f)) (around t (boundary t f))))
       (walk_short (length (boundary t f)) (boundary t f) (start_of t (boundary t f)) (start_of t (boundary t f)) (first_edge t (start_of t (boundary t f)) (boundary t f))))
       zero-le)

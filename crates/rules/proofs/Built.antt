@@ -3,7 +3,6 @@
 use Prim.Native.Nat.{◌-◌, ℕ, zero, suc}
 use mathlib.Core.Bool.{Bool, not, false, true}
 use mathlib.Core.List.{List, ◌∷◌, []}
-use mathlib.Core.Option.{none, Option, some}
 use mathlib.Core.Path.{◌≡◌, refl, subst}
 use lib.Dec.{T, ltb, leb}
 use lib.Ieee.{Float, fin, inf, nan}
@@ -17,19 +16,20 @@ use Rattle.rules.specs.Cut.{with_element, with_point, with_plane, cut, Outcome, 
 use Rattle.rules.specs.Cut.{add_plane, plane_matches, Cutting, Params, side_of_cut, including, rule7, Gathered, rule6, new_intersection, plane_of_intersection, given, cross_edge, cut_edge, cut_ends}
 use Rattle.rules.specs.Cut.{distance_of, cut_boundary, gathering, cut_element, cut_corner, cut_higher, nothing_yet, cut_finite, cut_at_distance}
 use Rattle.rules.specs.Held.{Extends}
-use Rattle.rules.specs.declared.Crossing.{Crossing}
-use Rattle.rules.specs.declared.Crossing.TheVariants.{None as NoCrossing, At}
 use Rattle.rules.specs.declared.ElementAnswer.{ElementAnswer}
-use Rattle.rules.specs.declared.ElementOrNone.{ElementOrNone}
 use Rattle.rules.proofs.Extends.{extends_refl, extends_trans, grown_element, grown_point, grown_plane}
 use Rattle.rules.proofs.Laws.{either}
+use Rattle.rules.specs.declared.ElementId.{ElementId}
+use Rattle.std.specs.Prelude.{Option, Some, None}
+use Rattle.rules.specs.Refusals.{refusal_number}
+use Rattle.rules.specs.declared.Refusal.{Refusal}
 
 -- ---- built by appends
 
 pub data Built (old : Table) : Table → Type 0 where
   unchanged : Built old old
   element_more : (t : Table) (e : Element) → Built old t → Built old (with_element e t)
-  point_more : (t : Table) (p : List Float) → find (λ q. point_matches q p) t.points ≡ none → Built old t → Built old (with_point p t)
+  point_more : (t : Table) (p : List Float) → find (λ q. point_matches q p) t.points ≡ None → Built old t → Built old (with_point p t)
   plane_more : (t : Table) (h : Plane) → Built old t → Built old (with_plane h t)
 
 pub built_trans : {a b c : Table} → Built a b → Built b c → Built a c
@@ -48,8 +48,8 @@ built_extends (plane_more t h q) = extends_trans (built_extends q) (grown_plane 
 -- ---- an outcome, seen from an old table
 
 -- the numbers that the rules of the cut refuse with
-abbrev pub RuleNumber : ℕ → Type 0
-RuleNumber n = T (member n (7 ∷ 8 ∷ 9 ∷ 10 ∷ 11 ∷ []))
+abbrev pub RuleNumber : Refusal → Type 0
+RuleNumber n = T (member (refusal_number n) (7 ∷ 8 ∷ 9 ∷ 10 ∷ 11 ∷ []))
 
 abbrev pub After : {A : Type 0} → Table → Outcome A → Type 0
 After old (refused n) = RuleNumber n
@@ -69,8 +69,8 @@ after_next t (done a t') f h g = after_trans (f a t') h (g a t')
 -- ---- the appends
 
 share_element_lem : (L : Limits) (e : Element) (o : Option ℕ) → Builds (share_element L e o)
-share_element_lem L e (some i) t = unchanged
-share_element_lem L e none t = either (After t) (ltb (element_count t) L.elements) _ _ (element_more t e unchanged) tt
+share_element_lem L e (Some i) t = unchanged
+share_element_lem L e None t = either (After t) (ltb (element_count t) L.elements) _ _ (element_more t e unchanged) tt
 
 pub add_element_lem : (L : Limits) (e : Element) → Builds (add_element L e)
 unfolding add_element
@@ -89,15 +89,15 @@ unfolding add_vertex
 add_vertex_lem L p t = go (find (λ q. point_matches q p) t.points) refl
   where
     go : (o : Option ℕ) → find (λ q. point_matches q p) t.points ≡ o → After t (share_vertex L p o t)
-    go (some v) h = add_element_lem L (corner v) t
-    go none h =
+    go (Some v) h = add_element_lem L (corner v) t
+    go None h =
         either (After t) (ltb (length t.points) L.vertices) _ _
         (after_trans (add_element L (corner (length t.points)) (with_point p t)) (point_more t p h unchanged)
         (add_element_lem L (corner (length t.points)) (with_point p t))) tt
 
 share_plane_lem : (L : Limits) (h : Plane) (o : Option ℕ) → Builds (share_plane L h o)
-share_plane_lem L h (some n) t = unchanged
-share_plane_lem L h none t = either (After t) (ltb (length t.planes) L.hyperplanes) _ _ (plane_more t h unchanged) tt
+share_plane_lem L h (Some n) t = unchanged
+share_plane_lem L h None t = either (After t) (ltb (length t.planes) L.hyperplanes) _ _ (plane_more t h unchanged) tt
 
 pub add_plane_lem : (L : Limits) (h : Plane) → Builds (add_plane L h)
 unfolding add_plane
@@ -107,11 +107,11 @@ add_plane_lem L h t =
 -- ---- rules 4 to 7
 
 module _ (L : Limits) (c : Cutting) where
-  pub side_builds : (kept : Bool) (e : Element) (x : ElementOrNone) (s : List ℕ) → Builds (side_of_cut L kept e x s)
+  pub side_builds : (kept : Bool) (e : Element) (x : Option ElementId) (s : List ℕ) → Builds (side_of_cut L kept e x s)
   side_builds false e x s t = unchanged
   side_builds true e x s t = add_polytope_lem L (rank_of e) (including x s) (plane_of e) (is_primordial e) t
 
-  pub rule7_builds : (e : Element) (g : Gathered) (x : ElementOrNone) → Builds (rule7 L c e g x)
+  pub rule7_builds : (e : Element) (g : Gathered) (x : Option ElementId) → Builds (rule7 L c e g x)
   unfolding rule7
   rule7_builds e g x t =
       after_next t (side_of_cut L c.params.keep_inside e x g.inside t) _ (side_builds c.params.keep_inside e x g.inside t) (λ i t₁.
@@ -125,9 +125,9 @@ module _ (L : Limits) (c : Cutting) where
   rule6_builds e g (f ∷ []) t = rule7_builds e g (given f) t
   rule6_builds e g (f ∷ f' ∷ fs) t = unchanged
 
-  pub cross_edge_lem : (p q : List Float) (x : Crossing) (g : Gathered) → Builds (cross_edge L p q x g)
-  cross_edge_lem p q NoCrossing g t = unchanged
-  cross_edge_lem p q (At s) g t =
+  pub cross_edge_lem : (p q : List Float) (x : Option Float) (g : Gathered) → Builds (cross_edge L p q x g)
+  cross_edge_lem p q None g t = unchanged
+  cross_edge_lem p q (Some s) g t =
       after_next t (add_vertex L (crossing_point s p q) t) _ (add_vertex_lem L (crossing_point s p q) t) (λ v t'. unchanged)
 
   pub cut_edge_lem : (e : Element) → Builds (cut_edge L c e)
@@ -173,5 +173,5 @@ pub done_built : (L : Limits) (p : Params) (root : ℕ) (t t' : Table) (a : Elem
 done_built L p root t t' a e = subst (After t) e (cut_builds L p root t)
 
 -- a cut that is refused is refused with one of the numbers of the rules
-pub refused_number : (L : Limits) (p : Params) (root : ℕ) (t : Table) (n : ℕ) → cut L p root t ≡ refused n → RuleNumber n
+pub refused_number : (L : Limits) (p : Params) (root : ℕ) (t : Table) (n : Refusal) → cut L p root t ≡ refused n → RuleNumber n
 refused_number L p root t n e = subst (After t) e (cut_builds L p root t)

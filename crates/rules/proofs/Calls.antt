@@ -1,10 +1,9 @@
 -- Demand 3 at the public replies, for whole sequences of calls: every memory that follows a sound one is sound and goes on from it,
 -- so what was answered once is answered again, from the table that is there.
-use Rattle.std.specs.Prelude.{if◌then◌else◌}
+use Rattle.std.specs.Prelude.{if◌then◌else◌, Option, None, Err, Ok}
 use Prim.Native.Nat.{ℕ, ◌<◌, suc, zero}
 use mathlib.Core.Bool.{not, true, Bool, false}
 use mathlib.Core.List.{List, [], ◌∷◌}
-use mathlib.Core.Option.{Option, none}
 use mathlib.Core.Path.{◌≡◌, refl, subst, sym, ◌∙◌, ap, ap₂}
 use native.Mathlib.Nat.{lt_irrefl, le_trans, suc-ne-zero}
 use lib.Ieee.{inf, fin, Float, nan}
@@ -12,16 +11,13 @@ use Rattle.rules.specs.Limits.{Limits, Readable}
 use Rattle.rules.specs.Table.{Table, rank}
 use Rattle.rules.specs.Memory.{Memory, sound_memory, decode}
 use Rattle.rules.specs.Cut.{Params, cut, done, cut_at_distance, corner_output}
-use Rattle.rules.specs.Replies.{cut_reply, is_kept, cut_by, params_of, divider_fits, as_reply, written, cut_number, cut_values, cut_warning, output_values, element_value}
+use Rattle.rules.specs.Replies.{cut_reply, is_kept, cut_by, params_of, divider_fits, written, cut_values, cut_warning, output_values, element_value}
 use Rattle.rules.specs.Calls.{after, Call, asking, cutting, cubing, opening, after_calls, LeavesTable, TableStays, Gives}
 use Rattle.rules.specs.Promises.{Finite, AgainLater, OneSideLater, FlushLater, InfiniteDistance}
 use Rattle.rules.specs.Held.{Extends}
 use Rattle.rules.specs.declared.Side.TheVariants.{Inside, Outside}
-use Rattle.rules.specs.declared.CutReply.{CutReply}
-use Rattle.rules.specs.declared.CutReply.TheVariants.{Refused, Answered}
 use Rattle.rules.specs.declared.ElementCutOutput.{ElementCutOutput}
 use Rattle.rules.specs.declared.ElementCutOutput.TheVariants.{NonFlush, Flush}
-use Rattle.rules.specs.declared.ElementOrNone.{ElementOrNone}
 use Rattle.rules.specs.declared.ElementAnswer.{ElementAnswer}
 use Rattle.rules.specs.declared.PolytopeFate.{PolytopeFate}
 use Rattle.rules.specs.declared.PolytopeFate.TheVariants.{Remove, Keep}
@@ -37,6 +33,9 @@ use Rattle.rules.proofs.OneCall.{it, memory_sound, memory_built, memory_table, a
 use Rattle.rules.proofs.Refusals.{refused_leaves, refused_cube_leaves, cut_numbers}
 use Rattle.rules.proofs.Repeat.{NotInfinite, cut_again, cut_fewer}
 use Rattle.rules.proofs.RoundTrip.{memory_back}
+use Rattle.rules.specs.Refusals.{Reply, reply_number}
+use Rattle.rules.specs.declared.ElementId.{ElementId}
+use Rattle.rules.specs.Replies.{answer_with}
 
 -- ---- hypotheses as the repeat has them
 
@@ -51,12 +50,12 @@ not_infinite (inf s) f = f s refl
 not_infinite (fin s m e) f = tt
 
 -- a reply that is an answer, by its values
-pub gives : {r : CutReply × Memory} {a : ElementAnswer} {vs : List (Option ℕ)} {m : Memory} → r ≡ (as_reply a, m) → output_values a.output ≡ vs → Gives r vs a.warning m
+pub gives : {r : Reply ElementAnswer × Memory} {a : ElementAnswer} {vs : List (Option ℕ)} {m : Memory} → r ≡ (Ok a, m) → output_values a.output ≡ vs → Gives r vs a.warning m
 gives e v = record {
-  number = ap (λ (x : CutReply × Memory). cut_number x.0) e;
-  values = ap (λ (x : CutReply × Memory). cut_values x.0) e ∙ v;
-  warning = ap (λ (x : CutReply × Memory). cut_warning x.0) e;
-  memory = ap (λ (x : CutReply × Memory). x.1) e;
+  number = ap (λ (x : Reply ElementAnswer × Memory). reply_number x.0) e;
+  values = ap (λ (x : Reply ElementAnswer × Memory). cut_values x.0) e ∙ v;
+  warning = ap (λ (x : Reply ElementAnswer × Memory). cut_warning x.0) e;
+  memory = ap (λ (x : Reply ElementAnswer × Memory). x.1) e;
 }
 
 -- the parameters with sides removed, as the rules have them
@@ -87,11 +86,11 @@ module _ (L : Limits) (R : Readable L) where
   pub cut_follows : (p : CutParams) (root : ℕ) (m : Memory) → sound_memory L m ≡ true → Follows L m (cut_reply L p root m).1
   cut_follows p root m s = go (cut_reply L p root m).0 (cut_reply L p root m).1 refl
     where
-      go : (r : CutReply) (m' : Memory) → cut_reply L p root m ≡ (r, m') → Follows L m m'
-      go (Refused n) m' e = subst (λ (x : Memory). Follows L m x) (sym (refused_leaves L p root m m' n e)) (follows_itself m s)
-      go (Answered a w) m' e = record {
-        sound_after = memory_sound L R p root m (record { output = a; warning = w }) m' e;
-        extends = built_extends (memory_built L R p root m (record { output = a; warning = w }) m' e);
+      go : (r : Reply ElementAnswer) (m' : Memory) → cut_reply L p root m ≡ (r, m') → Follows L m m'
+      go (Err n) m' e = subst (λ (x : Memory). Follows L m x) (sym (refused_leaves L p root m m' n e)) (follows_itself m s)
+      go (Ok a) m' e = record {
+        sound_after = memory_sound L R p root m a m' e;
+        extends = built_extends (memory_built L R p root m a m' e);
       }
 
   pub follows_on : {a b c : Memory} → Follows L a b → Follows L b c → Follows L a c
@@ -109,14 +108,14 @@ module _ (L : Limits) (R : Readable L) where
 
   -- ---- an answer, replayed
 
-  module _ (p : CutParams) (root : ℕ) (m : Memory) (a : ElementAnswer) (m' : Memory) (e : cut_reply L p root m ≡ (as_reply a, m')) where
+  module _ (p : CutParams) (root : ℕ) (m : Memory) (a : ElementAnswer) (m' : Memory) (e : cut_reply L p root m ≡ (Ok a, m')) where
     abbrev dimension : ℕ
     dimension = (decode L m).dimension
 
     -- what a step replays on every table that goes on from the answer's, the call gives on every memory that follows
     pub replayed : (i o : PolytopeFate) (b : ElementAnswer)
         → ((l : Table) → Extends (it L R p root m a m' e).table_after_lem l → cut L (params_of dimension (cut_by p.divider i o)) root l ≡ done b l)
-        → (later : Memory) → Follows L m' later → cut_reply L (cut_by p.divider i o) root later ≡ (as_reply b, later)
+        → (later : Memory) → Follows L m' later → cut_reply L (cut_by p.divider i o) root later ≡ (Ok b, later)
     replayed i o b again later f =
         let x : Extends (it L R p root m a m' e).table_after_lem (decode L later) = subst (λ (t : Table). Extends t (decode L later)) (memory_table L R p root m a m' e) f.extends in
         let y : Extends (decode L m) (decode L later) = extends_trans (built_extends (after_built L R p root m a m' e)) x in
@@ -128,10 +127,10 @@ module _ (L : Limits) (R : Readable L) where
         })
         ∙ ap (λ (k : ℕ). written L later (cut L (params_of k (cut_by p.divider i o)) root (decode L later))) y.dimension
         ∙ ap (written L later) (again (decode L later) x)
-        ∙ ap (λ (z : Memory). (as_reply b, z)) (memory_back L later f.sound_after)
+        ∙ ap (λ (z : Memory). (Ok b, z)) (memory_back L later f.sound_after)
 
     -- the same sides
-    pub same_sides : (later : Memory) → Follows L m' later → cut_reply L p root later ≡ (as_reply a, later)
+    pub same_sides : (later : Memory) → Follows L m' later → cut_reply L p root later ≡ (Ok a, later)
     same_sides later f =
         replayed p.inside p.outside a
         (subst (Later same AnswerIn (decode L m) (cut L (params_of dimension p) root)) (it L R p root m a m' e).cuts
@@ -139,7 +138,7 @@ module _ (L : Limits) (R : Readable L) where
 
     -- fewer sides: a finite divider, and a root that is no corner
     pub fewer_sides : (d : Dropped) (r : ℕ) → rank (decode L m) root ≡ suc r → NotInfinite p.divider.distance → (later : Memory) → Follows L m' later
-        → cut_reply L (less_cut d p) root later ≡ (as_reply (less_answer d a), later)
+        → cut_reply L (less_cut d p) root later ≡ (Ok (less_answer d a), later)
     fewer_sides d r k z later f =
         replayed (less_fate d.inside p.inside) (less_fate d.outside p.outside) (less_answer d a)
         (λ l x. ap (λ (q : Params). cut L q root l) (less_params_lem d p dimension)
@@ -151,18 +150,23 @@ module _ (L : Limits) (R : Readable L) where
   pub again_later : AgainLater L
   again_later p root m z cs n =
       let a = (cut_numbers L p root m).answered z in
-      let e : cut_reply L p root m ≡ (as_reply a.0, (cut_reply L p root m).1) = λ j. (a.1 j, (cut_reply L p root m).1) in
+      let e : cut_reply L p root m ≡ (Ok a.0, (cut_reply L p root m).1) = λ j. (a.1 j, (cut_reply L p root m).1) in
       let later = after_calls L cs (cut_reply L p root m).1 in
       same_sides p root m a.0 (cut_reply L p root m).1 e later
       (calls_follow cs (cut_reply L p root m).1 (memory_sound L R p root m a.0 (cut_reply L p root m).1 e) n)
       ∙ (λ j. (sym a.1 j, later))
 
   -- what is answered with three values
-  three : (r : CutReply) (i o x : Option ℕ) → cut_values r ≡ i ∷ o ∷ x ∷ []
-      → (a : ElementOrNone) × (b : ElementOrNone) × (c : ElementOrNone) × (r ≡ Answered (NonFlush a b c) (cut_warning r)) × (element_value a ≡ i) × (element_value b ≡ o) × (element_value c ≡ x)
-  three (Refused n) i o x e = absurd (let z : ◌≡◌ {A = ℕ} 0 1 = cc in suc-ne-zero 0 (sym z))
-  three (Answered Flush w) i o x e = absurd (let z : ◌≡◌ {A = ℕ} 0 1 = cc in suc-ne-zero 0 (sym z))
-  three (Answered (NonFlush a b c) w) i o x e = (a, b, c, refl, cc, cc, cc)
+  three : (r : Reply ElementAnswer) (i o x : Option ℕ) → cut_values r ≡ i ∷ o ∷ x ∷ []
+      → (a : Option ElementId) × (b : Option ElementId) × (c : Option ElementId) × (r ≡ Ok (answer_with (NonFlush a b c) (cut_warning r))) × (element_value a ≡ i) × (element_value b ≡ o) × (element_value c ≡ x)
+  three (Err n) i o x e = absurd (let z : ◌≡◌ {A = ℕ} 0 1 = cc in suc-ne-zero 0 (sym z))
+  three (Ok r) i o x e = go r.output refl e
+    where
+      go : (y : ElementCutOutput) → r.output ≡ y → output_values y ≡ i ∷ o ∷ x ∷ []
+          → (a : Option ElementId) × (b : Option ElementId) × (c : Option ElementId) × (◌≡◌ {A = Reply ElementAnswer} (Ok r) (Ok (answer_with (NonFlush a b c) r.warning)))
+          × (element_value a ≡ i) × (element_value b ≡ o) × (element_value c ≡ x)
+      go Flush p e = absurd (let z : ◌≡◌ {A = ℕ} 0 1 = cc in suc-ne-zero 0 (sym z))
+      go (NonFlush a b c) p e = (a, b, c, ap (λ (y : ElementCutOutput). Ok (answer_with y r.warning)) p, cc, cc, cc)
 
   pub one_side_later : OneSideLater L
   one_side_later h root m i o x f k v cs n =
@@ -171,12 +175,12 @@ module _ (L : Limits) (R : Readable L) where
       let a : ElementAnswer = record { output = NonFlush w.0 w.1 w.2; warning = cut_warning slice.0 } in
       let m' = slice.1 in
       let later = after_calls L cs m' in
-      let e : cut_reply L (cut_by h Keep Keep) root m ≡ (as_reply a, m') = λ j. (w.3 j, m') in
+      let e : cut_reply L (cut_by h Keep Keep) root m ≡ (Ok a, m') = λ j. (w.3 j, m') in
       let s = one_more_lem (rank (decode L m) root) k in
       let z = not_infinite h.distance f in
       let after' = calls_follow cs m' (memory_sound L R (cut_by h Keep Keep) root m a m' e) n in (
-        gives (fewer_sides (cut_by h Keep Keep) root m a m' e (record { inside = false; outside = true }) s.0 s.1 z later after') (ap₂ (λ (p q : Option ℕ). p ∷ none ∷ q ∷ []) w.4 w.6),
-        gives (fewer_sides (cut_by h Keep Keep) root m a m' e (record { inside = true; outside = false }) s.0 s.1 z later after') (ap₂ (λ (p q : Option ℕ). none ∷ p ∷ q ∷ []) w.5 w.6),
+        gives (fewer_sides (cut_by h Keep Keep) root m a m' e (record { inside = false; outside = true }) s.0 s.1 z later after') (ap₂ (λ (p q : Option ℕ). p ∷ None ∷ q ∷ []) w.4 w.6),
+        gives (fewer_sides (cut_by h Keep Keep) root m a m' e (record { inside = true; outside = false }) s.0 s.1 z later after') (ap₂ (λ (p q : Option ℕ). None ∷ p ∷ q ∷ []) w.5 w.6),
       )
 
   pub flush_later : FlushLater L
@@ -186,8 +190,8 @@ module _ (L : Limits) (R : Readable L) where
       let m' = (cut_reply L p root m).1 in
       let later = after_calls L cs m' in
       let b : ElementAnswer = record { output = Flush; warning = a.0.warning } in
-      let r = a.1 ∙ ap (λ (x : ElementCutOutput). Answered x a.0.warning) (flush a.0.output (sym (ap cut_values a.1) ∙ v)) in
-      let e : cut_reply L p root m ≡ (as_reply b, m') = λ j. (r j, m') in
+      let r = a.1 ∙ ap (λ (x : ElementCutOutput). Ok (answer_with x a.0.warning)) (flush a.0.output (sym (ap cut_values a.1) ∙ v)) in
+      let e : cut_reply L p root m ≡ (Ok b, m') = λ j. (r j, m') in
       let s = one_more_lem (rank (decode L m) root) k in
       let z = not_infinite h.distance f in
       subst (λ (x : PolytopeFate). cut_reply L (cut_by h x o) root later ≡ ((cut_reply L p root m).0, later)) (kept i)
@@ -212,8 +216,8 @@ module _ (L : Limits) (R : Readable L) where
       given_back_lem : Bool → ElementAnswer
       given_back_lem s = record { output = corner_output root (if s then Outside else Inside); warning = false }
 
-      at : (s : Bool) → p.divider.distance ≡ inf s → cut_reply L p root m ≡ (as_reply (given_back_lem s), m)
+      at : (s : Bool) → p.divider.distance ≡ inf s → cut_reply L p root m ≡ (Ok (given_back_lem s), m)
       at false q = passed L p root m g ∙ ap (λ (d : Float). written L m (cut_at_distance L (params_of (decode L m).dimension p) d root (decode L m))) q
-          ∙ ap (λ (z : Memory). (as_reply (given_back_lem false), z)) (memory_back L m g.sound)
+          ∙ ap (λ (z : Memory). (Ok (given_back_lem false), z)) (memory_back L m g.sound)
       at true q = passed L p root m g ∙ ap (λ (d : Float). written L m (cut_at_distance L (params_of (decode L m).dimension p) d root (decode L m))) q
-          ∙ ap (λ (z : Memory). (as_reply (given_back_lem true), z)) (memory_back L m g.sound)
+          ∙ ap (λ (z : Memory). (Ok (given_back_lem true), z)) (memory_back L m g.sound)

@@ -19,6 +19,7 @@ use Rattle.rules.proofs.Borders.{sound_bordered}
 use Rattle.rules.proofs.Corners.{any_up}
 use Rattle.rules.proofs.Laws.{both_ways, and_left, and_right, and_true, or_case, or_left, or_right, le_test, not_le, eq_test, test_eq, eqb_self}
 use Rattle.rules.proofs.Reach.{some_at, at_some, reached, is_below_lem, no_boundary}
+use Rattle.rules.specs.declared.Refusal.TheVariants.{Rank}
 
 -- ---- members
 
@@ -220,6 +221,6 @@ module _ (L : Limits) (t : Table) (s : sound L t ≡ true) where
       low : (x : ℕ) → x < element_count t → is_common t (e ∷ es) x ≡ true → rank t x ≤ rank t e
       low x v c = lower_rank (reached t (rank t e) e x (and_left (is_below t e x) (is_common t es x) c)) used
 
-      go : (b : Bool) → (if b then answer (greatest_from t (rank t e) (e ∷ es)) else no_answer 6) ≡ answer xs → Greatest t (e ∷ es) xs
+      go : (b : Bool) → (if b then answer (greatest_from t (rank t e) (e ∷ es)) else no_answer Rank) ≡ answer xs → Greatest t (e ∷ es) xs
       go false k = absurd (false≢true (ap answered k))
       go true k = subst (Greatest t (e ∷ es)) (ap (list_or []) k) (greatest_from_lem (e ∷ es) (rank t e) low)

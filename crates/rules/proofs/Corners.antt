@@ -1,9 +1,8 @@
 -- Vertex elements name the vertices in order: so a vertex in use has its element, the next vertex has none yet, and a corner names a vertex in use.
-use Rattle.std.specs.Prelude.{if◌then◌else◌}
+use Rattle.std.specs.Prelude.{if◌then◌else◌, Option, Some}
 use Prim.Native.Nat.{ℕ, suc, ◌≤◌, ◌<◌, ◌+◌, zero, zero-le}
 use mathlib.Core.Bool.{Bool, ◌||◌, true, false, false≢true, true≢false}
 use mathlib.Core.List.{List, map, [], ◌∷◌}
-use mathlib.Core.Option.{Option, some}
 use mathlib.Core.Path.{◌≡◌, refl, ap, ◌∙◌, sym, subst}
 use native.Mathlib.Nat.{zero-add, le_refl, not-suc-le-zero, le_of_suc-le-suc}
 use native.Mathlib.Omega.{arith}
@@ -16,7 +15,7 @@ use Rattle.rules.proofs.Fine.{Fine, Names}
 use Rattle.rules.proofs.Good.{Good, all_below_lem, whole_at}
 use Rattle.rules.proofs.Laws.{is_found, or_left, test_eq, or_right, neither, not_eq, le_test, not_le}
 
-pub if_is_found : (b : Bool) (k : ℕ) (r : Option ℕ) → is_found (if b then some k else r) ≡ (b || is_found r)
+pub if_is_found : (b : Bool) (k : ℕ) (r : Option ℕ) → is_found (if b then Some k else r) ≡ (b || is_found r)
 if_is_found true k r = refl
 if_is_found false k r = refl
 

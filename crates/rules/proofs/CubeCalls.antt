@@ -25,6 +25,7 @@ use Rattle.rules.proofs.OneCall.{sound_table}
 use Rattle.rules.proofs.OneCorner.{cut_unmatched}
 use Rattle.rules.proofs.Refusals.{cube_by_lem, cube_by, refused_cube_leaves}
 use Rattle.rules.proofs.RoundTrip.{written_sound, table_back}
+use Rattle.rules.specs.Refusals.{Reply, reply_number}
 
 -- ---- a cube that is taken
 
@@ -35,13 +36,13 @@ module _ (L : Limits) (H : HasCubes L) (d : ℕ) (radius : Float) (m : Memory) w
     pub fits : radius_fits radius ≡ true
     pub writes : (cube_reply L d radius m).1 ≡ encode L (cube d radius)
 
-  pub cube_done : (cube_reply L d radius m).0 ≡ 0 → CubeDone
+  pub cube_done : reply_number (cube_reply L d radius m).0 ≡ 0 → CubeDone
   cube_done z =
-      go (leb 1 d && leb d L.dimensions) (radius_fits radius) (right_size L m) refl refl (ap (λ (x : ℕ × Memory). x.1) (cube_by_lem L d radius m))
-      (ap (λ (x : ℕ × Memory). x.0) (sym (cube_by_lem L d radius m)) ∙ z)
+      go (leb 1 d && leb d L.dimensions) (radius_fits radius) (right_size L m) refl refl (ap (λ (x : Reply (Unit {0}) × Memory). x.1) (cube_by_lem L d radius m))
+      (ap (λ (x : Reply (Unit {0}) × Memory). reply_number x.0) (sym (cube_by_lem L d radius m)) ∙ z)
     where
       go : (p q s : Bool) → (leb 1 d && leb d L.dimensions) ≡ p → radius_fits radius ≡ q
-          → (cube_reply L d radius m).1 ≡ (cube_by L d radius m p q s).1 → (cube_by L d radius m p q s).0 ≡ 0 → CubeDone
+          → (cube_reply L d radius m).1 ≡ (cube_by L d radius m p q s).1 → reply_number (cube_by L d radius m p q s).0 ≡ 0 → CubeDone
       go false q s e f w n = absurd (suc-ne-zero 0 n)
       go true false s e f w n = absurd (suc-ne-zero 1 n)
       go true true false e f w n = absurd (suc-ne-zero 2 n)
@@ -58,7 +59,7 @@ module _ (L : Limits) (R : Readable L) (H : HasCubes L) where
       let c = cube_done L H d radius m z in
       subst (λ (x : Memory). sound_memory L x ≡ true) (sym c.writes) (written_sound L R (cube d radius) c.is_sound)
 
-  unmatched_cube : (d : ℕ) (radius : Float) (m : Memory) → (cube_reply L d radius m).0 ≡ 0 → Unmatched (decode L (cube_reply L d radius m).1)
+  unmatched_cube : (d : ℕ) (radius : Float) (m : Memory) → reply_number (cube_reply L d radius m).0 ≡ 0 → Unmatched (decode L (cube_reply L d radius m).1)
   unmatched_cube d radius m z =
       let c = cube_done L H d radius m z in
       subst Unmatched (sym (ap (decode L) c.writes ∙ table_back L R (cube d radius) c.is_sound)) (cube_unmatched d radius c.fits)
@@ -66,17 +67,17 @@ module _ (L : Limits) (R : Readable L) (H : HasCubes L) where
   -- ---- any calls
 
   -- what holds after a call that is taken, and held before, holds after it, if one that is refused leaves the memory
-  after_call : (P : Memory → Type 0) (r : ℕ × Memory) (m : Memory) → (0 < r.0 → r.1 ≡ m) → (r.0 ≡ 0 → P r.1) → P m → P r.1
-  after_call P r m leaves f p = go r.0 refl
+  after_call : (P : Memory → Type 0) (r : Reply (Unit {0}) × Memory) (m : Memory) → (0 < reply_number r.0 → r.1 ≡ m) → (reply_number r.0 ≡ 0 → P r.1) → P m → P r.1
+  after_call P r m leaves f p = go (reply_number r.0) refl
     where
-      go : (n : ℕ) → r.0 ≡ n → P r.1
+      go : (n : ℕ) → reply_number r.0 ≡ n → P r.1
       go zero e = f e
       go (suc n) e = subst P (sym (leaves (subst (λ (k : ℕ). 0 < k) (sym e) (zero-lt-suc n)))) p
 
-  after_cube : (P : Memory → Type 0) (d : ℕ) (radius : Float) (m : Memory) → ((cube_reply L d radius m).0 ≡ 0 → P (cube_reply L d radius m).1) → P m → P (cube_reply L d radius m).1
+  after_cube : (P : Memory → Type 0) (d : ℕ) (radius : Float) (m : Memory) → (reply_number (cube_reply L d radius m).0 ≡ 0 → P (cube_reply L d radius m).1) → P m → P (cube_reply L d radius m).1
   after_cube P d radius m = after_call P (cube_reply L d radius m) m (refused_cube_leaves L d radius m)
 
-  after_file : (P : Memory → Type 0) (bs : List ℕ) (m : Memory) → ((open_reply L bs m).0 ≡ 0 → P (open_reply L bs m).1) → P m → P (open_reply L bs m).1
+  after_file : (P : Memory → Type 0) (bs : List ℕ) (m : Memory) → (reply_number (open_reply L bs m).0 ≡ 0 → P (open_reply L bs m).1) → P m → P (open_reply L bs m).1
   after_file P bs m = after_call P (open_reply L bs m) m (refused_open_leaves L bs m)
 
   call_sound : (c : Call) (m : Memory) → sound_memory L m ≡ true → sound_memory L (after L c m) ≡ true

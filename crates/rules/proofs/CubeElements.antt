@@ -1,10 +1,9 @@
 -- The cube's elements pass the tests of a table: each by its digits, and no two are equal.
 -- Corners differ by how many come before them, and polytopes by their boundaries, which tell their numbers.
-use Rattle.std.specs.Prelude.{if◌then◌else◌}
+use Rattle.std.specs.Prelude.{if◌then◌else◌, Option, Some, None}
 use Prim.Native.Nat.{ℕ, ◌<◌, ◌*◌, ◌≤◌, ◌^◌, zero, suc, ◌+◌}
 use mathlib.Core.Bool.{Bool, true, ◌&&◌, false, not, true≢false, beq}
 use mathlib.Core.List.{List, [], ◌∷◌, map, ◌++◌, append-nil}
-use mathlib.Core.Option.{Option, some, none}
 use mathlib.Core.Path.{◌≡◌, refl, sym, ap, ◌∙◌, subst, ap₂}
 use native.Mathlib.Nat.{add-zero, zero-add}
 use native.Mathlib.Numerals.{add-one}
@@ -64,7 +63,7 @@ module _ (d : ℕ) where
 
   -- b: whether n is a facet
   abbrev plane_at : ℕ → Bool → Option ℕ
-  plane_at n b = if b then some (before facet_at n) else none
+  plane_at n b = if b then Some (before facet_at n) else None
 
   abbrev polytope_at : ℕ → Element
   polytope_at n = polytope (twos (digits d n)) (face_numbers (digits d n)) (plane_at n (facet_at n)) (facet_at n)

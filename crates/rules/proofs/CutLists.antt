@@ -18,8 +18,6 @@ use Rattle.rules.specs.Calls.{Call, after, after_calls, TableStays}
 use Rattle.rules.specs.CutLists.{call_of, calls_of, after_first, singly, AnsweredAs, MadeSingly, EndsAs, CutListNumbers, RefusedCutListLeaves, CutListIsCuts, StoppedAtTheRefused}
 use Rattle.rules.specs.CutLists.{going_on_by, CutListGoesOn, AnsweredAgain, CutListAgain}
 use Rattle.rules.specs.declared.ElementAnswer.{ElementAnswer}
-use Rattle.rules.specs.declared.CutReply.{CutReply}
-use Rattle.rules.specs.declared.CutReply.TheVariants as one
 use Rattle.rules.specs.declared.CutListReply.{CutListReply}
 use Rattle.rules.specs.declared.CutListReply.TheVariants.{Refused, Stopped, Answered}
 use Rattle.rules.proofs.AfterList.{Result, list_by, list_by_lem, after_cuts, after_list}
@@ -28,18 +26,23 @@ use Rattle.rules.proofs.Counting.{length_up, getD_up}
 use Rattle.rules.proofs.Laws.{le_test, not_le, test_above}
 use Rattle.rules.proofs.OneCall.{memory_sound}
 use Rattle.rules.proofs.Refusals.{refused_leaves, sound_refusal_number}
+use Rattle.rules.specs.Refusals.{Reply}
+use Rattle.std.specs.Prelude.{Err, Ok}
+use Rattle.rules.specs.declared.Refusal.TheVariants.{NotSound, ListLong, RoomShort}
+use Rattle.rules.specs.Refusals.{refusal_number}
+use Rattle.rules.specs.declared.Refusal.{Refusal}
 
 -- ---- some cuts, from a position on
 
 module _ (L : Limits) where
   -- the cut with number j of some, made singly after those before it
-  abbrev one_of : ListedCut → List ListedCut → ℕ → Memory → CutReply × Memory
+  abbrev one_of : ListedCut → List ListedCut → ℕ → Memory → Reply ElementAnswer × Memory
   one_of d cs j m = cut_reply L (get_or cs j d).params (get_or cs j d).root (after_calls L (take j (map call_of cs)) m)
 
   -- how a list from a position on ends, after this many of its cuts
   abbrev Ended : ListedCut → List ListedCut → ℕ → Memory → Memory → CutListReply → Type 0
   Ended d cs k m m' (Refused n) = ⊥
-  Ended d cs k m m' (Stopped n i) = (k < length cs) × (one_of d cs k m ≡ (one.Refused n, m'))
+  Ended d cs k m m' (Stopped n i) = (k < length cs) × (one_of d cs k m ≡ (Err n, m'))
   Ended d cs k m m' (Answered i) = k ≡ length cs
 
   -- the cuts made of a list from position i on
@@ -107,10 +110,10 @@ module _ (L : Limits) where
   }
   ran d (c ∷ cs) i room m fits = go (cut_reply L c.params c.root m).0 (cut_reply L c.params c.root m).1 refl (λ word m' k. ran d cs (suc i) (set room i word) m' k)
     where
-      go : (r : CutReply) (m' : Memory) → cut_reply L c.params c.root m ≡ (r, m')
+      go : (r : Reply ElementAnswer) (m' : Memory) → cut_reply L c.params c.root m ≡ (r, m')
           → ((word : ℕ) (m' : Memory) → suc i + length cs ≤ length (set room i word) → Ran d cs (suc i) (set room i word) m' (cuts_from L cs (suc i) (set room i word) m'))
           → Ran d (c ∷ cs) i room m (going_on i room (r, m') (cuts_from L cs (suc i)))
-      go (one.Refused n) m' e later = record {
+      go (Err n) m' e later = record {
         made = 0;
         few = zero-le;
         written = sym (add-zero i);
@@ -122,10 +125,10 @@ module _ (L : Limits) where
         answers = λ j h. absurd (not-suc-le-zero h);
         ended = (let z : 0 < suc (length cs) = omega arith in z, e);
       }
-      go (one.Answered a w) m' e later =
-          ran_more d c cs m m' (ap (λ (x : CutReply × Memory). x.1) e) i (output_word a w) room (let z : i < length room = omega (arith, fits) in z)
-          (record { answer = record { output = a; warning = w }; reply = ap (λ (x : CutReply × Memory). x.0) e; told = refl })
-          (later (output_word a w) m' (let k = length-set room i (output_word a w) in let z : suc i + length cs ≤ length (set room i (output_word a w)) = omega (arith, fits, k) in z))
+      go (Ok a) m' e later =
+          ran_more d c cs m m' (ap (λ (x : Reply ElementAnswer × Memory). x.1) e) i (output_word a.output a.warning) room (let z : i < length room = omega (arith, fits) in z)
+          (record { answer = a; reply = ap (λ (x : Reply ElementAnswer × Memory). x.0) e; told = refl })
+          (later (output_word a.output a.warning) m' (let k = length-set room i (output_word a.output a.warning) in let z : suc i + length cs ≤ length (set room i (output_word a.output a.warning)) = omega (arith, fits, k) in z))
 
 -- ---- the whole call
 
@@ -145,16 +148,16 @@ module _ (L : Limits) (l : CutList) where
   module _ (room : List ℕ) (m : Memory) where
     -- refused before any cut, or the cuts are made of a sound memory, with room for all answers
     data Way : Type 0 where
-      unmade : (n : ℕ) → member n (3 ∷ 26 ∷ 12 ∷ []) ≡ true → cut_list_reply L l room m ≡ (Refused n, room, m) → Way
+      unmade : (n : Refusal) → member (refusal_number n) (3 ∷ 26 ∷ 12 ∷ []) ≡ true → cut_list_reply L l room m ≡ (Refused n, room, m) → Way
       making : sound_memory L m ≡ true → list_fits L l ≡ true → length l.roots ≤ length room → cut_list_reply L l room m ≡ cuts_from L (cuts_of L l) 0 room m → Way
 
     way : Way
     way = go (sound_memory L m) (list_fits L l) (ltb (length room) (length l.roots)) refl refl refl (list_by_lem L l room m)
       where
         go : (s f k : Bool) → sound_memory L m ≡ s → list_fits L l ≡ f → ltb (length room) (length l.roots) ≡ k → cut_list_reply L l room m ≡ list_by L l room m s f k → Way
-        go false f k p t q e = unmade 3 refl e
-        go true false k p t q e = unmade 26 refl e
-        go true true true p t q e = unmade 12 refl e
+        go false f k p t q e = unmade NotSound refl e
+        go true false k p t q e = unmade ListLong refl e
+        go true true true p t q e = unmade RoomShort refl e
         go true true false p t q e = making p t (le_of_suc-le-suc (not_le (suc (length room)) (length l.roots) q)) e
 
     made_of : length l.roots ≤ length room → Ran L first (cuts_of L l) 0 room m (cuts_from L (cuts_of L l) 0 room m)
@@ -176,7 +179,7 @@ module _ (L : Limits) (l : CutList) (room : List ℕ) (m : Memory) where
       go (Refused n) w e = absurd e
       go (Stopped n i) w e = (
         sound_refusal_number L refusing.params refusing.root (after_first L l q.made m) n
-            (calls_follow L R (take q.made (calls_of L l)) m s q.calls).sound_after (ap (λ (x : CutReply × Memory). x.0) e.1),
+            (calls_follow L R (take q.made (calls_of L l)) m s q.calls).sound_after (ap (λ (x : Reply ElementAnswer × Memory). x.0) e.1),
         let k = as_many L l in let z : i < length l.roots = omega (arith, w, e.0, k) in z,
       )
       go (Answered k) w e = let j = as_many L l in let z : k ≡ length l.roots = omega (arith, w, e, j) in z
@@ -185,7 +188,7 @@ module _ (L : Limits) (l : CutList) (room : List ℕ) (m : Memory) where
   singly_made r q h =
       subst (λ (k : ℕ). MadeSingly L l k room r.1 m r.2) (sym (q.written ∙ zero-add q.made)) (record {
         few = few;
-        answers = λ i low. subst (λ (x : CutReply). AnsweredAs x (get_or r.1 i 0)) (ap (λ (x : CutReply × Memory). x.0) (single L l room m i (le_trans low few)))
+        answers = λ i low. subst (λ (x : Reply ElementAnswer). AnsweredAs x (get_or r.1 i 0)) (ap (λ (x : Reply ElementAnswer × Memory). x.0) (single L l room m i (le_trans low few)))
             (subst (λ (k : ℕ). AnsweredAs (one_of L (first L l) (cuts_of L l) i m).0 (get_or r.1 k 0)) (zero-add i) (q.answers i low));
         memory = q.memory;
         calls = q.calls;
@@ -195,12 +198,12 @@ module _ (L : Limits) (l : CutList) (room : List ℕ) (m : Memory) where
       few : q.made ≤ length l.roots
       few = let k = as_many L l in omega (arith, q.few, k)
 
-  stopped : (r : Result) (q : Ran L (first L l) (cuts_of L l) 0 room m r) (n i : ℕ) → r.0 ≡ Stopped n i → singly L l i m ≡ (one.Refused n, r.2)
+  stopped : (r : Result) (q : Ran L (first L l) (cuts_of L l) 0 room m r) (n : Refusal) (i : ℕ) → r.0 ≡ Stopped n i → singly L l i m ≡ (Err n, r.2)
   stopped r q n i e =
       let k = subst (Ended L (first L l) (cuts_of L l) q.made m r.2) e q.ended in
       let at : q.made ≡ i = sym (zero-add q.made) ∙ sym q.written ∙ ap answers_written e in
       let many = as_many L l in
-      subst (λ (j : ℕ). singly L l j m ≡ (one.Refused n, r.2)) at
+      subst (λ (j : ℕ). singly L l j m ≡ (Err n, r.2)) at
       (sym (single L l room m q.made (let z : q.made < length l.roots = omega (arith, k.0, many) in z)) ∙ k.1)
 
 pub cut_list_numbers : (L : Limits) → Readable L → CutListNumbers L
@@ -234,10 +237,10 @@ cut_list_is_cuts L l room m = go (way L l room m)
 pub stopped_at_the_refused : (L : Limits) → StoppedAtTheRefused L
 stopped_at_the_refused L l room m n i w = go (way L l room m)
   where
-    go : Way L l room m → singly L l i m ≡ (one.Refused n, (cut_list_reply L l room m).2)
+    go : Way L l room m → singly L l i m ≡ (Err n, (cut_list_reply L l room m).2)
     go (unmade k h e) = let z = ap (λ (r : Result). r.0) e in let q : ◌≡◌ {A = ℕ} 0 1 = cc in absurd (suc-ne-zero 0 (sym q))
     go (making s t h e) =
-        stopped L l room m _ (made_of L l room m h) n i (sym (ap (λ (r : Result). r.0) e) ∙ w) ∙ (λ j. (one.Refused n, (sym e j).2))
+        stopped L l room m _ (made_of L l room m h) n i (sym (ap (λ (r : Result). r.0) e) ∙ w) ∙ (λ j. (Err n, (sym e j).2))
 
 -- ---- a list goes on after each of its cuts
 
@@ -278,7 +281,7 @@ module _ (L : Limits) (R : Readable L) where
     pub answers : (j : ℕ) → i ≤ j → j < k → get_or r.1 j 0 ≡ get_or filled j 0
 
   -- a list that stopped was not answered
-  not_stopped : {A : Type 0} (n i k : ℕ) → Stopped n i ≡ Answered k → A
+  not_stopped : {A : Type 0} (n : Refusal) (i k : ℕ) → Stopped n i ≡ Answered k → A
   not_stopped n i k e = let z : ◌≡◌ {A = ℕ} 0 1 = cc in absurd (suc-ne-zero 0 (sym z))
 
   again : (d : ListedCut) (cs : List ListedCut) (i k : ℕ) (room room' : List ℕ) (m later : Memory) → sound_memory L m ≡ true → i + length cs ≤ length room → i + length cs ≤ length room'
@@ -297,23 +300,20 @@ module _ (L : Limits) (R : Readable L) where
           → (cuts_from L cs (suc i) (set room i word) m').0 ≡ Answered k → Follows L (cuts_from L cs (suc i) (set room i word) m').2 later
           → Again (suc i) k (cuts_from L cs (suc i) (set room i word) m').1 (set room' i word) later (cuts_from L cs (suc i) (set room' i word) later)
 
-      go : (r : CutReply) (m' : Memory) → cut_reply L c.params c.root m ≡ (r, m') → (going_on i room (r, m') (cuts_from L cs (suc i))).0 ≡ Answered k
+      go : (r : Reply ElementAnswer) (m' : Memory) → cut_reply L c.params c.root m ≡ (r, m') → (going_on i room (r, m') (cuts_from L cs (suc i))).0 ≡ Answered k
           → Follows L (going_on i room (r, m') (cuts_from L cs (suc i))).2 later → ((word : ℕ) (m' : Memory) → Next word m')
           → Again i k (going_on i room (r, m') (cuts_from L cs (suc i))).1 room' later (cuts_from L (c ∷ cs) i room' later)
-      go (one.Refused n) m' q e f rest = not_stopped n i k e
-      go (one.Answered a w) m' q e f rest =
-          subst (λ (r : CutReply × Memory). Again i k (cuts_from L cs (suc i) (set room i word) m').1 room' later (going_on i room' r (cuts_from L cs (suc i))))
-          (sym (same_sides L R c.params c.root m answer m' q later follows))
+      go (Err n) m' q e f rest = not_stopped n i k e
+      go (Ok a) m' q e f rest =
+          subst (λ (r : Reply ElementAnswer × Memory). Again i k (cuts_from L cs (suc i) (set room i word) m').1 room' later (going_on i room' r (cuts_from L cs (suc i))))
+          (sym (same_sides L R c.params c.root m a m' q later follows))
           (record { reply = y.reply; memory = y.memory; front = λ j low. y.front j (omega (arith, low)) ∙ get_or-set_other room' i j word 0 (λ x. absurd (omega (arith, low, x))); answers = answers })
         where
           word : ℕ
-          word = output_word a w
-
-          answer : ElementAnswer
-          answer = record { output = a; warning = w }
+          word = output_word a.output a.warning
 
           sound_next : sound_memory L m' ≡ true
-          sound_next = memory_sound L R c.params c.root m answer m' q
+          sound_next = memory_sound L R c.params c.root m a m' q
 
           follows : Follows L m' later
           follows =

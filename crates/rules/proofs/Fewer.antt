@@ -7,15 +7,15 @@ use Rattle.rules.specs.Cut.{Cutting, Params, Gathered, including, gathering, gat
 use Rattle.rules.specs.declared.ElementCutOutput.{ElementCutOutput}
 use Rattle.rules.specs.declared.ElementCutOutput.TheVariants.{Flush, NonFlush}
 use Rattle.rules.specs.declared.ElementAnswer.{ElementAnswer}
-use Rattle.rules.specs.declared.ElementOrNone.{ElementOrNone}
-use Rattle.rules.specs.declared.ElementOrNone.TheVariants.{None}
+use Rattle.rules.specs.declared.ElementId.{ElementId}
+use Rattle.std.specs.Prelude.{Option, None}
 
 -- which sides are dropped
 pub record Dropped : Type 0 where
   pub inside : Bool
   pub outside : Bool
 
-abbrev pub less : Bool → ElementOrNone → ElementOrNone
+abbrev pub less : Bool → Option ElementId → Option ElementId
 less true p = None
 less false p = p
 
@@ -50,7 +50,7 @@ less_gathered d g = record {
   warning = g.warning;
 }
 
-pub less_including : (b : Bool) (p : ElementOrNone) (s : List ℕ) → including (less b p) (less_set b s) ≡ less_set b (including p s)
+pub less_including : (b : Bool) (p : Option ElementId) (s : List ℕ) → including (less b p) (less_set b s) ≡ less_set b (including p s)
 less_including true p s = refl
 less_including false p s = refl
 

@@ -1,9 +1,8 @@
 -- The three kinds of records, there and back: a record that was written is read, and a record that is read was written so.
-use Rattle.std.specs.Prelude.{if◌then◌else◌}
+use Rattle.std.specs.Prelude.{if◌then◌else◌, Some, None}
 use Prim.Native.Nat.{ℕ, suc, ◌≤◌, ◌<◌}
 use mathlib.Core.Bool.{Bool, true, false, not, ◌&&◌, cond, true≢false}
 use mathlib.Core.List.{List, [], ◌∷◌, ◌++◌, append_assoc, append-nil}
-use mathlib.Core.Option.{none, some}
 use mathlib.Core.Path.{◌≡◌, refl, sym, ap, subst, ◌∙◌}
 use native.Mathlib.Omega.{arith}
 use lib.Dec.{leb, ltb, eqb}
@@ -87,7 +86,7 @@ pub row_only : (r m h c : ℕ) (b : List ℕ) → element_fits r m h c ≡ true 
 unfolding element_row read_element
 row_only r m h c b k l = go (eqb r 0) refl (and_right (leb m 1) _ k)
   where
-    named : (x : Bool) → eqb h no_plane ≡ x → plane_number (if x then none else some h) ≡ h
+    named : (x : Bool) → eqb h no_plane ≡ x → plane_number (if x then None else Some h) ≡ h
     named true e = sym (eq_test h no_plane e)
     named false e = refl
 

@@ -14,16 +14,16 @@ use Rattle.rules.specs.Held.{Begins, Extends}
 use Rattle.rules.specs.declared.ElementCutOutput.{ElementCutOutput}
 use Rattle.rules.specs.declared.ElementCutOutput.TheVariants.{Flush, NonFlush}
 use Rattle.rules.specs.declared.ElementAnswer.{ElementAnswer}
-use Rattle.rules.specs.declared.ElementOrNone.{ElementOrNone}
-use Rattle.rules.specs.declared.ElementOrNone.TheVariants.{Some, None}
 use Rattle.rules.specs.declared.Side.{Side}
 use Rattle.rules.specs.declared.Side.TheVariants.{Inside, On, Outside}
 use Rattle.rules.proofs.Extends.{Below, below_with, below_more, element_same, grown_element, begins_length}
 use Rattle.rules.proofs.Growing.{length_snoc}
+use Rattle.rules.specs.declared.ElementId.{ElementId}
+use Rattle.std.specs.Prelude.{Option, Some, None}
 
 -- ---- numbers in use
 
-abbrev pub SomeIn : ElementOrNone → ℕ → Type 0
+abbrev pub SomeIn : Option ElementId → ℕ → Type 0
 SomeIn None n = Unit {0}
 SomeIn (Some e) n = e.0 < n
 
@@ -40,11 +40,11 @@ pub record GatheredIn (g : Gathered) (n : ℕ) : Type 0 where
   pub outside : Below n g.outside
   pub intersections : Below n g.intersections
 
-pub some_more : {n m : ℕ} (p : ElementOrNone) → n ≤ m → SomeIn p n → SomeIn p m
+pub some_more : {n m : ℕ} (p : Option ElementId) → n ≤ m → SomeIn p n → SomeIn p m
 some_more None l h = tt
 some_more (Some e) l h = le_trans h l
 
-pub below_including : (n : ℕ) (p : ElementOrNone) (s : List ℕ) → SomeIn p n → Below n s → Below n (including p s)
+pub below_including : (n : ℕ) (p : Option ElementId) (s : List ℕ) → SomeIn p n → Below n s → Below n (including p s)
 below_including n None s h b = b
 below_including n (Some e) s h b = below_with n e.0 s h b
 

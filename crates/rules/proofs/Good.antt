@@ -1,10 +1,9 @@
 -- Soundness by its parts, and what it says of one element: the record `Good` has a field for each test of `sound`.
 -- An element that is sound stays sound in a table that extends.
-use Rattle.std.specs.Prelude.{if◌then◌else◌}
+use Rattle.std.specs.Prelude.{if◌then◌else◌, Option, Some, None}
 use Prim.Native.Nat.{ℕ, suc, ◌≤◌, ◌<◌}
 use mathlib.Core.Bool.{true, ◌&&◌, Bool, not, false}
 use mathlib.Core.List.{map, List, [], ◌∷◌}
-use mathlib.Core.Option.{Option, none, some}
 use mathlib.Core.Path.{◌≡◌, ap, subst, refl, ap₂, ◌∙◌, sym}
 use native.Mathlib.Nat.{le_trans, zero-add, le_refl, le_of_lt, not-suc-le-zero}
 use lib.Dec.{leb, eqb, ltb}
@@ -137,8 +136,8 @@ bounded_later t l e r b x n g =
     }
 
 pub names_later : (t l : Table) (h : Option ℕ) → Extends t l → names_plane t h ≡ true → names_plane l h ≡ true
-names_later t l none x k = k
-names_later t l (some n) x k = test_le (suc n) (length l.planes) (le_trans (le_test (suc n) (length t.planes) k) (begins_length t.planes l.planes x.planes))
+names_later t l None x k = k
+names_later t l (Some n) x k = test_le (suc n) (length l.planes) (le_trans (le_test (suc n) (length t.planes) k) (begins_length t.planes l.planes x.planes))
 
 pub facet_later : (t l : Table) (r : ℕ) (h : Option ℕ) (m : Bool) → Extends t l → sound_facet t r h m ≡ true → sound_facet l r h m ≡ true
 unfolding sound_facet

@@ -2,7 +2,6 @@
 use Prim.Native.Nat.{ℕ, zero-le}
 use mathlib.Core.Bool.{Bool, true}
 use mathlib.Core.List.{List, map, ◌∷◌, [], append-nil, ◌++◌}
-use mathlib.Core.Option.{Option, none}
 use mathlib.Core.Path.{◌≡◌, subst, sym, ap, ◌∙◌, refl}
 use native.Mathlib.Nat.{zero-add, le_refl, le_trans}
 use lib.Dec.{ltb, leb}
@@ -17,9 +16,10 @@ use Rattle.rules.proofs.Extends.{grown_element, with_vertex, grown_vertex, begin
 use Rattle.rules.proofs.Good.{Good, Whole, elements_later, sound_later, whole_sound}
 use Rattle.rules.proofs.Growing.{length_snoc, all_snoc, keep_append, all_from_snoc, apart_snoc, map_append, up_from_snoc}
 use Rattle.rules.proofs.Laws.{test_le, le_test}
+use Rattle.std.specs.Prelude.{Option, None}
 
 pub good_polytope : (L : Limits) (t : Table) (r : ℕ) (b : List ℕ) (h : Option ℕ) (m : Bool) → Good L t → Whole t (element_count t) r b h m
-    → ltb (element_count t) L.elements ≡ true → leb (length b) L.boundary ≡ true → find (same_element (polytope r b h m)) t.elements ≡ none
+    → ltb (element_count t) L.elements ≡ true → leb (length b) L.boundary ≡ true → find (same_element (polytope r b h m)) t.elements ≡ None
     → Good L (with_element (polytope r b h m) t)
 good_polytope L t r b h m g w room short fresh =
     let y : Element = polytope r b h m in
@@ -41,7 +41,7 @@ good_polytope L t r b h m g w room short fresh =
     }
 
 pub good_vertex : (L : Limits) (t : Table) (p : List Float) → Good L t → sound_point t.dimension p ≡ true
-    → ltb (length t.points) L.vertices ≡ true → ltb (element_count t) L.elements ≡ true → find (same_element (corner (length t.points))) t.elements ≡ none
+    → ltb (length t.points) L.vertices ≡ true → ltb (element_count t) L.elements ≡ true → find (same_element (corner (length t.points))) t.elements ≡ None
     → Good L (with_vertex p t)
 good_vertex L t p g sp roomV roomE fresh =
     let n = length t.points in

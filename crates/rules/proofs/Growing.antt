@@ -1,10 +1,9 @@
 -- Lists that grow by one, and what a search says of them: what is found stays found, and what is not found and then appended is found there.
 -- All by induction over the list.
-use Rattle.std.specs.Prelude.{if◌then◌else◌}
+use Rattle.std.specs.Prelude.{if◌then◌else◌, Option, Some, None}
 use Prim.Native.Nat.{ℕ, ◌<◌, ◌+◌, suc, zero, ◌≤◌}
 use mathlib.Core.Bool.{Bool, true, false, not}
 use mathlib.Core.List.{List, ◌++◌, [], ◌∷◌, map}
-use mathlib.Core.Option.{Option, some, none}
 use mathlib.Core.Path.{◌≡◌, subst, ap, refl, sym, ◌∙◌}
 use native.Mathlib.Nat.{add-zero, not-suc-le-zero, le_of_suc-le-suc}
 use native.Mathlib.Omega.{arith}
@@ -14,37 +13,37 @@ use Rattle.rules.proofs.Laws.{value_of, IsSome, and_true, and_left, and_right, n
 
 -- ---- a search in a longer list
 
-pub if_found : (b : Bool) (n i : ℕ) (r s : Option ℕ) → (r ≡ some i → s ≡ some i) → (if b then some n else r) ≡ some i → (if b then some n else s) ≡ some i
+pub if_found : (b : Bool) (n i : ℕ) (r s : Option ℕ) → (r ≡ Some i → s ≡ Some i) → (if b then Some n else r) ≡ Some i → (if b then Some n else s) ≡ Some i
 if_found true n i r s k h = h
 if_found false n i r s k h = k h
 
-pub if_bound : (b : Bool) (n i m : ℕ) (r : Option ℕ) → n < m → (r ≡ some i → i < m) → (if b then some n else r) ≡ some i → i < m
+pub if_bound : (b : Bool) (n i m : ℕ) (r : Option ℕ) → n < m → (r ≡ Some i → i < m) → (if b then Some n else r) ≡ Some i → i < m
 if_bound true n i m r l k h = subst (λ (j : ℕ). j < m) (ap value_of h) l
 if_bound false n i m r l k h = k h
 
-pub if_none : (b : Bool) (n : ℕ) (r : Option ℕ) → (if b then some n else r) ≡ none → (b ≡ false) × (r ≡ none)
+pub if_none : (b : Bool) (n : ℕ) (r : Option ℕ) → (if b then Some n else r) ≡ None → (b ≡ false) × (r ≡ None)
 if_none true n r h = absurd (subst IsSome h tt)
 if_none false n r h = (refl, h)
 
 module _ {A : Type 0} (p : A → Bool) where
   -- what is found stays found
-  pub find_found : (n i : ℕ) (xs zs : List A) → find_from n p xs ≡ some i → find_from n p (xs ++ zs) ≡ some i
+  pub find_found : (n i : ℕ) (xs zs : List A) → find_from n p xs ≡ Some i → find_from n p (xs ++ zs) ≡ Some i
   find_found n i [] zs h = absurd (subst IsSome (sym h) tt)
   find_found n i (x ∷ xs) zs h = if_found (p x) n i (find_from (suc n) p xs) (find_from (suc n) p (xs ++ zs)) (find_found (suc n) i xs zs) h
 
-  pub find_bound : (n i : ℕ) (xs : List A) → find_from n p xs ≡ some i → i < n + length xs
+  pub find_bound : (n i : ℕ) (xs : List A) → find_from n p xs ≡ Some i → i < n + length xs
   find_bound n i [] h = absurd (subst IsSome (sym h) tt)
   find_bound n i (x ∷ xs) h =
       if_bound (p x) n i (n + suc (length xs)) (find_from (suc n) p xs) (omega arith)
       (λ k. let j : i < suc n + length xs = find_bound (suc n) i xs k in omega arith) h
 
   -- what is not found, and then appended, is found there
-  pub find_new : (n : ℕ) (e : A) (xs zs : List A) → p e ≡ true → find_from n p xs ≡ none → find_from n p (xs ++ e ∷ zs) ≡ some (n + length xs)
-  find_new n e [] zs k h = ap (λ (b : Bool). if b then some n else find_from (suc n) p zs) k ∙ ap {B = Option ℕ} some (sym (add-zero n))
+  pub find_new : (n : ℕ) (e : A) (xs zs : List A) → p e ≡ true → find_from n p xs ≡ None → find_from n p (xs ++ e ∷ zs) ≡ Some (n + length xs)
+  find_new n e [] zs k h = ap (λ (b : Bool). if b then Some n else find_from (suc n) p zs) k ∙ ap {B = Option ℕ} Some (sym (add-zero n))
   find_new n e (x ∷ xs) zs k h =
       let q = if_none (p x) n (find_from (suc n) p xs) h in
       let s : suc n + length xs ≡ n + suc (length xs) = omega arith in
-      ap (λ (b : Bool). if b then some n else find_from (suc n) p (xs ++ e ∷ zs)) q.0 ∙ find_new (suc n) e xs zs k q.1 ∙ ap {B = Option ℕ} some s
+      ap (λ (b : Bool). if b then Some n else find_from (suc n) p (xs ++ e ∷ zs)) q.0 ∙ find_new (suc n) e xs zs k q.1 ∙ ap {B = Option ℕ} Some s
 
 -- ---- tests of a longer list
 
@@ -95,7 +94,7 @@ module _ {A : Type 0} where
       go false e = e
 
   -- what is not found is apart from all
-  pub apart_snoc : (p : A → A → Bool) (n : ℕ) (xs : List A) (e : A) → distinct p xs ≡ true → find_from n (p e) xs ≡ none → distinct p (xs ++ e ∷ []) ≡ true
+  pub apart_snoc : (p : A → A → Bool) (n : ℕ) (xs : List A) (e : A) → distinct p xs ≡ true → find_from n (p e) xs ≡ None → distinct p (xs ++ e ∷ []) ≡ true
   apart_snoc p n [] e h k = refl
   apart_snoc p n (x ∷ xs) e h k =
       let q = if_none (p e x) n (find_from (suc n) (p e) xs) k in
@@ -109,12 +108,12 @@ module _ {A : Type 0} where
           let s = or_false (p y x) (any (λ z. p z x) ys) g in neither (p y x) (any (λ z. p z x) (ys ++ e ∷ [])) s.0 (any_snoc ys s.1 g')
 
   -- what a search finds passes the test
-  pub find_holds : (p : A → Bool) (n i : ℕ) (xs : List A) (d : A) → find_from n p xs ≡ some i → (j : ℕ) × (n + j ≡ i) × (p (get_or xs j d) ≡ true)
+  pub find_holds : (p : A → Bool) (n i : ℕ) (xs : List A) (d : A) → find_from n p xs ≡ Some i → (j : ℕ) × (n + j ≡ i) × (p (get_or xs j d) ≡ true)
   find_holds p n i [] d h = absurd (subst IsSome (sym h) tt)
   find_holds p n i (x ∷ xs) d h = go (p x) refl h (λ k. find_holds p (suc n) i xs d k)
     where
-      go : (b : Bool) → p x ≡ b → (if b then some n else find_from (suc n) p xs) ≡ some i
-          → (find_from (suc n) p xs ≡ some i → (j : ℕ) × (suc n + j ≡ i) × (p (get_or xs j d) ≡ true))
+      go : (b : Bool) → p x ≡ b → (if b then Some n else find_from (suc n) p xs) ≡ Some i
+          → (find_from (suc n) p xs ≡ Some i → (j : ℕ) × (suc n + j ≡ i) × (p (get_or xs j d) ≡ true))
           → (j : ℕ) × (n + j ≡ i) × (p (get_or (x ∷ xs) j d) ≡ true)
       go true e g r = (zero, add-zero n ∙ ap value_of g, e)
       go false e g r =

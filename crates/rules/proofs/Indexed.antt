@@ -1,10 +1,9 @@
 -- Lists by index, for loops that go over them: what is left from i on is the entry at i, and what is left from i + 1 on.
 -- A loop's invariant says that what is asked of the whole list is asked of what is left.
-use Rattle.std.specs.Prelude.{if◌then◌else◌}
+use Rattle.std.specs.Prelude.{if◌then◌else◌, Option, Some, None}
 use Prim.Native.Nat.{ℕ, zero, suc, ◌+◌, ◌-◌, ◌*◌, ◌≤◌, ◌<◌}
 use mathlib.Core.Path.{◌≡◌, refl, sym, ap, ap₂, ◌∙◌}
 use mathlib.Core.Bool.{Bool, true, false, ◌&&◌}
-use mathlib.Core.Option.{Option, none, some}
 use mathlib.Core.List.{List, [], ◌∷◌, map}
 use native.Mathlib.Nat.{le_trans, le_of_eq, zero-mul, suc-mul}
 use native.Mathlib.Numerals.{add-one}
@@ -122,18 +121,18 @@ module _ {A B : Type 0} (g : List A → B) (p : B → Bool) (w n : ℕ) (l : Lis
       drop_map (suc k) [] = refl
       drop_map (suc k) (x ∷ xs) = drop_map k xs
 
-  sought_at : (i : ℕ) → i < n → sought_from i ≡ (if p (g (take w (drop (i * w) l))) then some i else sought_from (i + 1))
+  sought_at : (i : ℕ) → i < n → sought_from i ≡ (if p (g (take w (drop (i * w) l))) then Some i else sought_from (i + 1))
   unfolding sought_from
   sought_at i h =
       ap (λ (rs : List (List A)). find_from i p (map g rs)) (rows_on w i n l h)
-      ∙ ap (λ (k : ℕ). if p (g (take w (drop (i * w) l))) then some i else find_from k p (map g (rows (n - (i + 1)) w (drop ((i + 1) * w) l)))) (sym (add-one i))
+      ∙ ap (λ (k : ℕ). if p (g (take w (drop (i * w) l))) then Some i else find_from k p (map g (rows (n - (i + 1)) w (drop ((i + 1) * w) l)))) (sym (add-one i))
 
   pub sought_on : {o : Option ℕ} (i : ℕ) → i < n → o ≡ sought_from i → p (g (take w (drop (i * w) l))) ≡ false → o ≡ sought_from (i + 1)
-  sought_on i h e q = e ∙ sought_at i h ∙ if_false (p (g (take w (drop (i * w) l)))) (some i) (sought_from (i + 1)) q
+  sought_on i h e q = e ∙ sought_at i h ∙ if_false (p (g (take w (drop (i * w) l)))) (Some i) (sought_from (i + 1)) q
 
-  pub sought_here : {o : Option ℕ} (i : ℕ) → i < n → o ≡ sought_from i → p (g (take w (drop (i * w) l))) ≡ true → some i ≡ o
-  sought_here i h e q = sym (e ∙ sought_at i h ∙ if_true (p (g (take w (drop (i * w) l)))) (some i) (sought_from (i + 1)) q)
+  pub sought_here : {o : Option ℕ} (i : ℕ) → i < n → o ≡ sought_from i → p (g (take w (drop (i * w) l))) ≡ true → Some i ≡ o
+  sought_here i h e q = sym (e ∙ sought_at i h ∙ if_true (p (g (take w (drop (i * w) l)))) (Some i) (sought_from (i + 1)) q)
 
-  pub sought_none : {o : Option ℕ} (i : ℕ) → n ≤ i → o ≡ sought_from i → none ≡ o
+  pub sought_none : {o : Option ℕ} (i : ℕ) → n ≤ i → o ≡ sought_from i → None ≡ o
   unfolding sought_from
   sought_none i h e = sym (e ∙ ap (λ (m : ℕ). find_from i p (map g (rows m w (drop (i * w) l)))) (let q : n - i ≡ 0 = omega arith in q))

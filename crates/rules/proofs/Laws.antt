@@ -1,12 +1,14 @@
 -- Small laws of tests: from a Boolean that is true to the fact that it tests, and back.
 -- Everything else cites them, so no file proves one again.
-use Rattle.std.specs.Prelude.{if◌then◌else◌}
+use Rattle.std.specs.Prelude.{if◌then◌else◌, Option, Some, None}
 use Prim.Native.Nat.{ℕ, ◌≤◌, ◌<◌}
 use mathlib.Core.Bool.{true, false, Bool, cond, false≢true, not, true≢false, ◌&&◌, ◌||◌, beq}
-use mathlib.Core.Option.{Option, none, some}
 use mathlib.Core.Path.{◌≡◌, refl, subst, sym, ◌∙◌}
 use native.Mathlib.Nat.{lt_irrefl, le_trans, suc-ne-zero}
 use lib.Dec.{T, leb, leb→le, le→leb, nleb→lt, eqb, eqb_refl, eqb→eq}
+use Rattle.std.specs.Prelude.{Ok, Err, is_err}
+use Rattle.rules.specs.Refusals.{Reply}
+use Rattle.rules.specs.declared.Refusal.{Refusal}
 
 -- ---- true and false
 
@@ -153,17 +155,21 @@ module _ {A : Type 0} where
 -- ---- what a search gives
 
 -- none is no some
-pub none_some : {A B : Type 0} (x : A) → ◌≡◌ {A = Option A} none (some x) → B
+pub none_some : {A B : Type 0} (x : A) → ◌≡◌ {A = Option A} None (Some x) → B
 none_some x e = absurd (let z : ◌≡◌ {A = ℕ} 0 1 = cc in suc-ne-zero 0 (sym z))
 
 abbrev pub IsSome : Option ℕ → Type 0
-IsSome none = ⊥
-IsSome (some i) = Unit {0}
+IsSome None = ⊥
+IsSome (Some i) = Unit {0}
 
 abbrev pub value_of : Option ℕ → ℕ
-value_of none = 0
-value_of (some i) = i
+value_of None = 0
+value_of (Some i) = i
 
 abbrev pub is_found : Option ℕ → Bool
-is_found none = false
-is_found (some i) = true
+is_found None = false
+is_found (Some i) = true
+
+-- a reply is a refusal or an answer
+pub not_both : {A B : Type 0} {x : Refusal} {a : A} → ◌≡◌ {A = Reply A} (Err x) (Ok a) → B
+not_both {A} q = absurd (subst (λ (r : Reply A). T (is_err r)) q tt)

@@ -61,7 +61,7 @@ pub mod Stays
 pub mod StaysCut
 pub mod TouchCuts
 pub mod TouchReplies
-pub mod Touched
+pub mod Touching
 pub mod Uncrossed
 pub mod VertexSet
 pub mod WalkRound

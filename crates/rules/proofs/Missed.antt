@@ -1,10 +1,9 @@
 -- A missed piece is its old entry: where all corners of an element lie on one kept side, the cut gives the element itself on that side and leaves the table.
 -- By induction over the rank: the boundary gathers itself, and the search for the new piece finds the old one.
-use Rattle.std.specs.Prelude.{if◌then◌else◌}
+use Rattle.std.specs.Prelude.{if◌then◌else◌, Option, Some, None}
 use Prim.Native.Nat.{◌-◌, ℕ, ◌<◌, suc, zero, ◌+◌}
 use mathlib.Core.Bool.{Bool, true, false, not, false≢true, ◌||◌}
 use mathlib.Core.List.{List, [], ◌∷◌, ◌++◌, append-nil, append_assoc}
-use mathlib.Core.Option.{none, some, Option}
 use mathlib.Core.Path.{◌≡◌, ◌∙◌, ap, sym, refl, subst, ap₂, fun_ext}
 use native.Mathlib.Nat.{not-suc-le-zero, le_of_suc-le-suc, add-zero, suc_inj, zero-add, suc-ne-zero, le_of_lt}
 use native.Mathlib.Omega.{arith}
@@ -20,9 +19,7 @@ use Rattle.rules.specs.Cut.{next, Cutting, Params, Gathered, nothing_yet, gather
 use Rattle.rules.specs.Cut.{rule7, rule6, plane_of_intersection, cut_edge, cut_higher, cut_element, cut_ends, cut_corner, distance_of, refused, add_plane, plane_matches, share_plane, cut_at_distance}
 use Rattle.rules.specs.Questions.{reaches}
 use Rattle.rules.specs.Held.{AllOf, Extends, Ranked}
-use Rattle.rules.specs.declared.Crossing.TheVariants.{None as NoCrossing}
 use Rattle.rules.specs.declared.ElementAnswer.{ElementAnswer}
-use Rattle.rules.specs.declared.ElementOrNone.TheVariants.{None}
 use Rattle.rules.specs.declared.Side.{Side}
 use Rattle.rules.specs.declared.Side.TheVariants.{Inside, Outside}
 use Rattle.rules.proofs.CloseBelow.{close_below, close_later}
@@ -44,13 +41,13 @@ module _ {A : Type 0} (p : A → A → Bool) (self : (x : A) → p x x ≡ true)
   none_at (x ∷ xs) zero d y l h = (or_false (p x y) (any (λ z. p z y) xs) h).0
   none_at (x ∷ xs) (suc i) d y l h = none_at xs i d y (le_of_suc-le-suc l) (or_false (p x y) (any (λ z. p z y) xs) h).1
 
-  pub find_own : (n i : ℕ) (xs : List A) (d : A) → i < length xs → distinct p xs ≡ true → find_from n (p (get_or xs i d)) xs ≡ some (n + i)
+  pub find_own : (n i : ℕ) (xs : List A) (d : A) → i < length xs → distinct p xs ≡ true → find_from n (p (get_or xs i d)) xs ≡ Some (n + i)
   find_own n i [] d l h = absurd (not-suc-le-zero l)
-  find_own n zero (x ∷ xs) d l h = if_true (p x x) (some n) _ (self x) ∙ ap {B = Option ℕ} some (sym (add-zero n))
+  find_own n zero (x ∷ xs) d l h = if_true (p x x) (Some n) _ (self x) ∙ ap {B = Option ℕ} Some (sym (add-zero n))
   find_own n (suc i) (x ∷ xs) d l h =
       let e : suc n + i ≡ n + suc i = omega arith in
-      if_false (p (get_or xs i d) x) (some n) _ (none_at xs i d x (le_of_suc-le-suc l) (not_true _ (and_left (not (any (λ y. p y x) xs)) (distinct p xs) h)))
-      ∙ find_own (suc n) i xs d (le_of_suc-le-suc l) (and_right (not (any (λ y. p y x) xs)) (distinct p xs) h) ∙ ap {B = Option ℕ} some e
+      if_false (p (get_or xs i d) x) (Some n) _ (none_at xs i d x (le_of_suc-le-suc l) (not_true _ (and_left (not (any (λ y. p y x) xs)) (distinct p xs) h)))
+      ∙ find_own (suc n) i xs d (le_of_suc-le-suc l) (and_right (not (any (λ y. p y x) xs)) (distinct p xs) h) ∙ ap {B = Option ℕ} Some e
 
 all_middle : (p : ℕ → Bool) (xs : List ℕ) (y : ℕ) (ys : List ℕ) → all p (xs ++ y ∷ ys) ≡ true → p y ≡ true
 all_middle p [] y ys h = and_left (p y) (all p ys) h
@@ -150,7 +147,7 @@ Lies side s = s ≡ side
 -- ---- an edge that is not crossed asks its two ends, as a higher element asks its boundary
 
 module _ (L : Limits) (t : Table) (c : Cutting) (P : Side → Type 0) (apart : (a b : Side) → P a → P b → opposite a b ≡ false) where
-  no_crossing : (sa sb : Float) → P (side_of sa) → P (side_of sb) → crossing_of sa sb ≡ NoCrossing
+  no_crossing : (sa sb : Float) → P (side_of sa) → P (side_of sb) → crossing_of sa sb ≡ None
   unfolding crossing_of
   no_crossing sa sb p q = if_false (opposite (side_of sa) (side_of sb)) _ _ (apart (side_of sa) (side_of sb) p q)
 
@@ -175,10 +172,10 @@ module _ (L : Limits) (t : Table) (c : Cutting) (P : Side → Type 0) (apart : (
 
 module _ (L : Limits) (t : Table) (good : Good L t) where
   module _ (e r : ℕ) (b : List ℕ) (h : Option ℕ) (m : Bool) (used : e < element_count t) (own : element t e ≡ polytope r b h m) where
-    found : find (same_element (polytope r b h m)) t.elements ≡ some e
+    found : find (same_element (polytope r b h m)) t.elements ≡ Some e
     found =
-        subst (λ (y : Element). find (same_element y) t.elements ≡ some e) own
-        (find_own same_element element_self 0 e t.elements (corner 0) used good.apart ∙ ap {B = Option ℕ} some (zero-add e))
+        subst (λ (y : Element). find (same_element y) t.elements ≡ Some e) own
+        (find_own same_element element_self 0 e t.elements (corner 0) used good.apart ∙ ap {B = Option ℕ} Some (zero-add e))
 
     -- its own boundary gives the element itself
     pub own_polytope : add_polytope L r b h m t ≡ done (given e) t
@@ -266,8 +263,8 @@ unfolding add_plane
 plane_unmoved L h t = go (find_from (primordials t.dimension) (λ g. plane_matches g h) (drop (primordials t.dimension) t.planes))
   where
     go : (o : Option ℕ) → Unmoved t (share_plane L h o t)
-    go (some n) = (refl, refl)
-    go none = either (Unmoved t) (ltb (length t.planes) L.hyperplanes) _ _ (refl, refl) tt
+    go (Some n) = (refl, refl)
+    go None = either (Unmoved t) (ltb (length t.planes) L.hyperplanes) _ _ (refl, refl) tt
 
 reaches_same : (t s : Table) → s.elements ≡ t.elements → (r e x : ℕ) → reaches s r e x ≡ reaches t r e x
 unfolding reaches

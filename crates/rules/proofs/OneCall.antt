@@ -1,6 +1,6 @@
 -- One cut call at the public reply: what an answer tells of the memory before and after, and what makes an answer.
 -- The reply is a chain of tests, so both ways go by cases on them.
-use Rattle.std.specs.Prelude.{if◌then◌else◌}
+use Rattle.std.specs.Prelude.{if◌then◌else◌, Err, Ok}
 use Prim.Native.Nat.{ℕ, ◌≤◌, suc}
 use mathlib.Core.Bool.{true, ◌&&◌, Bool, false≢true, false, not}
 use mathlib.Core.Path.{◌≡◌, subst, sym, refl, ◌∙◌, ap}
@@ -15,10 +15,8 @@ use Rattle.rules.specs.Table.{Table, element_count}
 use Rattle.rules.specs.Sound.{sound, sound_plane}
 use Rattle.rules.specs.Memory.{Memory, sound_memory, decode, right_size, same_memory, encode}
 use Rattle.rules.specs.Cut.{refused, cut, done, Outcome}
-use Rattle.rules.specs.Replies.{divider_fits, divider_of, params_of, distance_fits, as_reply, written, cut_reply}
+use Rattle.rules.specs.Replies.{divider_fits, divider_of, params_of, distance_fits, written, cut_reply}
 use Rattle.rules.specs.Promises.{Passes, NamesBelow}
-use Rattle.rules.specs.declared.CutReply.{CutReply}
-use Rattle.rules.specs.declared.CutReply.TheVariants.{Answered, Refused}
 use Rattle.rules.specs.declared.CutParams.{CutParams}
 use Rattle.rules.specs.declared.ElementAnswer.{ElementAnswer}
 use Rattle.rules.specs.declared.Hyperplane.{Hyperplane}
@@ -29,6 +27,9 @@ use Rattle.rules.proofs.Repeat.{NotInfinite}
 use Rattle.rules.proofs.RoundTrip.{written_sound, table_back}
 use Rattle.rules.proofs.Stays.{Stays, Kept}
 use Rattle.rules.proofs.StaysCut.{NamesInUse, cut_stays}
+use Rattle.rules.specs.Refusals.{Reply}
+use Rattle.rules.specs.declared.Refusal.TheVariants.{Divider, NotInUse, NotSound}
+use Rattle.rules.specs.declared.Refusal.{Refusal}
 
 -- a divider that fits, and is no infinity, is a sound plane of the table
 pub divider_sound : (L : Limits) (d : ℕ) (h : Hyperplane) → d ≤ L.dimensions → divider_fits L d h ≡ true → NotInfinite h.distance → sound_plane d (divider_of d h) ≡ true
@@ -66,14 +67,14 @@ sound_table L m s = and_right (right_size L m && same_memory (encode L (decode L
 
 -- ---- what an answer tells
 
-abbrev IsAnswered : CutReply → Type 0
-IsAnswered (Refused n) = ⊥
-IsAnswered (Answered a w) = Unit {0}
+abbrev IsAnswered : Reply ElementAnswer → Type 0
+IsAnswered (Err n) = ⊥
+IsAnswered (Ok a) = Unit {0}
 
 -- what it answers, with some answer where it is refused
-abbrev answer_or : ElementAnswer → CutReply → ElementAnswer
-answer_or b (Refused n) = b
-answer_or b (Answered a w) = record { output = a; warning = w }
+abbrev answer_or : ElementAnswer → Reply ElementAnswer → ElementAnswer
+answer_or b (Err n) = b
+answer_or b (Ok a) = a
 
 pub record Did (L : Limits) (p : CutParams) (root : ℕ) (m : Memory) (a : ElementAnswer) (m' : Memory) : Type 0 where
   pub passes : Passes L p.divider root m
@@ -86,30 +87,30 @@ module _ (L : Limits) (p : CutParams) (root : ℕ) (m : Memory) where
   made = cut L (params_of (decode L m).dimension p) root (decode L m)
 
   -- the reply, with its tests as arguments
-  abbrev pub reply_by : Bool → Bool → Bool → Outcome ElementAnswer → CutReply × Memory
-  reply_by s u f r = if not s then (Refused 3, m) else if not u then (Refused 4, m) else if not f then (Refused 5, m) else written L m r
+  abbrev pub reply_by : Bool → Bool → Bool → Outcome ElementAnswer → Reply ElementAnswer × Memory
+  reply_by s u f r = if not s then (Err NotSound, m) else if not u then (Err NotInUse, m) else if not f then (Err Divider, m) else written L m r
 
   pub reply_by_lem : cut_reply L p root m ≡ reply_by (sound_memory L m) (ltb root (element_count (decode L m))) (divider_fits L (decode L m).dimension p.divider) made
   unfolding cut_reply
   reply_by_lem = refl
 
-  pub did : (a : ElementAnswer) (m' : Memory) → cut_reply L p root m ≡ (as_reply a, m') → Did L p root m a m'
+  pub did : (a : ElementAnswer) (m' : Memory) → cut_reply L p root m ≡ (Ok a, m') → Did L p root m a m'
   did a m' e = go (sound_memory L m) (ltb root (element_count (decode L m))) (divider_fits L (decode L m).dimension p.divider) made refl refl refl refl (sym reply_by_lem ∙ e)
     where
-      no : {A : Type 0} (n : ℕ) → ◌≡◌ {A = CutReply × Memory} (Refused n, m) (as_reply a, m') → A
-      no n q = absurd (subst IsAnswered (sym (ap (λ (r : CutReply × Memory). r.0) q)) tt)
+      no : {A : Type 0} (n : Refusal) → ◌≡◌ {A = Reply ElementAnswer × Memory} (Err n, m) (Ok a, m') → A
+      no n q = absurd (subst IsAnswered (sym (ap (λ (r : Reply ElementAnswer × Memory). r.0) q)) tt)
 
       go : (s u f : Bool) (r : Outcome ElementAnswer) → sound_memory L m ≡ s → ltb root (element_count (decode L m)) ≡ u
-          → divider_fits L (decode L m).dimension p.divider ≡ f → made ≡ r → reply_by s u f r ≡ (as_reply a, m') → Did L p root m a m'
-      go false u f r p₁ p₂ p₃ p₄ q = no 3 q
-      go true false f r p₁ p₂ p₃ p₄ q = no 4 q
-      go true true false r p₁ p₂ p₃ p₄ q = no 5 q
+          → divider_fits L (decode L m).dimension p.divider ≡ f → made ≡ r → reply_by s u f r ≡ (Ok a, m') → Did L p root m a m'
+      go false u f r p₁ p₂ p₃ p₄ q = no NotSound q
+      go true false f r p₁ p₂ p₃ p₄ q = no NotInUse q
+      go true true false r p₁ p₂ p₃ p₄ q = no Divider q
       go true true true (refused n) p₁ p₂ p₃ p₄ q = no n q
       go true true true (done b t) p₁ p₂ p₃ p₄ q = record {
         passes = record { sound = p₁; used = le_test (suc root) (element_count (decode L m)) p₂; fits = p₃ };
         table_after_lem = t;
-        cuts = p₄ ∙ ap (λ (x : ElementAnswer). done x t) (ap (λ (x : CutReply × Memory). answer_or b x.0) q);
-        writes = sym (ap (λ (x : CutReply × Memory). x.1) q);
+        cuts = p₄ ∙ ap (λ (x : ElementAnswer). done x t) (ap (λ (x : Reply ElementAnswer × Memory). answer_or b x.0) q);
+        writes = sym (ap (λ (x : Reply ElementAnswer × Memory). x.1) q);
       }
 
   -- a call that 3, 4 and 5 let pass
@@ -123,7 +124,7 @@ module _ (L : Limits) (p : CutParams) (root : ℕ) (m : Memory) where
 -- ---- after an answer
 
 module _ (L : Limits) (R : Readable L) (p : CutParams) (root : ℕ) (m : Memory) (a : ElementAnswer) (m' : Memory)
-    (e : cut_reply L p root m ≡ (as_reply a, m')) where
+    (e : cut_reply L p root m ≡ (Ok a, m')) where
   pub it : Did L p root m a m'
   it = did L p root m a m' e
 

@@ -13,14 +13,15 @@ use Rattle.rules.specs.Table.{Table}
 use Rattle.rules.specs.Memory.{Memory, decode}
 use Rattle.rules.specs.Replies.{cut_reply}
 use Rattle.rules.specs.Promises.{Unmatched}
-use Rattle.rules.specs.declared.CutReply.{CutReply}
-use Rattle.rules.specs.declared.CutReply.TheVariants.{Refused, Answered}
 use Rattle.rules.specs.declared.CutParams.{CutParams}
 use Rattle.rules.proofs.Built.{Built, unchanged, element_more, point_more, plane_more}
 use Rattle.rules.proofs.Growing.{apart_snoc}
 use Rattle.rules.proofs.Laws.{not_true, and_left, or_false, and_right, and_true, neither}
 use Rattle.rules.proofs.OneCall.{memory_built}
 use Rattle.rules.proofs.Refusals.{refused_leaves}
+use Rattle.rules.specs.Refusals.{Reply}
+use Rattle.rules.specs.declared.ElementAnswer.{ElementAnswer}
+use Rattle.std.specs.Prelude.{Err, Ok}
 
 -- ---- no entry matches an earlier one, as a test and entry by entry
 
@@ -63,6 +64,6 @@ pub cut_unmatched : (L : Limits) → Readable L → (p : CutParams) (root : ℕ)
     → Unmatched (decode L m) → Unmatched (decode L (cut_reply L p root m).1)
 cut_unmatched L R p root m u = go (cut_reply L p root m).0 (cut_reply L p root m).1 refl
   where
-    go : (r : CutReply) (m' : Memory) → cut_reply L p root m ≡ (r, m') → Unmatched (decode L m')
-    go (Refused n) m' e = subst (λ (x : Memory). Unmatched (decode L x)) (sym (refused_leaves L p root m m' n e)) u
-    go (Answered a w) m' e = built_unmatched (memory_built L R p root m (record { output = a; warning = w }) m' e) u
+    go : (r : Reply ElementAnswer) (m' : Memory) → cut_reply L p root m ≡ (r, m') → Unmatched (decode L m')
+    go (Err n) m' e = subst (λ (x : Memory). Unmatched (decode L x)) (sym (refused_leaves L p root m m' n e)) u
+    go (Ok a) m' e = built_unmatched (memory_built L R p root m a m' e) u

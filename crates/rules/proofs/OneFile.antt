@@ -1,9 +1,8 @@
 -- A table has one file: what was written of a sound table is read back, and a file that is read as a sound table is the one that is written of it.
-use Rattle.std.specs.Prelude.{if◌then◌else◌}
+use Rattle.std.specs.Prelude.{if◌then◌else◌, Option, Some, None}
 use Prim.Native.Nat.{ℕ, suc, ◌≤◌, ◌<◌}
 use mathlib.Core.Bool.{Bool, true, false, not, ◌&&◌, false≢true}
 use mathlib.Core.List.{List, [], ◌∷◌, ◌++◌, map, append-nil}
-use mathlib.Core.Option.{Option, none, some}
 use mathlib.Core.Path.{◌≡◌, refl, sym, ap, subst, ◌∙◌}
 use native.Mathlib.Nat.{le_trans}
 use native.Mathlib.Omega.{arith}
@@ -55,10 +54,10 @@ module _ (L : Limits) (W : Fileable L) (t : Table) (g : Good L t) where
       room = le_trans (le_test (element_count t) L.elements g.element_room) W.elements
 
       plane_small : (r : ℕ) (h : Option ℕ) (m : Bool) → sound_facet t r h m ≡ true → ltb (plane_number h) 65536 ≡ true
-      plane_small r none m k = refl
-      plane_small r (some n) m k = named (eqb (suc r) t.dimension) (unfold sound_facet in k)
+      plane_small r None m k = refl
+      plane_small r (Some n) m k = named (eqb (suc r) t.dimension) (unfold sound_facet in k)
         where
-          named : (b : Bool) → (if b then names_plane t (some n) else (names_none (some n) && not m)) ≡ true → ltb n 65536 ≡ true
+          named : (b : Bool) → (if b then names_plane t (Some n) else (names_none (Some n) && not m)) ≡ true → ltb n 65536 ≡ true
           named true q =
               let a = le_test (suc n) (length t.planes) q in
               let b = le_test (length t.planes) L.hyperplanes g.plane_room in

@@ -1,9 +1,8 @@
 -- A print file that is given: its triangles are the fans of the faces, which are walked, and so many; each has 50 bytes, since a walk names vertices in use.
-use Rattle.std.specs.Prelude.{if◌then◌else◌}
+use Rattle.std.specs.Prelude.{if◌then◌else◌, Some}
 use Prim.Native.Nat.{ℕ, zero, suc, ◌+◌, ◌*◌, ◌-◌, ◌^◌, ◌≤◌, ◌<◌, zero-le}
 use mathlib.Core.Path.{◌≡◌, refl, sym, ap, ap₂, ◌∙◌, subst}
 use mathlib.Core.Bool.{Bool, true, false, not, ◌&&◌, false≢true}
-use mathlib.Core.Option.{some}
 use mathlib.Core.List.{List, [], ◌∷◌, ◌++◌, map}
 use native.Mathlib.Nat.{not-suc-le-zero, le_of_suc-le-suc, le_trans, mul-le-mul_right, suc-mul}
 use native.Mathlib.Omega.{arith}
@@ -37,6 +36,7 @@ use Rattle.rules.proofs.OneCall.{sound_table}
 use Rattle.rules.proofs.Refusals.{listed_by}
 use Rattle.rules.proofs.RingWalked.{face_is_walked}
 use Rattle.rules.proofs.WalkRound.{told, walk_goes_round}
+use Rattle.rules.specs.declared.Refusal.TheVariants.{NotInUse, NotSound, Rank}
 
 -- ---- how many
 
@@ -235,11 +235,11 @@ record Done (a : Asked (List ℕ)) (room : List ℕ) (n : ℕ) : Type 0 where
   pub size : n ≡ length list
   pub fills : (listed a room).1 ≡ list ++ drop (length list) room
 
-done : (a : Asked (List ℕ)) (room : List ℕ) (n : ℕ) → list_size (listed a room).0 ≡ some n → Done a room n
+done : (a : Asked (List ℕ)) (room : List ℕ) (n : ℕ) → list_size (listed a room).0 ≡ Some n → Done a room n
 done (no_answer k) room n e = none_some n e
 done (answer xs) room n e = go (leb (length xs) (length room)) refl e
   where
-    go : (b : Bool) → leb (length xs) (length room) ≡ b → list_size (listed_by xs room b).0 ≡ some n → Done (answer xs) room n
+    go : (b : Bool) → leb (length xs) (length room) ≡ b → list_size (listed_by xs room b).0 ≡ Some n → Done (answer xs) room n
     go true q h = record { list = xs; given = refl; size = (let z : length xs ≡ n = cc in sym z); fills = ap (λ (b : Bool). (listed_by xs room b).1) q }
     go false q h = none_some n h
 
@@ -257,7 +257,7 @@ passed : (L : Limits) (m : Memory) (root : ℕ) (q : Asked (List ℕ)) (xs : Lis
 passed L m root q xs e = go (sound_memory L m) (ltb root (element_count (decode L m))) refl refl e
   where
     go : (a b : Bool) → sound_memory L m ≡ a → ltb root (element_count (decode L m)) ≡ b
-        → (if not a then no_answer 3 else if not (b && true) then no_answer 4 else q) ≡ answer xs → Passed L m root q (answer xs)
+        → (if not a then no_answer NotSound else if not (b && true) then no_answer NotInUse else q) ≡ answer xs → Passed L m root q (answer xs)
     go false b p r h = absurd (false≢true (ap is_answer h))
     go true false p r h = absurd (false≢true (ap is_answer h))
     go true true p r h = record { sound = p; used = le_test (suc root) (element_count (decode L m)) r; same = h }
@@ -277,7 +277,7 @@ unfolding printed primordial_facet
 given_by t root xs e = go (eqb t.dimension 3) (eqb (rank t root) t.dimension) (any (λ b. is_primordial (element t b)) (boundary t root)) refl refl e
   where
     go : (a b c : Bool) → eqb t.dimension 3 ≡ a → eqb (rank t root) t.dimension ≡ b
-        → (if a then unless_facet (if b then answer c else no_answer 6) (print_file t root) else no_answer 6) ≡ answer xs → Given t root xs
+        → (if a then unless_facet (if b then answer c else no_answer Rank) (print_file t root) else no_answer Rank) ≡ answer xs → Given t root xs
     go false b c p q h = absurd (false≢true (ap is_answer h))
     go true false c p q h = absurd (false≢true (ap is_answer h))
     go true true true p q h = absurd (false≢true (ap is_answer h))

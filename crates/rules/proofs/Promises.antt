@@ -1,21 +1,16 @@
 -- Every promise of specs/Promises holds, in every room that can be read back, has place for its cubes, and has numbers that a file can hold: the record is put together from the files that prove its parts.
-use Rattle.std.specs.Prelude.{if◌then◌else◌}
+use Rattle.std.specs.Prelude.{if◌then◌else◌, Option, Some, None, Err, Ok}
 use Prim.Native.Nat.{ℕ, zero, suc, ◌<◌}
 use mathlib.Core.Bool.{true, Bool, false}
-use mathlib.Core.Option.{none, some}
 use mathlib.Core.Path.{◌≡◌, refl, ap, ◌∙◌, subst}
 use lib.Dec.{lit≤}
 use lib.ListN.{get_or}
 use Rattle.rules.specs.Limits.{Limits, HasCubes, Readable, Fileable, desk, large, Roomier}
 use Rattle.rules.specs.Memory.{Memory, decode}
 use Rattle.rules.specs.Cut.{Outcome, refused, done, next, give, add_plane, corner_output}
-use Rattle.rules.specs.Replies.{cut_number, cut_values, output_values, element_value, is_kept, cut_by, params_of, written, cut_reply}
+use Rattle.rules.specs.Replies.{cut_values, output_values, element_value, is_kept, cut_by, params_of, written, cut_reply}
 use Rattle.rules.specs.Promises.{AnswersAreInUse, NamesBelow, OneBelow, Passes, Finite, AllOn, OnlyPlane, divider_in, Promises}
 use Rattle.rules.specs.Touch.{some_close_call}
-use Rattle.rules.specs.declared.CutReply.{CutReply}
-use Rattle.rules.specs.declared.CutReply.TheVariants.{Refused, Answered}
-use Rattle.rules.specs.declared.ElementOrNone.{ElementOrNone}
-use Rattle.rules.specs.declared.ElementOrNone.TheVariants.{None, Some}
 use Rattle.rules.specs.declared.ElementCutOutput.{ElementCutOutput}
 use Rattle.rules.specs.declared.ElementCutOutput.TheVariants.{Flush, NonFlush}
 use Rattle.rules.specs.declared.PolytopeFate.TheVariants.{Keep}
@@ -41,10 +36,13 @@ use Rattle.rules.proofs.RoomierReplies.{roomier_alike}
 use Rattle.rules.proofs.RoundTrip.{written_sound, table_back, memory_back}
 use Rattle.rules.proofs.TouchCuts.{all_on_is_flush, one_side_is_missed, one_side_adds_no_vertex, both_cuts_an_edge}
 use Rattle.rules.proofs.TouchReplies.{touch_is_of_the_table}
-use Rattle.rules.proofs.Touched.{touch_numbers, touch_infinite, touch_is_read, touch_is_counted}
+use Rattle.rules.proofs.Touching.{touch_numbers, touch_infinite, touch_is_read, touch_is_counted}
 use Rattle.rules.proofs.VertexSet.{vertex_set_rises, no_facet_in_one_dimension}
 use Rattle.rules.proofs.WalkRound.{walk_goes_round}
 use Rattle.rules.proofs.Warned.{warns_of_close_calls}
+use Rattle.rules.specs.Refusals.{Reply}
+use Rattle.rules.specs.declared.ElementAnswer.{ElementAnswer}
+use Rattle.rules.specs.declared.ElementId.{ElementId}
 
 module _ (L : Limits) (R : Readable L) (H : HasCubes L) (F : Fileable L) where
   -- ---- a missed piece, for both sides at once
@@ -69,7 +67,7 @@ module _ (L : Limits) (R : Readable L) (H : HasCubes L) (F : Fileable L) where
 
       go : (x : Outcome ℕ) → cut_reply L p root m ≡ written L m (next x (λ n. give (given_back inside root warning)))
           → OnlyPlane L m (output_values (corner_output root (side_by inside))) warning (cut_reply L p root m) x
-      go (refused n) e = (ap (λ (r : CutReply × Memory). cut_number r.0) e, ap (λ (r : CutReply × Memory). r.1) e)
+      go (refused n) e = (ap (λ (r : Reply ElementAnswer × Memory). r.0) e, ap (λ (r : Reply ElementAnswer × Memory). r.1) e)
       go (done n t) e = gives e refl
 
   -- ---- what is answered is in use
@@ -77,21 +75,21 @@ module _ (L : Limits) (R : Readable L) (H : HasCubes L) (F : Fileable L) where
   in_use_lem : AnswersAreInUse L
   in_use_lem p root m = go (cut_reply L p root m).0 refl
     where
-      one : (n : ℕ) (x : ElementOrNone) (e : ℕ) → OneBelow n x → element_value x ≡ some e → e < n
+      one : (n : ℕ) (x : Option ElementId) (e : ℕ) → OneBelow n x → element_value x ≡ Some e → e < n
       one n None e b q = none_some e q
       one n (Some y) e b q = let z : y.0 ≡ e = cc in subst (λ (k : ℕ). k < n) z b
 
-      places : (n : ℕ) (a : ElementCutOutput) → NamesBelow n a → (k e : ℕ) → get_or (output_values a) k none ≡ some e → e < n
+      places : (n : ℕ) (a : ElementCutOutput) → NamesBelow n a → (k e : ℕ) → get_or (output_values a) k None ≡ Some e → e < n
       places n Flush b k e q = none_some e q
       places n (NonFlush x y z) b zero e q = one n x e b.0 q
       places n (NonFlush x y z) b (suc zero) e q = one n y e b.1 q
       places n (NonFlush x y z) b (suc (suc zero)) e q = one n z e b.2 q
       places n (NonFlush x y z) b (suc (suc (suc k))) e q = none_some e q
 
-      go : (r : CutReply) → (cut_reply L p root m).0 ≡ r → (k e : ℕ) → get_or (cut_values r) k none ≡ some e → e < get_or (cut_reply L p root m).1.counts 1 0
-      go (Refused n) w k e q = none_some e q
-      go (Answered a v) w k e q =
-          places _ a (names_in_use L R p root m (record { output = a; warning = v }) (cut_reply L p root m).1 (λ j. (w j, (cut_reply L p root m).1))) k e q
+      go : (r : Reply ElementAnswer) → (cut_reply L p root m).0 ≡ r → (k e : ℕ) → get_or (cut_values r) k None ≡ Some e → e < get_or (cut_reply L p root m).1.counts 1 0
+      go (Err n) w k e q = none_some e q
+      go (Ok a) w k e q =
+          places _ a.output (names_in_use L R p root m a (cut_reply L p root m).1 (λ j. (w j, (cut_reply L p root m).1))) k e q
 
   -- ---- all of them
 

@@ -1,5 +1,5 @@
 -- Sets of elements in use, each of one rank: what rules 4 and 5 gather. A set with a member more is still one, and stays one in a later table.
-use Rattle.std.specs.Prelude.{if◌then◌else◌}
+use Rattle.std.specs.Prelude.{if◌then◌else◌, Option, Some, None}
 use Prim.Native.Nat.{ℕ, suc, ◌<◌, ◌≤◌}
 use mathlib.Core.Bool.{Bool, true, false, ◌&&◌, ◌||◌, false≢true}
 use mathlib.Core.List.{List, [], ◌∷◌}
@@ -14,12 +14,11 @@ use Rattle.rules.specs.Held.{Extends, Ranked, AllOf, SetOf, SomeOf, Sets, Output
 use Rattle.rules.specs.declared.ElementCutOutput.{ElementCutOutput}
 use Rattle.rules.specs.declared.ElementCutOutput.TheVariants.{Flush, NonFlush}
 use Rattle.rules.specs.declared.ElementAnswer.{ElementAnswer}
-use Rattle.rules.specs.declared.ElementOrNone.{ElementOrNone}
-use Rattle.rules.specs.declared.ElementOrNone.TheVariants.{None, Some}
 use Rattle.rules.specs.declared.Side.{Side}
 use Rattle.rules.specs.declared.Side.TheVariants.{Inside, On, Outside}
 use Rattle.rules.proofs.Extends.{count_more, rank_same}
 use Rattle.rules.proofs.Laws.{and_true, and_left, and_right, test_le, le_test, test_eq, not_le, eq_test}
+use Rattle.rules.specs.declared.ElementId.{ElementId}
 
 pub ranked_later : {t l : Table} {q : ℕ} (x : ℕ) → Extends t l → Ranked t q x → Ranked l q x
 ranked_later {t} {l} x e h = (le_trans h.0 (count_more e), ap suc (rank_same t l x e h.0) ∙ h.1)
@@ -90,14 +89,14 @@ ranked_all t n q (x ∷ xs) l h k = (
   ranked_all t n q xs l (and_right (ltb x n) (all (λ y. ltb y n) xs) h) (and_right (eqb (suc (rank t x)) q) (all (λ y. eqb (suc (rank t y)) q) xs) k),
 )
 
-pub some_later : {t l : Table} (q : ℕ) (p : ElementOrNone) → Extends t l → SomeOf q p t → SomeOf q p l
+pub some_later : {t l : Table} (q : ℕ) (p : Option ElementId) → Extends t l → SomeOf q p t → SomeOf q p l
 some_later q None e h = tt
 some_later q (Some x) e h = ranked_later x.0 e h
 
 pub empty_set : (t : Table) (q : ℕ) → SetOf t q []
 empty_set t q = record { rising = refl; ranked = tt }
 
-pub set_including : (t : Table) (q : ℕ) (p : ElementOrNone) (s : List ℕ) → SomeOf q p t → SetOf t q s → SetOf t q (including p s)
+pub set_including : (t : Table) (q : ℕ) (p : Option ElementId) (s : List ℕ) → SomeOf q p t → SetOf t q s → SetOf t q (including p s)
 set_including t q None s h k = k
 set_including t q (Some e) s h k = set_with t q e.0 s h k
 

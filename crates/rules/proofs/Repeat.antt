@@ -1,10 +1,9 @@
 -- Demand 3, the repeat and one-side parts: a cut made again, on any later table, gives the same answer and adds nothing;
 -- and so does a cut for fewer sides, with the places of the dropped sides left out. One induction over the rank for both.
-use Rattle.std.specs.Prelude.{if◌then◌else◌}
+use Rattle.std.specs.Prelude.{if◌then◌else◌, Option, Some, None}
 use Prim.Native.Nat.{◌-◌, ℕ, ◌<◌, zero, suc, suc-le-suc, zero-le}
 use mathlib.Core.Bool.{Bool, false, true}
 use mathlib.Core.List.{List, [], ◌∷◌}
-use mathlib.Core.Option.{some, none}
 use mathlib.Core.Path.{ap, ap₂, sym, ◌≡◌, refl, ◌∙◌, subst}
 use native.Mathlib.Nat.{le_trans}
 use lib.Dec.{eqb}
@@ -15,19 +14,16 @@ use Rattle.rules.specs.Floats.{side_of, side_test, crossing_point, crossing_of}
 use Rattle.rules.specs.Table.{Element, Table, element_count, element, rank, rank_of, plane_of, is_primordial, boundary_of, point_at}
 use Rattle.rules.specs.Cut.{side_of_cut, including, Cutting, Params, new_intersection, add_polytope, plane_of_intersection, Gathered, rule7, next, rule6, given, cut, cross_edge, add_vertex, cut_ends, distance_of}
 use Rattle.rules.specs.Cut.{gathering, corner_answer, nothing_yet, cut_edge, ◌>>=◌, Step, cut_boundary, cut_higher, cut_element, cut_corner, done, cut_finite, add_plane, cut_at_distance}
-use Rattle.rules.specs.declared.Crossing.{Crossing}
-use Rattle.rules.specs.declared.Crossing.TheVariants.{None as NoCrossing, At}
 use Rattle.rules.specs.declared.ElementCutOutput.TheVariants.{NonFlush, Flush}
 use Rattle.rules.specs.declared.ElementAnswer.{ElementAnswer}
-use Rattle.rules.specs.declared.ElementOrNone.{ElementOrNone}
-use Rattle.rules.specs.declared.ElementOrNone.TheVariants.{None}
 use Rattle.rules.proofs.Extends.{Below, count_more, below_more, extends_trans, below_get, element_same, extends_refl, rank_same}
 use Rattle.rules.proofs.Fewer.{Agrees, less, less_kept, less_params, Dropped, less_cutting, less_answer, agrees_self, less_gathered, less_gathering, less_set, agrees_less, none_dropped, less_nothing}
 use Rattle.rules.proofs.Fine.{Fine, SomeIn, below_including, GatheredIn, AnswerIn, some_more, gathered_more, gathering_in, corner_in, point_at_same, boundary_below}
 use Rattle.rules.proofs.Later.{Later, later_give, later_drop, same, later_same, later_next, InUse, later_as, Anything}
 use Rattle.rules.proofs.LaterAppends.{add_polytope_lem, add_vertex_lem, add_plane_lem}
+use Rattle.rules.specs.declared.ElementId.{ElementId}
 
-pub side_later : (L : Limits) (k b : Bool) (e : Element) (x : ElementOrNone) (s u : List ℕ) (t : Table) → Fine t → SomeIn x (element_count t) → Below (element_count t) s → Agrees b s u
+pub side_later : (L : Limits) (k b : Bool) (e : Element) (x : Option ElementId) (s u : List ℕ) (t : Table) → Fine t → SomeIn x (element_count t) → Below (element_count t) s → Agrees b s u
     → Later (less b) SomeIn t (side_of_cut L (less_kept b k) e x u) (side_of_cut L k e x s t)
 side_later L false true e x s u t f hx hs a = later_give (less true) SomeIn t None f tt
 side_later L false false e x s u t f hx hs a = later_give (less false) SomeIn t None f tt
@@ -42,7 +38,7 @@ pub new_intersection_later : (L : Limits) (c : Cutting) (d : Dropped) (r : ℕ) 
     → Later same SomeIn t (new_intersection L (less_cutting d c) r s) (new_intersection L c r s t)
 new_intersection_later L c d r s t f hs =
     later_same same SomeIn t (new_intersection L (less_cutting d c) r s) (add_polytope L (r - 1) s (plane_of_intersection t c r) false) (new_intersection L c r s t)
-    (λ l x. ap (λ (k : ℕ). add_polytope L (r - 1) s (if eqb r k then some c.number else none) false l) x.dimension)
+    (λ l x. ap (λ (k : ℕ). add_polytope L (r - 1) s (if eqb r k then Some c.number else None) false l) x.dimension)
     (add_polytope_lem L (r - 1) s (plane_of_intersection t c r) false t f hs)
 
 -- rules 6 and 7, on sets that agree where their side is still kept
@@ -50,7 +46,7 @@ module _ (L : Limits) (c : Cutting) (d : Dropped) (e : Element) (g : Gathered) (
   abbrev g' : Gathered
   g' = record { flush = g.flush; inside = si; outside = so; intersections = g.intersections; warning = g.warning }
 
-  pub rule7_later : (x : ElementOrNone) (t : Table) → Fine t → SomeIn x (element_count t) → GatheredIn g (element_count t)
+  pub rule7_later : (x : Option ElementId) (t : Table) → Fine t → SomeIn x (element_count t) → GatheredIn g (element_count t)
       → Later (less_answer d) AnswerIn t (rule7 L (less_cutting d c) e g' x) (rule7 L c e g x t)
   unfolding rule7
   rule7_later x t f hx h =
@@ -72,10 +68,10 @@ module _ (L : Limits) (c : Cutting) (d : Dropped) (e : Element) (g : Gathered) (
 
 -- ---- the cut of an element
 
-pub cross_edge_lem : (L : Limits) (p q : List Float) (x : Crossing) (g : Gathered) (t : Table) → Fine t → GatheredIn g (element_count t)
+pub cross_edge_lem : (L : Limits) (p q : List Float) (x : Option Float) (g : Gathered) (t : Table) → Fine t → GatheredIn g (element_count t)
     → Later same GatheredIn t (cross_edge L p q x g) (cross_edge L p q x g t)
-cross_edge_lem L p q NoCrossing g t f h = later_give same GatheredIn t g f h
-cross_edge_lem L p q (At s) g t f h =
+cross_edge_lem L p q None g t f h = later_give same GatheredIn t g f h
+cross_edge_lem L p q (Some s) g t f h =
     later_next same InUse same GatheredIn t (add_vertex L (crossing_point s p q)) _ (add_vertex L (crossing_point s p q) t) _ (add_vertex_lem L (crossing_point s p q) t f)
     (λ v t₁ e₁ f₁ hv. later_give same GatheredIn t₁ _ f₁ (record {
       flush = (hv, tt);

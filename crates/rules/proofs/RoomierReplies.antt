@@ -1,5 +1,5 @@
 -- Every public reply in a roomier room: the table is the same, so each reply's tests are, but for those that compare with the room.
-use Rattle.std.specs.Prelude.{if◌then◌else◌}
+use Rattle.std.specs.Prelude.{if◌then◌else◌, Err, Ok}
 use Prim.Native.Nat.{ℕ, ◌≤◌, ◌<◌, zero, suc, ◌+◌, ◌-◌, ◌*◌}
 use mathlib.Core.Bool.{Bool, true, false, not, ◌&&◌, ◌||◌, false≢true}
 use mathlib.Core.List.{List, [], ◌∷◌, ◌++◌, map}
@@ -19,7 +19,7 @@ use Rattle.rules.specs.Memory.{Memory, plane_width, encode, decode, right_size, 
 use Rattle.rules.specs.Cube.{cube, radius_fits}
 use Rattle.rules.specs.Cut.{Outcome, refused, done, cut}
 use Rattle.rules.specs.Questions.{Asked, no_answer, answer, sub_elements, with_rank, vertex_set, greatest_common, edges_in_order, primordial_facet}
-use Rattle.rules.specs.Replies.{cut_number, is_sound_reply, cube_reply, divider_fits, distance_fits, divider_of, is_kept, params_of, as_reply, cut_reply, asked, listed, in_numbers, facet_answer}
+use Rattle.rules.specs.Replies.{is_sound_reply, cube_reply, divider_fits, distance_fits, divider_of, is_kept, params_of, cut_reply, asked, listed, in_numbers, facet_answer}
 use Rattle.rules.specs.Replies.{sub_elements_reply, with_rank_reply, vertex_set_reply, greatest_common_reply, edges_in_order_reply, primordial_facet_reply}
 use Rattle.rules.specs.Touch.{touch, touch_reply}
 use Rattle.rules.specs.Print.{printed, print_reply}
@@ -28,14 +28,10 @@ use Rattle.rules.specs.Calls.{ListQuestion, sub_elements_of, sub_elements_with_r
 use Rattle.rules.specs.CutLists.{most_cuts, CutList, list_fits, ListedCut, divider_at, cut_at, cuts_of, going_on, cuts_from, cut_list_reply, cut_list_number}
 use Rattle.rules.specs.Areas.{piece_on_grid, areas_reply}
 use Rattle.rules.specs.Rooms.{TablesAlike, RepliesAlike, RoomierAlike, moved, widened, widened_params, widened_cut, SameCuts}
-use Rattle.rules.specs.declared.CutReply.{CutReply}
-use Rattle.rules.specs.declared.CutReply.TheVariants as one
 use Rattle.rules.specs.declared.CutListReply.{CutListReply}
 use Rattle.rules.specs.declared.CutParams.{CutParams}
 use Rattle.rules.specs.declared.ElementAnswer.{ElementAnswer}
 use Rattle.rules.specs.declared.Hyperplane.{Hyperplane}
-use Rattle.rules.specs.declared.TouchReply.{TouchReply}
-use Rattle.rules.specs.declared.TouchReply.TheVariants.{Refused}
 use Rattle.rules.proofs.AreaReplies.{sheet_by, few, used, flat, sheet_by_lem}
 use Rattle.rules.proofs.Built.{RuleNumber, refused_number}
 use Rattle.rules.proofs.CubeCalls.{cube_done}
@@ -43,12 +39,18 @@ use Rattle.rules.proofs.AfterList.{list_by, list_by_lem}
 use Rattle.rules.proofs.CutLists.{as_many}
 use Rattle.rules.proofs.FileReplies.{accepted, taken, open_accepted, opens_roomier, layout_alone}
 use Rattle.rules.proofs.Good.{sound_good}
-use Rattle.rules.proofs.Laws.{and_true, and_left, and_right, or_case, le_test, test_le, test_eq, eq_test, if_true}
+use Rattle.rules.proofs.Laws.{and_true, and_left, and_right, le_test, test_le, test_eq, eq_test, if_true}
 use Rattle.rules.proofs.OneCall.{sound_table, reply_by, reply_by_lem, it, memory_table}
-use Rattle.rules.proofs.Refusals.{refusal_number, cube_by, cube_by_lem}
+use Rattle.rules.proofs.Refusals.{cut_refusal_number, cube_by, cube_by_lem}
 use Rattle.rules.proofs.Roomier.{Alike, cut_alike, sound_alike}
 use Rattle.rules.proofs.RoundTrip.{written_sound, table_back}
 use Rattle.rules.proofs.Rows.{length_pad}
+use Rattle.rules.specs.Refusals.{Reply, reply_number}
+use Rattle.rules.specs.declared.Refusal.TheVariants.{Divider, NotInUse, NotSound}
+use Rattle.rules.specs.declared.Touched.{Touched}
+use Rattle.rules.specs.declared.Refusal.TheVariants.{Dimension, Radius, NotSound, Divider, Rank, NotClosed, VerticesFull, ElementsFull, HyperplanesFull, BoundaryFull, RoomShort, Layout, PrimordialFacet, OffGrid, ListLong}
+use Rattle.rules.specs.Refusals.{refusal_number}
+use Rattle.rules.specs.declared.Refusal.{Refusal}
 
 -- ---- a divider with more axes
 
@@ -59,15 +61,23 @@ zeros_more [] (suc n) = zeros_more [] n
 zeros_more (x ∷ xs) n = ap (λ (b : Bool). same_bits plus_zero x && b) (zeros_more xs n)
 
 -- of the refusals that a rule gives, the one that is among 0, 4, 5 and 7
-seven : (k : ℕ) → RuleNumber k → member k (0 ∷ 4 ∷ 5 ∷ 7 ∷ []) ≡ true → k ≡ 7
-seven k r h =
-    or_case (eqb k 0) (member k (4 ∷ 5 ∷ 7 ∷ [])) h (k ≡ 7) (λ e. no 0 e (λ x. x)) (λ h₁.
-    or_case (eqb k 4) (member k (5 ∷ 7 ∷ [])) h₁ (k ≡ 7) (λ e. no 4 e (λ x. x)) (λ h₂.
-    or_case (eqb k 5) (member k (7 ∷ [])) h₂ (k ≡ 7) (λ e. no 5 e (λ x. x)) (λ h₃.
-    or_case (eqb k 7) false h₃ (k ≡ 7) (λ e. eq_test k 7 e) (λ q. absurd (false≢true q)))))
-  where
-    no : (n : ℕ) → eqb k n ≡ true → (RuleNumber n → ⊥) → k ≡ 7
-    no n e f = absurd (f (subst RuleNumber (eq_test k n e) r))
+seven : (k : Refusal) → RuleNumber k → member (refusal_number k) (0 ∷ 4 ∷ 5 ∷ 7 ∷ []) ≡ true → k ≡ NotClosed
+seven Dimension r h = absurd (false≢true h)
+seven Radius r h = absurd (false≢true h)
+seven NotSound r h = absurd (false≢true h)
+seven NotInUse r h = absurd r
+seven Divider r h = absurd r
+seven Rank r h = absurd (false≢true h)
+seven NotClosed r h = refl
+seven VerticesFull r h = absurd (false≢true h)
+seven ElementsFull r h = absurd (false≢true h)
+seven HyperplanesFull r h = absurd (false≢true h)
+seven BoundaryFull r h = absurd (false≢true h)
+seven RoomShort r h = absurd (false≢true h)
+seven Layout r h = absurd (false≢true h)
+seven PrimordialFacet r h = absurd (false≢true h)
+seven OffGrid r h = absurd (false≢true h)
+seven ListLong r h = absurd (false≢true h)
 
 -- no cut is refused with 12
 not_twelve : (n : ℕ) → member n (3 ∷ 4 ∷ 5 ∷ 7 ∷ 8 ∷ 9 ∷ 10 ∷ 11 ∷ []) ≡ true → member n (0 ∷ 4 ∷ 5 ∷ 7 ∷ 12 ∷ []) ≡ true → member n (0 ∷ 4 ∷ 5 ∷ 7 ∷ []) ≡ true
@@ -113,13 +123,13 @@ module _ (L M : Limits) (O : Roomier L M) (R : Readable L) (H : HasCubes L) (W :
     table_there : decode M (moved L M m) ≡ decode L m
     table_there = table_back M W (decode L m) (sound_alike L M O (decode L m) (sound_table L m s))
 
-  is_sound : (m : Memory) → is_sound_reply L m ≡ 0 → is_sound_reply M (moved L M m) ≡ 0
+  is_sound : (m : Memory) → is_sound_reply L m ≡ Ok tt → is_sound_reply M (moved L M m) ≡ Ok tt
   unfolding is_sound_reply
-  is_sound m z = if_true (sound_memory M (moved L M m)) 0 3 (sound_there m (go (sound_memory L m) refl z))
+  is_sound m z = if_true (sound_memory M (moved L M m)) (Ok tt) (Err NotSound) (sound_there m (go (sound_memory L m) refl z))
     where
-      go : (b : Bool) → sound_memory L m ≡ b → ◌≡◌ {A = ℕ} (if b then 0 else 3) 0 → sound_memory L m ≡ true
+      go : (b : Bool) → sound_memory L m ≡ b → ◌≡◌ {A = Reply (Unit {0})} (if b then Ok tt else Err NotSound) (Ok tt) → sound_memory L m ≡ true
       go true e q = e
-      go false e q = absurd (suc-ne-zero 2 q)
+      go false e q = absurd (suc-ne-zero 2 (ap reply_number q))
 
   -- ---- a cube
 
@@ -128,18 +138,18 @@ module _ (L M : Limits) (O : Roomier L M) (R : Readable L) (H : HasCubes L) (W :
       and_true (leb 1 d) (leb d M.dimensions) (and_left (leb 1 d) (leb d L.dimensions) h)
       (test_le d M.dimensions (le_trans (le_test d L.dimensions (and_right (leb 1 d) (leb d L.dimensions) h)) O.dimensions))
 
-  cube_there : (d : ℕ) (radius : Float) (m n : Memory) → (cube_reply L d radius m).0 ≡ 0 → right_size M n ≡ true → cube_reply M d radius n ≡ (0, moved L M (cube_reply L d radius m).1)
+  cube_there : (d : ℕ) (radius : Float) (m n : Memory) → reply_number (cube_reply L d radius m).0 ≡ 0 → right_size M n ≡ true → cube_reply M d radius n ≡ (Ok tt, moved L M (cube_reply L d radius m).1)
   cube_there d radius m n z r =
       let c = cube_done L H d radius m z in
       cube_by_lem M d radius n
       ∙ (λ j. cube_by M d radius n (dimension_there d c.dimension j) (c.fits j) (r j))
-      ∙ (λ j. (0, encode M (sym (ap (decode L) c.writes ∙ table_back L R (cube d radius) c.is_sound) j)))
+      ∙ (λ j. (Ok tt, encode M (sym (ap (decode L) c.writes ∙ table_back L R (cube d radius) c.is_sound) j)))
 
-  radius_there : (d : ℕ) (radius : Float) (m n : Memory) → (cube_reply L d radius m).0 ≡ 2 → cube_reply M d radius n ≡ (2, n)
+  radius_there : (d : ℕ) (radius : Float) (m n : Memory) → (cube_reply L d radius m).0 ≡ Err Radius → cube_reply M d radius n ≡ (Err Radius, n)
   radius_there d radius m n z =
-      go (leb 1 d && leb d L.dimensions) (radius_fits radius) (right_size L m) refl refl (ap (λ (x : ℕ × Memory). x.0) (sym (cube_by_lem L d radius m)) ∙ z)
+      go (leb 1 d && leb d L.dimensions) (radius_fits radius) (right_size L m) refl refl (ap (λ (x : Reply (Unit {0}) × Memory). x.0) (sym (cube_by_lem L d radius m)) ∙ z)
     where
-      go : (p q s : Bool) → (leb 1 d && leb d L.dimensions) ≡ p → radius_fits radius ≡ q → (cube_by L d radius m p q s).0 ≡ 2 → cube_reply M d radius n ≡ (2, n)
+      go : (p q s : Bool) → (leb 1 d && leb d L.dimensions) ≡ p → radius_fits radius ≡ q → (cube_by L d radius m p q s).0 ≡ Err Radius → cube_reply M d radius n ≡ (Err Radius, n)
       go false q s e f k = absurd (let x : ◌≡◌ {A = ℕ} 0 1 = cc in suc-ne-zero 0 (sym x))
       go true false s e f k = cube_by_lem M d radius n ∙ (λ j. cube_by M d radius n (dimension_there d e j) (f j) (right_size M n))
       go true true false e f k = absurd (let x : ◌≡◌ {A = ℕ} 0 1 = cc in suc-ne-zero 0 (sym x))
@@ -147,11 +157,11 @@ module _ (L M : Limits) (O : Roomier L M) (R : Readable L) (H : HasCubes L) (W :
 
   -- ---- a file
 
-  open_there : (bs : List ℕ) (m n : Memory) → (open_reply L bs m).0 ≡ 0 → right_size M n ≡ true → open_reply M bs n ≡ (0, moved L M (open_reply L bs m).1)
+  open_there : (bs : List ℕ) (m n : Memory) → reply_number (open_reply L bs m).0 ≡ 0 → right_size M n ≡ true → open_reply M bs n ≡ (Ok tt, moved L M (open_reply L bs m).1)
   open_there bs m n z r =
       let k = taken L bs m z in
       open_accepted M bs n k.table ((opens_roomier L M O bs k.table).0 k.says) r
-      ∙ (λ j. (0, encode M (sym (ap (decode L) k.writes ∙ table_back L R k.table (accepted L bs k.table k.says).is_sound) j)))
+      ∙ (λ j. (Ok tt, encode M (sym (ap (decode L) k.writes ∙ table_back L R k.table (accepted L bs k.table k.says).is_sound) j)))
 
   -- ---- a cut
 
@@ -181,7 +191,7 @@ module _ (L M : Limits) (O : Roomier L M) (R : Readable L) (H : HasCubes L) (W :
         low = le_test t.dimension L.dimensions (sound_good L t (sound_table L m s)).high
 
     go : (s u f : Bool) (r : Outcome ElementAnswer) → sound_memory L m ≡ s → ltb root (element_count t) ≡ u → divider_fits L t.dimension p.divider ≡ f → answers L ≡ r
-        → member (cut_number (reply_by L p root m s u f r).0) (0 ∷ 4 ∷ 5 ∷ 7 ∷ []) ≡ true
+        → member (reply_number (reply_by L p root m s u f r).0) (0 ∷ 4 ∷ 5 ∷ 7 ∷ []) ≡ true
         → cut_reply M (widened_params M p) root n ≡ ((reply_by L p root m s u f r).0, moved L M (reply_by L p root m s u f r).1)
     go false u f r p₁ p₂ p₃ p₄ k = absurd (false≢true k)
     go true false f r p₁ p₂ p₃ p₄ k = there p₁ ∙ (λ j. reply_by M (widened_params M p) root n true (p₂ j) (divider_fits L t.dimension p.divider) (answers M))
@@ -192,20 +202,20 @@ module _ (L M : Limits) (O : Roomier L M) (R : Readable L) (H : HasCubes L) (W :
         there p₁ ∙ (λ j. reply_by M (widened_params M p) root n true (p₂ j) (p₃ j) (a e j))
     go true true true (done b v) p₁ p₂ p₃ p₄ k =
         let a : Alike (done b v) (answers M) = subst (λ (x : Outcome ElementAnswer). Alike x (answers M)) p₄ (cut_alike L M O (params_of t.dimension p) root t) in
-        let e : cut_reply L p root m ≡ (as_reply b, encode L v) = reply_by_lem L p root m ∙ (λ j. reply_by L p root m (p₁ j) (p₂ j) (p₃ j) (p₄ j)) in
+        let e : cut_reply L p root m ≡ (Ok b, encode L v) = reply_by_lem L p root m ∙ (λ j. reply_by L p root m (p₁ j) (p₂ j) (p₃ j) (p₄ j)) in
         let w = it L R p root m b (encode L v) e in
         let same : done b v ≡ done b w.table_after_lem = sym p₄ ∙ w.cuts in
         let back : decode L (encode L v) ≡ v = memory_table L R p root m b (encode L v) e ∙ sym (ap (λ (x : Outcome ElementAnswer). table_or v x) same) in
-        there p₁ ∙ (λ j. reply_by M (widened_params M p) root n true (p₂ j) (p₃ j) (a j)) ∙ (λ j. (as_reply b, encode M (sym back j)))
+        there p₁ ∙ (λ j. reply_by M (widened_params M p) root n true (p₂ j) (p₃ j) (a j)) ∙ (λ j. (Ok b, encode M (sym back j)))
       where
         table_or : Table → Outcome ElementAnswer → Table
         table_or x (refused q) = x
         table_or x (done c y) = y
 
-    cut_there : member (cut_number (cut_reply L p root m).0) (0 ∷ 4 ∷ 5 ∷ 7 ∷ []) ≡ true
+    cut_there : member (reply_number (cut_reply L p root m).0) (0 ∷ 4 ∷ 5 ∷ 7 ∷ []) ≡ true
         → cut_reply M (widened_params M p) root n ≡ ((cut_reply L p root m).0, moved L M (cut_reply L p root m).1)
     cut_there =
-        subst (λ (x : CutReply × Memory). member (cut_number x.0) (0 ∷ 4 ∷ 5 ∷ 7 ∷ []) ≡ true → cut_reply M (widened_params M p) root n ≡ (x.0, moved L M x.1))
+        subst (λ (x : Reply ElementAnswer × Memory). member (reply_number x.0) (0 ∷ 4 ∷ 5 ∷ 7 ∷ []) ≡ true → cut_reply M (widened_params M p) root n ≡ (x.0, moved L M x.1))
         (sym (reply_by_lem L p root m)) (go (sound_memory L m) (ltb root (element_count t)) (divider_fits L t.dimension p.divider) (answers L) refl refl refl refl)
 
   -- ---- a list of cuts
@@ -227,22 +237,22 @@ module _ (L M : Limits) (O : Roomier L M) (R : Readable L) (H : HasCubes L) (W :
   cuts_there (c ∷ cs) i room m long k =
       go (cut_reply L c.params c.root m).0 (cut_reply L c.params c.root m).1 refl k (λ x n q. cuts_there cs (suc i) x n long.1 q)
     where
-      one_there : (r : CutReply) (m' : Memory) → cut_reply L c.params c.root m ≡ (r, m') → member (cut_number r) (0 ∷ 4 ∷ 5 ∷ 7 ∷ []) ≡ true
+      one_there : (r : Reply ElementAnswer) (m' : Memory) → cut_reply L c.params c.root m ≡ (r, m') → member (reply_number r) (0 ∷ 4 ∷ 5 ∷ 7 ∷ []) ≡ true
           → cut_reply M (widened_params M c.params) c.root (moved L M m) ≡ (r, moved L M m')
       one_there r m' e h =
-          cut_there c.params c.root m long.0 (subst (λ (x : CutReply × Memory). member (cut_number x.0) (0 ∷ 4 ∷ 5 ∷ 7 ∷ []) ≡ true) (sym e) h)
+          cut_there c.params c.root m long.0 (subst (λ (x : Reply ElementAnswer × Memory). member (reply_number x.0) (0 ∷ 4 ∷ 5 ∷ 7 ∷ []) ≡ true) (sym e) h)
           ∙ (λ j. ((e j).0, moved L M (e j).1))
 
-      go : (r : CutReply) (m' : Memory) → cut_reply L c.params c.root m ≡ (r, m') → alike_number (cut_list_number (going_on i room (r, m') (cuts_from L cs (suc i))).0) ≡ true
+      go : (r : Reply ElementAnswer) (m' : Memory) → cut_reply L c.params c.root m ≡ (r, m') → alike_number (cut_list_number (going_on i room (r, m') (cuts_from L cs (suc i))).0) ≡ true
           → ((x : List ℕ) (n : Memory) → alike_number (cut_list_number (cuts_from L cs (suc i) x n).0) ≡ true
           → cuts_from M (map (widened_cut M) cs) (suc i) x (moved L M n) ≡ elsewhere (cuts_from L cs (suc i) x n))
           → going_on i room (cut_reply M (widened_params M c.params) c.root (moved L M m)) (cuts_from M (map (widened_cut M) cs) (suc i))
           ≡ elsewhere (going_on i room (r, m') (cuts_from L cs (suc i)))
-      go (one.Refused n) m' e q later =
-          ap (λ (x : CutReply × Memory). going_on i room x (cuts_from M (map (widened_cut M) cs) (suc i)))
-          (one_there (one.Refused n) m' e (not_twelve n (refusal_number L c.params c.root m n (ap (λ (x : CutReply × Memory). x.0) e)) q))
-      go (one.Answered a w) m' e q later =
-          ap (λ (x : CutReply × Memory). going_on i room x (cuts_from M (map (widened_cut M) cs) (suc i))) (one_there (one.Answered a w) m' e refl) ∙ later _ m' q
+      go (Err n) m' e q later =
+          ap (λ (x : Reply ElementAnswer × Memory). going_on i room x (cuts_from M (map (widened_cut M) cs) (suc i)))
+          (one_there (Err n) m' e (not_twelve (refusal_number n) (cut_refusal_number L c.params c.root m n (ap (λ (x : Reply ElementAnswer × Memory). x.0) e)) q))
+      go (Ok a) m' e q later =
+          ap (λ (x : Reply ElementAnswer × Memory). going_on i room x (cuts_from M (map (widened_cut M) cs) (suc i))) (one_there (Ok a) m' e refl) ∙ later _ m' q
 
   -- every row of a list that fits has a component for each axis
   module _ (l : CutList) (fits : list_fits L l ≡ true) where
@@ -296,7 +306,7 @@ module _ (L M : Limits) (O : Roomier L M) (R : Readable L) (H : HasCubes L) (W :
     asked_there {A} es f = (λ j. by (sound_there m s j) (table_there m s j)) ∙ (λ j. by (sym s j) (decode L m))
       where
         by : Bool → Table → Asked A
-        by b t = if not b then no_answer 3 else if not (all (λ e. ltb e (element_count t)) es) then no_answer 4 else f t
+        by b t = if not b then no_answer NotSound else if not (all (λ e. ltb e (element_count t)) es) then no_answer NotInUse else f t
 
     list_there : (q : ListQuestion) (room : List ℕ) → list_reply M q (moved L M m) room ≡ list_reply L q m room
     unfolding sub_elements_reply with_rank_reply vertex_set_reply greatest_common_reply edges_in_order_reply save_reply print_reply
@@ -318,8 +328,8 @@ module _ (L M : Limits) (O : Roomier L M) (R : Readable L) (H : HasCubes L) (W :
       low : (decode L m).dimension ≤ L.dimensions
       low = le_test (decode L m).dimension L.dimensions (sound_good L (decode L m) (sound_table L m s)).high
 
-      by : Bool → Table → Bool → Plane → TouchReply
-      by b t f g = if not b then Refused 3 else if not (ltb root (element_count t)) then Refused 4 else if not f then Refused 5 else touch g root t
+      by : Bool → Table → Bool → Plane → Reply Touched
+      by b t f g = if not b then Err NotSound else if not (ltb root (element_count t)) then Err NotInUse else if not f then Err Divider else touch g root t
 
       touch_there : touch_reply M (widened M h) root (moved L M m) ≡ touch_reply L h root m
       unfolding touch_reply by

@@ -1,10 +1,9 @@
 -- A sound table is read back from the memory that it is written to, and a sound memory is what is written of its table.
 -- Each row is read back by itself; the law of rows does the rest.
-use Rattle.std.specs.Prelude.{if◌then◌else◌}
+use Rattle.std.specs.Prelude.{if◌then◌else◌, Option, Some, None}
 use Prim.Native.Nat.{◌-◌, ◌≤◌, ◌+◌, suc, ℕ, zero, ◌<◌, ◌*◌}
 use mathlib.Core.Bool.{true, ◌&&◌, not, Bool, false≢true, false, cond}
 use mathlib.Core.List.{◌++◌, List, ◌∷◌, [], append_assoc}
-use mathlib.Core.Option.{Option, none, some}
 use mathlib.Core.Path.{◌≡◌, refl, ap, ◌∙◌, ap₂, subst, sym}
 use native.Mathlib.Nat.{le_trans, le_of_eq}
 use native.Mathlib.Omega.{arith}
@@ -36,10 +35,10 @@ module _ (L : Limits) (U : Readable L) where
       length_pad 0 (element_width L) (element_row (polytope r b h m)) (let q : suc (suc (suc (suc (length b)))) ≤ 4 + L.boundary = omega (arith, s) in q)
 
   pub plane_back : (h : Option ℕ) → not (eqb (plane_number h) no_plane && not (names_none h)) ≡ true → plane_named (plane_number h) ≡ h
-  plane_back none k = refl
-  plane_back (some n) k = go (eqb n no_plane) k
+  plane_back None k = refl
+  plane_back (Some n) k = go (eqb n no_plane) k
     where
-      go : (b : Bool) → not (b && true) ≡ true → (if b then none else some n) ≡ some n
+      go : (b : Bool) → not (b && true) ≡ true → (if b then None else Some n) ≡ Some n
       go true g = absurd (false≢true g)
       go false g = refl
 
@@ -117,9 +116,9 @@ module _ (L : Limits) (U : Readable L) where
           ap (λ (c : Bool). c && true) (not_eq n no_plane (λ q. (let z : ⊥ = omega (arith, h, r, u, q) in z)))
 
       named : (b : Bool) (h : Option ℕ) (m : Bool) → (if b then names_plane t h else (names_none h && not m)) ≡ true → not (eqb (plane_number h) no_plane && not (names_none h)) ≡ true
-      named b none m k = refl
-      named true (some n) m k = ap not (low n (le_test (suc n) (length t.planes) k))
-      named false (some n) m k = absurd (false≢true k)
+      named b None m k = refl
+      named true (Some n) m k = ap not (low n (le_test (suc n) (length t.planes) k))
+      named false (Some n) m k = absurd (false≢true k)
 
       one : (n : ℕ) (e : Element) → sound_element t n e ≡ true → leb (length (boundary_of e)) L.boundary ≡ true → fitting L e ≡ true
       one n (corner v) h k = refl

@@ -3,7 +3,6 @@
 use Prim.Native.Nat.{ℕ}
 use mathlib.Core.Bool.{Bool, true, ◌&&◌, beq, false≢true}
 use mathlib.Core.List.{List, [], ◌∷◌}
-use mathlib.Core.Option.{Option, none, some}
 use mathlib.Core.Path.{◌≡◌, refl, ap, ap₂}
 use lib.Dec.{eqb}
 use lib.Ieee.{Float, nan, inf, fin, sub, binary64}
@@ -13,6 +12,7 @@ use Rattle.rules.specs.Floats.{same_exponent, same_bits, matches, within, tolera
 use Rattle.rules.specs.Table.{same_plane, Plane, Element, same_element, corner, polytope}
 use Rattle.rules.specs.Cut.{plane_matches}
 use Rattle.rules.proofs.Laws.{and_true, eqb_self, beq_self, or_left, eq_test, and_left, and_right, beq_same}
+use Rattle.std.specs.Prelude.{Option, Some, None}
 
 -- ---- everything equals itself
 
@@ -21,8 +21,8 @@ alike_self p h [] = refl
 alike_self p h (x ∷ xs) = and_true (p x x) (alike p xs xs) (h x) (alike_self p h xs)
 
 pub plane_self : (h : Option ℕ) → same_plane h h ≡ true
-plane_self none = refl
-plane_self (some n) = eqb_self n
+plane_self None = refl
+plane_self (Some n) = eqb_self n
 
 pub element_self : (e : Element) → same_element e e ≡ true
 unfolding same_element
@@ -92,10 +92,10 @@ same_floats (x ∷ xs) (y ∷ ys) h =
     ap₂ (λ (z : Float) (zs : List Float). z ∷ zs) (same_float x y (and_left (same_bits x y) (alike same_bits xs ys) h)) (same_floats xs ys (and_right (same_bits x y) (alike same_bits xs ys) h))
 
 same_plane_lem : (h k : Option ℕ) → same_plane h k ≡ true → h ≡ k
-same_plane_lem none none e = refl
-same_plane_lem none (some k) e = absurd (false≢true e)
-same_plane_lem (some h) none e = absurd (false≢true e)
-same_plane_lem (some h) (some k) e = ap {B = Option ℕ} some (eq_test h k e)
+same_plane_lem None None e = refl
+same_plane_lem None (Some k) e = absurd (false≢true e)
+same_plane_lem (Some h) None e = absurd (false≢true e)
+same_plane_lem (Some h) (Some k) e = ap {B = Option ℕ} Some (eq_test h k e)
 
 pub same_element_lem : (y z : Element) → same_element y z ≡ true → y ≡ z
 unfolding same_element

@@ -1,10 +1,9 @@
 -- A step on a sound table that is not refused leaves a sound table that extends it: the record `Kept` says so, and is the hypothesis of every induction.
 -- The three appends are such steps.
-use Rattle.std.specs.Prelude.{if◌then◌else◌}
+use Rattle.std.specs.Prelude.{if◌then◌else◌, Option, Some, None}
 use Prim.Native.Nat.{ℕ, ◌<◌, zero, suc, suc-le-suc, zero-le, ◌+◌}
 use mathlib.Core.Bool.{Bool, true, false≢true, false, ◌&&◌, beq, true≢false}
 use mathlib.Core.List.{List, [], ◌∷◌}
-use mathlib.Core.Option.{Option, some, none}
 use mathlib.Core.Path.{refl, ◌≡◌, sym, subst, ◌∙◌, ap}
 use native.Mathlib.Nat.{zero-add, le_refl, suc-ne-zero, le_of_suc-le-suc}
 use native.Mathlib.Omega.{arith}
@@ -19,7 +18,6 @@ use Rattle.rules.specs.Table.{Table, polytope, rank, Element, same_element, rank
 use Rattle.rules.specs.Sound.{sound_facet, closed, sound_point, sound_plane}
 use Rattle.rules.specs.Cut.{Outcome, refused, done, next, Step, with_element, add_element, share_element, add_polytope, give, given, add_vertex, with_point, share_vertex, add_plane, plane_matches, with_plane, share_plane}
 use Rattle.rules.specs.Held.{Extends, Ranked, SetOf, SomeOf}
-use Rattle.rules.specs.declared.ElementOrNone.TheVariants.{None}
 use Rattle.rules.proofs.Corners.{corner_new, corner_there}
 use Rattle.rules.proofs.Extends.{extends_refl, extends_trans, grown_element, with_vertex, grown_vertex, grown_plane}
 use Rattle.rules.proofs.Good.{Good, Whole}
@@ -28,6 +26,7 @@ use Rattle.rules.proofs.Growing.{find_holds, find_bound, length_snoc}
 use Rattle.rules.proofs.LaterAppends.{polytope_by}
 use Rattle.rules.proofs.Laws.{eq_test, and_left, test_le, not_le, is_found, le_test}
 use Rattle.rules.proofs.Ranked.{set_under, set_ranks}
+use Rattle.rules.specs.declared.Refusal.TheVariants.{ElementsFull, HyperplanesFull, VerticesFull}
 
 pub record Kept {A : Type 0} (L : Limits) (Q : A → Table → Type 0) (before : Table) (a : A) (after : Table) : Type 0 where
   pub extends : Extends before after
@@ -65,7 +64,7 @@ same_corner v (corner w) k = refl
 same_corner v (polytope q c j n) k = absurd (false≢true k)
 
 -- what a search among the elements finds is in use, and passes the test
-pub found_element : (p : Element → Bool) (t : Table) (i : ℕ) → find p t.elements ≡ some i → (i < element_count t) × (p (element t i) ≡ true)
+pub found_element : (p : Element → Bool) (t : Table) (i : ℕ) → find p t.elements ≡ Some i → (i < element_count t) × (p (element t i) ≡ true)
 found_element p t i h =
     let f = find_holds p 0 i t.elements (corner 0) h in (
       subst (λ (k : ℕ). i < k) (zero-add (element_count t)) (find_bound p 0 i t.elements h),
@@ -83,8 +82,8 @@ module _ (L : Limits) (r : ℕ) (b : List ℕ) (h : Option ℕ) (m : Bool) (t : 
   unfolding add_element
   polytope_stays w short = go (find (same_element (polytope r b h m)) t.elements) refl
     where
-      room : (c : Bool) → ltb (element_count t) L.elements ≡ c → find (same_element (polytope r b h m)) t.elements ≡ none
-          → Stays L (λ (i : ℕ) (s : Table). Ranked s (suc r) i) t (if c then done (element_count t) (with_element (polytope r b h m) t) else refused 9)
+      room : (c : Bool) → ltb (element_count t) L.elements ≡ c → find (same_element (polytope r b h m)) t.elements ≡ None
+          → Stays L (λ (i : ℕ) (s : Table). Ranked s (suc r) i) t (if c then done (element_count t) (with_element (polytope r b h m) t) else refused ElementsFull)
       room true e n = record {
         extends = grown_element (polytope r b h m) t;
         good = good_polytope L t r b h m g w e short n;
@@ -93,10 +92,10 @@ module _ (L : Limits) (r : ℕ) (b : List ℕ) (h : Option ℕ) (m : Bool) (t : 
       room false e n = tt
 
       go : (o : Option ℕ) → find (same_element (polytope r b h m)) t.elements ≡ o → Stays L (λ (i : ℕ) (s : Table). Ranked s (suc r) i) t (share_element L (polytope r b h m) o t)
-      go (some i) e =
+      go (Some i) e =
           let f = found_element (same_element (polytope r b h m)) t i e in
           stays_here L (λ (k : ℕ) (s : Table). Ranked s (suc r) k) t i g (f.0, ap suc (same_rank r b h m (element t i) f.1))
-      go none e = room (ltb (element_count t) L.elements) refl e
+      go None e = room (ltb (element_count t) L.elements) refl e
 
 -- where a boundary has more than its rank, the rank is not 0
 pub rank_above : (t : Table) (r : ℕ) (b : List ℕ) → SetOf t r b → leb (length b) r ≡ false → leb 1 r ≡ true
@@ -141,31 +140,31 @@ module _ (L : Limits) (t : Table) (g : Good L t) where
       n = length t.points
 
       matched : (v : ℕ) (o : Option ℕ) → find (same_element (corner v)) t.elements ≡ o → is_found o ≡ true → Stays L (λ (i : ℕ) (s : Table). Ranked s 1 i) t (share_element L (corner v) o t)
-      matched v (some i) e f =
+      matched v (Some i) e f =
           let q = found_element (same_element (corner v)) t i e in
           stays_here L (λ (k : ℕ) (s : Table). Ranked s 1 k) t i g (q.0, ap suc (same_corner v (element t i) q.1))
-      matched v none e f = absurd (false≢true f)
+      matched v None e f = absurd (false≢true f)
 
-      room : (c : Bool) → ltb (element_count t) L.elements ≡ c → ltb n L.vertices ≡ true → find (same_element (corner n)) t.elements ≡ none
-          → Stays L (λ (i : ℕ) (s : Table). Ranked s 1 i) t (if c then done (element_count t) (with_vertex p t) else refused 9)
+      room : (c : Bool) → ltb (element_count t) L.elements ≡ c → ltb n L.vertices ≡ true → find (same_element (corner n)) t.elements ≡ None
+          → Stays L (λ (i : ℕ) (s : Table). Ranked s 1 i) t (if c then done (element_count t) (with_vertex p t) else refused ElementsFull)
       room true e v f = record { extends = grown_vertex p t; good = good_vertex L t p g sp v e f; value = new_rank (corner n) (with_point p t) }
       room false e v f = tt
 
       fresh : (o : Option ℕ) → find (same_element (corner n)) t.elements ≡ o → is_found o ≡ false → ltb n L.vertices ≡ true
           → Stays L (λ (i : ℕ) (s : Table). Ranked s 1 i) t (share_element L (corner n) o (with_point p t))
-      fresh (some i) e f v = absurd (true≢false f)
-      fresh none e f v = room (ltb (element_count t) L.elements) refl v e
+      fresh (Some i) e f v = absurd (true≢false f)
+      fresh None e f v = room (ltb (element_count t) L.elements) refl v e
 
       new : (c : Bool) → ltb n L.vertices ≡ c
-          → Stays L (λ (i : ℕ) (s : Table). Ranked s 1 i) t (if c then share_element L (corner n) (find (same_element (corner n)) t.elements) (with_point p t) else refused 8)
+          → Stays L (λ (i : ℕ) (s : Table). Ranked s 1 i) t (if c then share_element L (corner n) (find (same_element (corner n)) t.elements) (with_point p t) else refused VerticesFull)
       new true v = fresh (find (same_element (corner n)) t.elements) refl (corner_new L t g) v
       new false v = tt
 
       go : (o : Option ℕ) → find (λ q. point_matches q p) t.points ≡ o → Stays L (λ (i : ℕ) (s : Table). Ranked s 1 i) t (share_vertex L p o t)
-      go (some v) e =
+      go (Some v) e =
           matched v (find (same_element (corner v)) t.elements) refl
           (corner_there L t g v (subst (λ (k : ℕ). v < k) (zero-add n) (find_bound (λ q. point_matches q p) 0 v t.points e)))
-      go none e = new (ltb n L.vertices) refl
+      go None e = new (ltb n L.vertices) refl
 
   pub plane_stays : (h : Plane) → sound_plane t.dimension h ≡ true → Stays L (λ (i : ℕ) (s : Table). i < length s.planes) t (add_plane L h t)
   unfolding add_plane
@@ -178,7 +177,7 @@ module _ (L : Limits) (t : Table) (g : Good L t) where
       last = let e = length-drop P t.planes in let k = le_test P (length t.planes) g.primordial in omega (arith, e, k)
 
       room : (c : Bool) → ltb (length t.planes) L.hyperplanes ≡ c
-          → Stays L (λ (i : ℕ) (s : Table). i < length s.planes) t (if c then done (length t.planes) (with_plane h t) else refused 10)
+          → Stays L (λ (i : ℕ) (s : Table). i < length s.planes) t (if c then done (length t.planes) (with_plane h t) else refused HyperplanesFull)
       room true e = record {
         extends = grown_plane h t;
         good = good_plane L t h g sp e;
@@ -187,7 +186,7 @@ module _ (L : Limits) (t : Table) (g : Good L t) where
       room false e = tt
 
       go : (o : Option ℕ) → find_from P (λ q. plane_matches q h) (drop P t.planes) ≡ o → Stays L (λ (i : ℕ) (s : Table). i < length s.planes) t (share_plane L h o t)
-      go (some i) e =
+      go (Some i) e =
           stays_here L (λ (k : ℕ) (s : Table). k < length s.planes) t i g
           (subst (λ (k : ℕ). i < k) last (find_bound (λ q. plane_matches q h) P i (drop P t.planes) e))
-      go none e = room (ltb (length t.planes) L.hyperplanes) refl
+      go None e = room (ltb (length t.planes) L.hyperplanes) refl

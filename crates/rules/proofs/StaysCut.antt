@@ -1,9 +1,8 @@
 -- Demand 3, the middle part: the table after an unrefused cut of a sound table, by a divider that fits, is sound. By induction over the rank.
-use Rattle.std.specs.Prelude.{if◌then◌else◌}
+use Rattle.std.specs.Prelude.{if◌then◌else◌, Option, Some, None}
 use Prim.Native.Nat.{◌-◌, ℕ, suc, zero, ◌<◌}
 use mathlib.Core.Bool.{true, false, Bool, ◌&&◌, not}
 use mathlib.Core.List.{List, [], ◌∷◌}
-use mathlib.Core.Option.{some, none}
 use mathlib.Core.Path.{◌≡◌, ◌∙◌, sym, refl, ap, subst}
 use native.Mathlib.Nat.{suc-ne-zero, suc_inj, le_of_lt, le_trans, not-suc-le-zero, le_of_suc-le-suc}
 use native.Mathlib.Omega.{arith}
@@ -20,13 +19,9 @@ use Rattle.rules.specs.Cut.{Cutting, Params, cut, plane_of_intersection, new_int
 use Rattle.rules.specs.Cut.{gathering, corner_output, corner_answer, nothing_yet, cut_edge, Step, cut_boundary, cut_higher, cut_element, Outcome, refused, done, cut_corner, cut_finite, add_plane, cut_at_distance}
 use Rattle.rules.specs.Promises.{OneBelow, NamesBelow}
 use Rattle.rules.specs.Held.{Extends, SetOf, SomeOf, Sets, OutputOf, AnswerOf, AllOf, Ranked}
-use Rattle.rules.specs.declared.Crossing.{Crossing}
-use Rattle.rules.specs.declared.Crossing.TheVariants.{None as NoCrossing, At}
 use Rattle.rules.specs.declared.ElementCutOutput.{ElementCutOutput}
 use Rattle.rules.specs.declared.ElementCutOutput.TheVariants.{NonFlush, Flush}
 use Rattle.rules.specs.declared.ElementAnswer.{ElementAnswer}
-use Rattle.rules.specs.declared.ElementOrNone.{ElementOrNone}
-use Rattle.rules.specs.declared.ElementOrNone.TheVariants.{None, Some}
 use Rattle.rules.proofs.Clamp.{clamp_within}
 use Rattle.rules.proofs.Corners.{corner_named_lem}
 use Rattle.rules.proofs.Extends.{begins_length, extends_trans, count_more}
@@ -36,6 +31,7 @@ use Rattle.rules.proofs.Laws.{and_true, test_eq, eq_test, and_left, and_right, t
 use Rattle.rules.proofs.Ranked.{set_including, some_later, set_later, sets_later, sets_gathering, corner_answer_lem, sets_none, all_later, ranked_later, ranked_all}
 use Rattle.rules.proofs.Repeat.{NotInfinite}
 use Rattle.rules.proofs.Stays.{Stays, add_stays, stays_here, stays_next, vertex_stays, plane_stays}
+use Rattle.rules.specs.declared.ElementId.{ElementId}
 
 -- ---- a crossing lies in the box of its edge
 
@@ -88,7 +84,7 @@ module _ (L : Limits) (c : Cutting) where
   unfolding sound_facet
   cut_facet t r n = go (eqb (suc r) t.dimension)
     where
-      go : (b : Bool) → (if b then names_plane t (if b then some c.number else none) else (names_none (if b then some c.number else none) && not false)) ≡ true
+      go : (b : Bool) → (if b then names_plane t (if b then Some c.number else None) else (names_none (if b then Some c.number else None) && not false)) ≡ true
       go true = test_le (suc c.number) (length t.planes) n
       go false = refl
 
@@ -100,7 +96,7 @@ module _ (L : Limits) (c : Cutting) where
       (add_stays L r s (plane_of_intersection t c (suc r)) false t g hs
       (test_le r t.dimension (le_of_lt (le_test (suc r) t.dimension low))) (cut_facet t r n))
 
-  pub side_stays : (t : Table) (r : ℕ) (k : Bool) (e : Element) (x : ElementOrNone) (s : List ℕ) → Good L t → Owner t r e → SomeOf (suc r) x t → SetOf t (suc r) s
+  pub side_stays : (t : Table) (r : ℕ) (k : Bool) (e : Element) (x : Option ElementId) (s : List ℕ) → Good L t → Owner t r e → SomeOf (suc r) x t → SetOf t (suc r) s
       → Stays L (SomeOf (suc (suc r))) t (side_of_cut L k e x s t)
   side_stays t r false e x s g o hx hs = stays_here L (SomeOf (suc (suc r))) t None g tt
   side_stays t r true e x s g o hx hs =
@@ -112,7 +108,7 @@ module _ (L : Limits) (c : Cutting) where
     planes_more : {t l : Table} → Extends t l → c.number < length t.planes → c.number < length l.planes
     planes_more {t} {l} x n = le_trans n (begins_length t.planes l.planes x.planes)
 
-    rule7_stays : (x : ElementOrNone) (t : Table) → Good L t → Owner t r e → SomeOf (suc r) x t → Sets r g t → Stays L (AnswerOf (suc r)) t (rule7 L c e g x t)
+    rule7_stays : (x : Option ElementId) (t : Table) → Good L t → Owner t r e → SomeOf (suc r) x t → Sets r g t → Stays L (AnswerOf (suc r)) t (rule7 L c e g x t)
     unfolding rule7
     rule7_stays x t k o hx h =
         stays_next L (SomeOf (suc (suc r))) (AnswerOf (suc r)) t (side_of_cut L c.params.keep_inside e x g.inside t) _
@@ -134,10 +130,10 @@ module _ (L : Limits) (c : Cutting) where
 
   -- ---- an edge
 
-  pub cross_stays : (p q : List Float) (x : Crossing) (g : Gathered) (t : Table) → Good L t → sound_point t.dimension p ≡ true → sound_point t.dimension q ≡ true → Sets 0 g t
+  pub cross_stays : (p q : List Float) (x : Option Float) (g : Gathered) (t : Table) → Good L t → sound_point t.dimension p ≡ true → sound_point t.dimension q ≡ true → Sets 0 g t
       → Stays L (Sets 0) t (cross_edge L p q x g t)
-  cross_stays p q NoCrossing g t k hp hq h = stays_here L (Sets 0) t g k h
-  cross_stays p q (At s) g t k hp hq h =
+  cross_stays p q None g t k hp hq h = stays_here L (Sets 0) t g k h
+  cross_stays p q (Some s) g t k hp hq h =
       stays_next L (λ (i : ℕ) (u : Table). Ranked u 1 i) (Sets 0) t (add_vertex L (crossing_point s p q) t) _
       (vertex_stays L t k (crossing_point s p q) (crossing_sound s t.dimension p q hp hq)) (λ v t₁ e₁ k₁ hv.
       stays_here L (Sets 0) t₁ _ k₁ (record {
@@ -220,7 +216,7 @@ element_stays L c (suc r) e t k n l q =
 abbrev pub NamesInUse : ElementAnswer → Table → Type 0
 NamesInUse a t = NamesBelow (element_count t) a.output
 
-some_in_use : (q : ℕ) (t : Table) (x : ElementOrNone) → SomeOf q x t → OneBelow (element_count t) x
+some_in_use : (q : ℕ) (t : Table) (x : Option ElementId) → SomeOf q x t → OneBelow (element_count t) x
 some_in_use q t None h = tt
 some_in_use q t (Some e) h = h.0
 

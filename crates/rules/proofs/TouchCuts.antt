@@ -1,10 +1,9 @@
 -- What a touch tells of the cut of the same root by the same plane: all on is flush, one side alone is missed, without both no vertex is added, and an edge with both is crossed.
 -- All on goes by induction over the rank, as for a missed piece.
-use Rattle.std.specs.Prelude.{if◌then◌else◌}
+use Rattle.std.specs.Prelude.{if◌then◌else◌, Option, Some, Ok}
 use Prim.Native.Nat.{ℕ, zero, suc, ◌<◌}
 use mathlib.Core.Bool.{Bool, true, false, false≢true, not, ◌&&◌, ◌||◌}
 use mathlib.Core.List.{List, [], ◌∷◌}
-use mathlib.Core.Option.{Option}
 use mathlib.Core.Path.{◌≡◌, refl, sym, ap, ap₂, subst, ◌∙◌}
 use native.Mathlib.Nat.{suc-ne-zero, le_of_lt}
 use native.Mathlib.Omega.{arith}
@@ -21,16 +20,12 @@ use Rattle.rules.specs.Cut.{cut_higher, cut_corner, cut_element, cut_at_distance
 use Rattle.rules.specs.Questions.{reaches}
 use Rattle.rules.specs.Held.{AllOf, Ranked}
 use Rattle.rules.specs.Touch.{touch, some_close_call, says_inside, says_outside, SomeCorner, Touches, only_plane, AllOnIsFlush, OneSideIsMissed, OneSideAddsNoVertex, BothCutsAnEdge}
-use Rattle.rules.specs.declared.Crossing.{Crossing}
-use Rattle.rules.specs.declared.Crossing.TheVariants.{At}
-use Rattle.rules.specs.declared.ElementOrNone.{ElementOrNone}
 use Rattle.rules.specs.declared.ElementCutOutput.TheVariants.{Flush, NonFlush}
 use Rattle.rules.specs.declared.ElementAnswer.{ElementAnswer}
 use Rattle.rules.specs.declared.Side.{Side}
 use Rattle.rules.specs.declared.Side.TheVariants.{Inside, On, Outside}
 use Rattle.rules.specs.declared.Touch.{Touch}
 use Rattle.rules.specs.declared.Touch.TheVariants.{AllOn, InsideOrOn, OutsideOrOn, Both}
-use Rattle.rules.specs.declared.TouchReply.TheVariants.{Touched}
 use Rattle.rules.proofs.Built.{After, add_plane_lem, built_extends}
 use Rattle.rules.proofs.CloseBelow.{close_below, close_vertices}
 use Rattle.rules.proofs.Corners.{good_fine}
@@ -41,8 +36,10 @@ use Rattle.rules.proofs.Laws.{eq_test, eqb_self, if_true, le_test, or_case, or_n
 use Rattle.rules.proofs.Missed.{Clear, CornersOn, Lies, all_of_map, clear_boundary, asks, numbered, only_plane_lem, missed_cut, plane_unmoved, Unmoved}
 use Rattle.rules.proofs.Ranked.{ranked_all}
 use Rattle.rules.proofs.Repeat.{NotInfinite}
-use Rattle.rules.proofs.Touched.{near_finite, touch_read}
+use Rattle.rules.proofs.Touching.{near_finite, touch_read}
 use Rattle.rules.proofs.Uncrossed.{Points, points_after, points_kept}
+use Rattle.rules.specs.declared.ElementId.{ElementId}
+use Rattle.rules.specs.Touch.{touch_with}
 
 -- ---- all on: everything is flush
 
@@ -124,7 +121,7 @@ module _ (L : Limits) (t : Table) (good : Good L t) (c : Cutting) where
 
 abbrev Crossed : Outcome ElementAnswer → Type 0
 Crossed (refused n) = Unit {0}
-Crossed (done b u) = (x : ℕ) × (p q : ElementOrNone) × (b.output ≡ NonFlush p q (given x))
+Crossed (done b u) = (x : ℕ) × (p q : Option ElementId) × (b.output ≡ NonFlush p q (given x))
 
 crossed_next : {A : Type 0} (o : Outcome A) (f : A → Step ElementAnswer) → ((a : A) (s : Table) → Crossed (f a s)) → Crossed (next o f)
 crossed_next (refused n) f k = tt
@@ -138,7 +135,7 @@ module _ (L : Limits) (c : Cutting) where
       crossed_next (side_of_cut L c.params.keep_outside y (given v) g.outside s) _ (λ o u. (v, i, o, refl)))
 
   -- the crossing counts as the flush one
-  cross_crossed : (y : Element) (p q : List Float) (x : Float) (g : Gathered) (t : Table) → Crossed (next (cross_edge L p q (At x) g t) (λ f. rule6 L c y f f.flush))
+  cross_crossed : (y : Element) (p q : List Float) (x : Float) (g : Gathered) (t : Table) → Crossed (next (cross_edge L p q (Some x) g t) (λ f. rule6 L c y f f.flush))
   unfolding rule6
   cross_crossed y p q x g t = go (add_vertex L (crossing_point x p q) t)
     where
@@ -156,8 +153,8 @@ module _ (L : Limits) (c : Cutting) where
       let sa = distance_of c (point_at t a) in
       let sb = distance_of c (point_at t b) in
       let ends = gathering b (corner_answer b (side_test sb)) (gathering a (corner_answer a (side_test sa)) nothing_yet) in
-      subst (λ (x : Crossing). Crossed (next (cross_edge L (point_at t a) (point_at t b) x ends t) (λ g. rule6 L c (polytope 1 (a ∷ b ∷ []) j m) g g.flush)))
-      (sym (if_true (opposite (side_of sa) (side_of sb)) (At _) _ q)) (cross_crossed (polytope 1 (a ∷ b ∷ []) j m) (point_at t a) (point_at t b) _ ends t)
+      subst (λ (x : Option Float). Crossed (next (cross_edge L (point_at t a) (point_at t b) x ends t) (λ g. rule6 L c (polytope 1 (a ∷ b ∷ []) j m) g g.flush)))
+      (sym (if_true (opposite (side_of sa) (side_of sb)) (Some _) _ q)) (cross_crossed (polytope 1 (a ∷ b ∷ []) j m) (point_at t a) (point_at t b) _ ends t)
 
 -- ---- the promises
 
@@ -208,13 +205,13 @@ module _ (L : Limits) (h : Plane) (root : ℕ) (t : Table) (on : Touches L h roo
   none_there : (side : Side) → (SomeCorner side h t root → ⊥) → CornersOn t h (NotOn side) (rank t root) root
   none_there side f x b z q = f (x, record { below = b; corner = z; lies = q })
 
-  no_outside : (a : Touch) (k : ℕ) → touch h root t ≡ Touched a k → says_outside a ≡ false → SomeCorner Outside h t root → ⊥
+  no_outside : (a : Touch) (k : ℕ) → touch h root t ≡ Ok (touch_with a k) → says_outside a ≡ false → SomeCorner Outside h t root → ⊥
   no_outside a k e z s = false≢true (sym z ∙ (touch_read L h root t a k on e).outside_told s)
 
-  no_inside : (a : Touch) (k : ℕ) → touch h root t ≡ Touched a k → says_inside a ≡ false → SomeCorner Inside h t root → ⊥
+  no_inside : (a : Touch) (k : ℕ) → touch h root t ≡ Ok (touch_with a k) → says_inside a ≡ false → SomeCorner Inside h t root → ⊥
   no_inside a k e z s = false≢true (sym z ∙ (touch_read L h root t a k on e).inside_told s)
 
-  flush_cut : (k : ℕ) → touch h root t ≡ Touched AllOn k → (i o : Bool) → cut L (keeping h i o) root t ≡ only_plane L h Flush false t
+  flush_cut : (k : ℕ) → touch h root t ≡ Ok (touch_with AllOn k) → (i o : Bool) → cut L (keeping h i o) root t ≡ only_plane L h Flush false t
   flush_cut k e i o =
       only_plane_lem L t good (keeping h i o) on.fits finite root on.used (Lies On) flush_answer
       (λ x b z. left_on _ (none_there Inside (no_inside AllOn k e refl) x b z) (none_there Outside (no_outside AllOn k e refl) x b z))
@@ -225,13 +222,13 @@ module _ (L : Limits) (h : Plane) (root : ℕ) (t : Table) (on : Touches L h roo
   told = close_vertices L t on.sound h root on.used
 
   module _ (off : SomeCorner On h t root → ⊥) where
-    missed_inside : (k : ℕ) → touch h root t ≡ Touched InsideOrOn k → (o : Bool) → cut L (keeping h true o) root t ≡ only_plane L h (corner_output root Inside) (some_close_call h t root) t
+    missed_inside : (k : ℕ) → touch h root t ≡ Ok (touch_with InsideOrOn k) → (o : Bool) → cut L (keeping h true o) root t ≡ only_plane L h (corner_output root Inside) (some_close_call h t root) t
     missed_inside k e o =
         missed_cut L t good (keeping h true o) on.fits finite root on.used true refl
         (λ x b z. left_inside _ (none_there On off x b z) (none_there Outside (no_outside InsideOrOn k e refl) x b z))
         ∙ ap (λ (w : Bool). only_plane L h (corner_output root Inside) w t) told
 
-    missed_outside : (k : ℕ) → touch h root t ≡ Touched OutsideOrOn k → (i : Bool) → cut L (keeping h i true) root t ≡ only_plane L h (corner_output root Outside) (some_close_call h t root) t
+    missed_outside : (k : ℕ) → touch h root t ≡ Ok (touch_with OutsideOrOn k) → (i : Bool) → cut L (keeping h i true) root t ≡ only_plane L h (corner_output root Outside) (some_close_call h t root) t
     missed_outside k e i =
         missed_cut L t good (keeping h i true) on.fits finite root on.used false refl
         (λ x b z. left_outside _ (none_there On off x b z) (none_there Inside (no_inside OutsideOrOn k e refl) x b z))
@@ -298,7 +295,7 @@ module _ (L : Limits) (h : Plane) (root : ℕ) (t : Table) (on : Touches L h roo
       below : reaches t 1 root x ≡ true
       below = subst (λ (n : ℕ). reaches t n root x ≡ true) (ap rank_of own) r
 
-  both_opposite : (k : ℕ) → touch h root t ≡ Touched Both k → (a b : ℕ) (j : Option ℕ) (m : Bool) → element t root ≡ polytope 1 (a ∷ b ∷ []) j m
+  both_opposite : (k : ℕ) → touch h root t ≡ Ok (touch_with Both k) → (a b : ℕ) (j : Option ℕ) (m : Bool) → element t root ≡ polytope 1 (a ∷ b ∷ []) j m
       → opposite (side_of (signed_distance h.normal h.distance (point_at t a))) (side_of (signed_distance h.normal h.distance (point_at t b))) ≡ true
   both_opposite k e a b j m own =
       let r = touch_read L h root t Both k on e in
@@ -316,7 +313,7 @@ module _ (L : Limits) (h : Plane) (root : ℕ) (t : Table) (on : Touches L h roo
       Goal : Type 0
       Goal = opposite (side a) (side b) ≡ true
 
-  edge_cut : (k : ℕ) → touch h root t ≡ Touched Both k → rank t root ≡ 1 → (i o : Bool) → Crossed (cut L (keeping h i o) root t)
+  edge_cut : (k : ℕ) → touch h root t ≡ Ok (touch_with Both k) → rank t root ≡ 1 → (i o : Bool) → Crossed (cut L (keeping h i o) root t)
   edge_cut k e z i o = go (element t root) refl z
     where
       ends : (b : List ℕ) (j : Option ℕ) (m : Bool) → element t root ≡ polytope 1 b j m → length b ≡ 2 → AllOf (Ranked t 1) b → Crossed (cut L (keeping h i o) root t)
@@ -332,7 +329,7 @@ module _ (L : Limits) (h : Plane) (root : ℕ) (t : Table) (on : Touches L h roo
           let w = (whole_at L t root 1 b j m good on.used own).bound in
           ends b j m own (eq_test (length b) 2 w.tight) (ranked_all t root 1 b (le_of_lt on.used) w.under w.ranks)
 
-  one_side_points : (a : Touch) (k : ℕ) → touch h root t ≡ Touched a k → (a ≡ Both → ⊥) → (i o : Bool) → Points t.points (cut L (keeping h i o) root t)
+  one_side_points : (a : Touch) (k : ℕ) → touch h root t ≡ Ok (touch_with a k) → (a ≡ Both → ⊥) → (i o : Bool) → Points t.points (cut L (keeping h i o) root t)
   one_side_points AllOn k e n i o = points_cut i o (NotOn Outside) outside_free (none_there Outside (no_outside AllOn k e refl))
   one_side_points InsideOrOn k e n i o = points_cut i o (NotOn Outside) outside_free (none_there Outside (no_outside InsideOrOn k e refl))
   one_side_points OutsideOrOn k e n i o = points_cut i o (NotOn Inside) inside_free (none_there Inside (no_inside OutsideOrOn k e refl))

@@ -3,7 +3,6 @@
 use Prim.Native.Nat.{ℕ, zero, suc}
 use mathlib.Core.Bool.{Bool, true, false, not}
 use mathlib.Core.List.{List, [], ◌∷◌}
-use mathlib.Core.Option.{Option, none, some}
 use mathlib.Core.Path.{◌≡◌, refl, sym, ap, subst, ◌∙◌}
 use native.Mathlib.Nat.{suc-ne-zero, le_trans}
 use lib.Dec.{leb, ltb}
@@ -19,7 +18,6 @@ use Rattle.rules.specs.Cut.{add_element, share_element, add_polytope, including,
 use Rattle.rules.specs.Cut.{cut_higher, cut_corner, cut_element}
 use Rattle.rules.specs.Questions.{reaches}
 use Rattle.rules.specs.Held.{Extends, AllOf}
-use Rattle.rules.specs.declared.ElementOrNone.{ElementOrNone}
 use Rattle.rules.specs.declared.Side.{Side}
 use Rattle.rules.proofs.Built.{After, built_extends, cut_element_lem}
 use Rattle.rules.proofs.Corners.{good_fine}
@@ -28,6 +26,8 @@ use Rattle.rules.proofs.Fine.{point_at_same}
 use Rattle.rules.proofs.Good.{Good, whole_at}
 use Rattle.rules.proofs.Laws.{either, eq_test, eqb_self}
 use Rattle.rules.proofs.Missed.{Clear, all_of_map, clear_boundary, asks}
+use Rattle.rules.specs.declared.ElementId.{ElementId}
+use Rattle.std.specs.Prelude.{Option, Some, None}
 
 -- the points are these, unless the step is refused
 abbrev pub Points : {A : Type 0} → List (List Float) → Outcome A → Type 0
@@ -51,8 +51,8 @@ module _ (ps : List (List Float)) where
     element_points y t h = go (find (same_element y) t.elements)
       where
         go : (o : Option ℕ) → Points ps (share_element L y o t)
-        go (some i) = h
-        go none = either (Points ps) (ltb (element_count t) L.elements) _ _ h tt
+        go (Some i) = h
+        go None = either (Points ps) (ltb (element_count t) L.elements) _ _ h tt
 
     polytope_points : (r : ℕ) (b : List ℕ) (j : Option ℕ) (m : Bool) (t : Table) → t.points ≡ ps → Points ps (add_polytope L r b j m t)
     unfolding add_polytope
@@ -62,12 +62,12 @@ module _ (ps : List (List Float)) where
         (either (Points ps) (not (closed t r b)) _ _ tt
         (points_next (add_element L (polytope r b j m) t) _ (element_points (polytope r b j m) t h) (λ i s q. q))))
 
-    side_points : (k : Bool) (y : Element) (x : ElementOrNone) (b : List ℕ) (t : Table) → t.points ≡ ps → Points ps (side_of_cut L k y x b t)
+    side_points : (k : Bool) (y : Element) (x : Option ElementId) (b : List ℕ) (t : Table) → t.points ≡ ps → Points ps (side_of_cut L k y x b t)
     side_points false y x b t h = h
     side_points true y x b t h = polytope_points (rank_of y) (including x b) (plane_of y) (is_primordial y) t h
 
     module _ (c : Cutting) (y : Element) (g : Gathered) where
-      rule7_points : (x : ElementOrNone) (t : Table) → t.points ≡ ps → Points ps (rule7 L c y g x t)
+      rule7_points : (x : Option ElementId) (t : Table) → t.points ≡ ps → Points ps (rule7 L c y g x t)
       unfolding rule7
       rule7_points x t h =
           points_next (side_of_cut L c.params.keep_inside y x g.inside t) _ (side_points c.params.keep_inside y x g.inside t h) (λ i s q.

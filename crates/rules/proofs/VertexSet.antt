@@ -21,6 +21,7 @@ use Rattle.rules.proofs.Borders.{sound_bordered}
 use Rattle.rules.proofs.Good.{above_zero, sound_good}
 use Rattle.rules.proofs.Laws.{and_right, and_true, and_left, test_le, eq_test, le_test, if_true, test_eq, neither}
 use Rattle.rules.proofs.OneCall.{sound_table}
+use Rattle.rules.specs.declared.Refusal.TheVariants.{NotInUse, NotSound}
 
 -- ---- what is each-kept of a rising list rises
 
@@ -165,7 +166,7 @@ no_facet L t s d e u k =
 pub no_facet_in_one_dimension : (L : Limits) → NoFacetInOneDimension L
 unfolding primordial_facet_reply
 no_facet_in_one_dimension L m s d e u k =
-    (λ j. facet_value (facet_answer (if not (s j) then no_answer 3 else if not (used j) then no_answer 4 else primordial_facet (decode L m) e)))
+    (λ j. facet_value (facet_answer (if not (s j) then no_answer NotSound else if not (used j) then no_answer NotInUse else primordial_facet (decode L m) e)))
     ∙ ap (λ (a : Asked Bool). facet_value (facet_answer a)) (no_facet L (decode L m) (sound_table L m s) d e u k)
   where
     used : (ltb e (element_count (decode L m)) && true) ≡ true

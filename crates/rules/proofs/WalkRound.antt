@@ -18,6 +18,7 @@ use Rattle.rules.specs.Asking.{Paired, Chain, Walked, WalkGoesRound}
 use Rattle.rules.proofs.Common.{member_kept, kept_member}
 use Rattle.rules.proofs.FaceEdges.{of_all, number, On, Face, start_edge, is_face, linked, starts, start_lowest}
 use Rattle.rules.proofs.Laws.{eq_test, unlike_eq, or_case}
+use Rattle.rules.specs.declared.Refusal.TheVariants.{NotClosed, Rank}
 
 -- ---- a walk, step by step
 
@@ -113,7 +114,7 @@ unfolding edges_in_order
 told t f ps h = go (eqb (rank t f) 2) (each_once (boundary t f) (around t (boundary t f))) refl refl h
   where
     go : (a b : Bool) → eqb (rank t f) 2 ≡ a → each_once (boundary t f) (around t (boundary t f)) ≡ b
-        → (if not a then no_answer 6 else if b then answer (pairs t (start_of t (boundary t f)) (around t (boundary t f))) else no_answer 7) ≡ answer ps → Told t f ps
+        → (if not a then no_answer Rank else if b then answer (pairs t (start_of t (boundary t f)) (around t (boundary t f))) else no_answer NotClosed) ≡ answer ps → Told t f ps
     go false b r e k = absurd (false≢true (ap answered k))
     go true false r e k = absurd (false≢true (ap answered k))
     go true true r e k = record { ranked = eq_test (rank t f) 2 r; each = e; same = ap given k }

@@ -3,7 +3,6 @@
 use Prim.Native.Nat.{ℕ, zero, suc, ◌<◌}
 use mathlib.Core.Bool.{Bool, true, false, ◌||◌}
 use mathlib.Core.List.{List, [], ◌∷◌}
-use mathlib.Core.Option.{Option}
 use mathlib.Core.Path.{◌≡◌, refl, sym, ap, ap₂, subst, ◌∙◌}
 use native.Mathlib.Nat.{suc_inj, suc-ne-zero, le_of_lt}
 use native.Mathlib.Omega.{arith}
@@ -20,12 +19,9 @@ use Rattle.rules.specs.Cut.{rule7, rule6, cross_edge, add_vertex, cut_ends, cut_
 use Rattle.rules.specs.Replies.{cut_reply, cut_warning, params_of}
 use Rattle.rules.specs.Held.{Extends, AllOf, Ranked}
 use Rattle.rules.specs.Promises.{WarnsOfCloseCalls}
-use Rattle.rules.specs.declared.Crossing.{Crossing}
-use Rattle.rules.specs.declared.Crossing.TheVariants.{None as NoCrossing, At}
 use Rattle.rules.specs.declared.ElementCutOutput.{ElementCutOutput}
 use Rattle.rules.specs.declared.ElementCutOutput.TheVariants.{Flush, NonFlush}
 use Rattle.rules.specs.declared.ElementAnswer.{ElementAnswer}
-use Rattle.rules.specs.declared.ElementOrNone.{ElementOrNone}
 use Rattle.rules.proofs.Built.{After, built_extends, cut_element_lem, add_plane_lem}
 use Rattle.rules.proofs.Calls.{not_infinite}
 use Rattle.rules.proofs.CloseBelow.{close_to, close_below, close_vertices}
@@ -38,6 +34,8 @@ use Rattle.rules.proofs.OneCall.{did, sound_table}
 use Rattle.rules.proofs.Ranked.{ranked_all}
 use Rattle.rules.proofs.Refusals.{cut_numbers}
 use Rattle.rules.proofs.Repeat.{NotInfinite}
+use Rattle.rules.specs.declared.ElementId.{ElementId}
+use Rattle.std.specs.Prelude.{Option, Some, None}
 
 -- ---- what holds of the value of a step that is done
 
@@ -77,7 +75,7 @@ gathering_warns b a g = go a.output
     go (NonFlush i o x) = refl
 
 module _ (L : Limits) (c : Cutting) where
-  rule7_warns : (e : Element) (g : Gathered) (x : ElementOrNone) (t : Table) → Done (Warns g.warning) (rule7 L c e g x t)
+  rule7_warns : (e : Element) (g : Gathered) (x : Option ElementId) (t : Table) → Done (Warns g.warning) (rule7 L c e g x t)
   unfolding rule7
   rule7_warns e g x t =
       any_next (Warns g.warning) (side_of_cut L c.params.keep_inside e x g.inside t) _ (λ i t₁.
@@ -94,9 +92,9 @@ module _ (L : Limits) (c : Cutting) where
   after_gathered w e (refused n) h = tt
   after_gathered w e (done g t) h = warns_as (rule6 L c e g g.flush t) h (rule6_warns e g g.flush t)
 
-  pub crossed_warns : (p q : List Float) (x : Crossing) (g : Gathered) (t : Table) → Done (Gathers g.warning) (cross_edge L p q x g t)
-  crossed_warns p q NoCrossing g t = refl
-  crossed_warns p q (At s) g t = any_next (Gathers g.warning) (add_vertex L (crossing_point s p q) t) _ (λ v u. refl)
+  pub crossed_warns : (p q : List Float) (x : Option Float) (g : Gathered) (t : Table) → Done (Gathers g.warning) (cross_edge L p q x g t)
+  crossed_warns p q None g t = refl
+  crossed_warns p q (Some s) g t = any_next (Gathers g.warning) (add_vertex L (crossing_point s p q) t) _ (λ v u. refl)
 
   -- ---- an element, in every table that goes on from t
 

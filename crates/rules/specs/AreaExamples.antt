@@ -1,6 +1,5 @@
 -- Area sheets (document 02, order 13): each row is what the rules give and what is right; proofs/Answers.antt has the theorems. Definitions only.
-use Rattle.std.specs.Prelude.{true, false, List, [], ◌∷◌, ◌++◌, ◌≡◌, pos, negsuc, replicate, set, Float}
-use Rattle.std.proofs.Math.Option.{some}
+use Rattle.std.specs.Prelude.{true, false, List, [], ◌∷◌, ◌++◌, ◌≡◌, pos, negsuc, replicate, set, Float, Some}
 use Rattle.std.specs.Float.{fin}
 use Rattle.rules.specs.Limits.{Limits}
 use Rattle.rules.specs.Floats.{plus_zero, one}
@@ -34,7 +33,7 @@ through_corner = plane (fin true 1 (negsuc 10)) one (fin true 2047 (negsuc 10))
 
 -- an edge that a cut made
 abbrev pub line : ElementNumber → ElementNumber → HyperplaneNumber → Element
-line a b h = polytope 1 (a ∷ b ∷ []) (some h) false
+line a b h = polytope 1 (a ∷ b ∷ []) (Some h) false
 
 abbrev pub whole_elements : List Element
 whole_elements = corner 0 ∷ corner 1 ∷ edge 0 1 0 ∷ corner 2 ∷ corner 3 ∷ edge 3 4 1 ∷ edge 0 3 2 ∷ edge 1 4 3 ∷ face (2 ∷ 5 ∷ 6 ∷ 7 ∷ []) ∷ []

@@ -1,7 +1,6 @@
 -- Document 02, order 13: the area sheet of some flat pieces in exact numbers, the whole reply, and what is promised of it. Definitions only.
 -- A coordinate is a whole number of units of 1/1,024, so twice an area is a whole number of units of 1/1,048,576.
-use Rattle.std.specs.Prelude.{ℕ, suc, ◌+◌, ◌*◌, ◌/◌, ◌%◌, ◌^◌, ◌≤◌, ◌<◌, ◌≡◌, Bool, true, false, not, ◌&&◌, List, [], ◌∷◌, ◌++◌, map, leb, ltb, eqb, ℤ, pos, neg_ℤ, nat_abs, ◌+ℤ◌, ◌-ℤ◌, ◌*ℤ◌, length, get_or, Float, if◌then◌else◌}
-use Rattle.std.proofs.Math.Option.{some}
+use Rattle.std.specs.Prelude.{ℕ, suc, ◌+◌, ◌*◌, ◌/◌, ◌%◌, ◌^◌, ◌≤◌, ◌<◌, ◌≡◌, Bool, true, false, not, ◌&&◌, List, [], ◌∷◌, ◌++◌, map, leb, ltb, eqb, ℤ, pos, neg_ℤ, nat_abs, ◌+ℤ◌, ◌-ℤ◌, ◌*ℤ◌, length, get_or, Float, if◌then◌else◌, Some}
 use Rattle.std.specs.Float.{nan, inf, fin}
 use Rattle.std.specs.Float.Ieee.{up, down}
 use Rattle.rules.specs.Limits.{Limits}
@@ -10,9 +9,10 @@ use Rattle.rules.specs.Floats.{plus_zero}
 use Rattle.rules.specs.Table.{ElementNumber, VertexNumber, Table, rank, element_count}
 use Rattle.rules.specs.Memory.{Memory, decode, sound_memory}
 use Rattle.rules.specs.Questions.{Asked, no_answer, answer, edges_in_order}
-use Rattle.rules.specs.Replies.{list_number, list_size, listed}
+use Rattle.rules.specs.Replies.{list_size, listed}
 use Rattle.rules.specs.Calls.{ListNumbered, Filled}
-use Rattle.rules.specs.declared.ListReply.{ListReply}
+use Rattle.rules.specs.Refusals.{Reply, reply_number}
+use Rattle.rules.specs.declared.Refusal.TheVariants.{ListLong, NotInUse, NotSound, OffGrid, Rank}
 
 -- a sheet has at most so many pieces
 abbrev pub most_pieces : ℕ
@@ -88,15 +88,15 @@ sheet t pieces = let areas = map (twice_area t) pieces in areas ++ pos (length p
 unfoldable pub area_sheet : Limits → Memory → List ElementNumber → Asked (List ℤ)
 area_sheet L m pieces =
     let t = decode L m in
-    if not (sound_memory L m) then no_answer 3
-    else if not (leb (length pieces) most_pieces) then no_answer 26
-    else if not (all (λ f. ltb f (element_count t)) pieces) then no_answer 4
-    else if not (eqb t.dimension 2 && all (λ f. eqb (rank t f) 2) pieces) then no_answer 6
-    else if not (all (piece_on_grid t) pieces) then no_answer 25
+    if not (sound_memory L m) then no_answer NotSound
+    else if not (leb (length pieces) most_pieces) then no_answer ListLong
+    else if not (all (λ f. ltb f (element_count t)) pieces) then no_answer NotInUse
+    else if not (eqb t.dimension 2 && all (λ f. eqb (rank t f) 2) pieces) then no_answer Rank
+    else if not (all (piece_on_grid t) pieces) then no_answer OffGrid
     else answer (sheet t pieces)
 
 -- and 12 last; the table is read only
-unfoldable pub areas_reply : Limits → Memory → List ElementNumber → List ℤ → ListReply × List ℤ
+unfoldable pub areas_reply : Limits → Memory → List ElementNumber → List ℤ → Reply ℕ × List ℤ
 areas_reply L m pieces room = listed (area_sheet L m pieces) room
 
 -- ---- promises
@@ -106,11 +106,11 @@ abbrev pub AreasNumbers : Limits → Type 0
 AreasNumbers L = (m : Memory) (pieces : List ElementNumber) (room : List ℤ) → ListNumbered (3 ∷ 26 ∷ 4 ∷ 6 ∷ 25 ∷ 12 ∷ []) (areas_reply L m pieces room).0
 
 abbrev pub RefusedAreasLeave : Limits → Type 0
-RefusedAreasLeave L = (m : Memory) (pieces : List ElementNumber) (room : List ℤ) → 0 < list_number (areas_reply L m pieces room).0 → (areas_reply L m pieces room).1 ≡ room
+RefusedAreasLeave L = (m : Memory) (pieces : List ElementNumber) (room : List ℤ) → 0 < reply_number (areas_reply L m pieces room).0 → (areas_reply L m pieces room).1 ≡ room
 
 -- a sheet has two numbers more than pieces, fills the front of its room and leaves the remainder
 abbrev pub AreasFillFront : Limits → Type 0
-AreasFillFront L = (m : Memory) (pieces : List ElementNumber) (room : List ℤ) (n : ℕ) → list_size (areas_reply L m pieces room).0 ≡ some n
+AreasFillFront L = (m : Memory) (pieces : List ElementNumber) (room : List ℤ) (n : ℕ) → list_size (areas_reply L m pieces room).0 ≡ Some n
     → (n ≡ suc (suc (length pieces))) × Filled n room (areas_reply L m pieces room).1
 
 -- where no boundary has more than 32 elements, every number of a sheet lies from -2^62 to 2^62, so it fits in 64 bits: a coordinate has at most 2^26 units, a step 2^53, and a walk 2^58

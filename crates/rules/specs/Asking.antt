@@ -1,6 +1,5 @@
 -- What is promised of the six questions: what each answer is, without the way it is found. Definitions only.
-use Rattle.std.specs.Prelude.{ℕ, zero, suc, ◌<◌, ◌≡◌, Bool, true, false, List, [], ◌∷◌, eqb, ltb, length, get_or}
-use Rattle.std.proofs.Math.Option.{some}
+use Rattle.std.specs.Prelude.{ℕ, zero, suc, ◌<◌, ◌≡◌, Bool, true, false, List, [], ◌∷◌, eqb, ltb, length, get_or, Some}
 use Rattle.rules.specs.Limits.{Limits}
 use Rattle.rules.specs.Lists.{all, any, member, occurrences, rises}
 use Rattle.rules.specs.Table.{ElementNumber, VertexNumber, Table, vertex_of, element, rank, boundary, element_count}
@@ -98,4 +97,4 @@ WalkGoesRound L = (t : Table) → sound L t ≡ true → (f : ElementNumber) (ps
 -- always no in one dimension
 abbrev pub NoFacetInOneDimension : Limits → Type 0
 NoFacetInOneDimension L = (m : Memory) → sound_memory L m ≡ true → (decode L m).dimension ≡ 1
-    → (e : ElementNumber) → e < element_count (decode L m) → rank (decode L m) e ≡ 1 → facet_value (primordial_facet_reply L m e) ≡ some false
+    → (e : ElementNumber) → e < element_count (decode L m) → rank (decode L m) e ≡ 1 → facet_value (primordial_facet_reply L m e) ≡ Some false

@@ -1,19 +1,16 @@
 -- Calls on the table at hand, and what is read off their replies: the words in which the promises speak. Definitions only.
-use Rattle.std.specs.Prelude.{ℕ, ◌<◌, ◌≤◌, ◌≡◌, Bool, true, false, List, [], ◌∷◌, length, drop, Float}
-use Rattle.std.proofs.Math.Option.{Option, none, some}
+use Rattle.std.specs.Prelude.{ℕ, ◌<◌, ◌≤◌, ◌≡◌, Bool, true, false, List, [], ◌∷◌, length, drop, Float, Option, Some, None, Ok}
 use Rattle.rules.specs.Limits.{Limits}
 use Rattle.rules.specs.Lists.{member}
 use Rattle.rules.specs.Table.{ElementNumber}
 use Rattle.rules.specs.Memory.{Memory}
-use Rattle.rules.specs.Replies.{cut_number, cut_values, cut_warning, list_number, list_size, facet_number, facet_value, cube_reply, as_reply, cut_reply}
+use Rattle.rules.specs.Replies.{cut_values, cut_warning, list_size, facet_value, cube_reply, cut_reply}
 use Rattle.rules.specs.Replies.{sub_elements_reply, with_rank_reply, vertex_set_reply, greatest_common_reply, edges_in_order_reply}
 use Rattle.rules.specs.Print.{print_reply}
 use Rattle.rules.specs.Files.{save_reply, open_reply}
 use Rattle.rules.specs.declared.CutParams.{CutParams}
 use Rattle.rules.specs.declared.ElementAnswer.{ElementAnswer}
-use Rattle.rules.specs.declared.CutReply.{CutReply}
-use Rattle.rules.specs.declared.ListReply.{ListReply}
-use Rattle.rules.specs.declared.FacetReply.{FacetReply}
+use Rattle.rules.specs.Refusals.{Reply, reply_number}
 
 -- ---- calls in turn
 
@@ -39,8 +36,8 @@ after_calls L (c ∷ cs) m = after_calls L cs (after L c m)
 abbrev pub LeavesTable : Limits → Call → Memory → Type 0
 LeavesTable L (cutting p root) m = Unit {0}
 LeavesTable L asking m = Unit {0}
-LeavesTable L (cubing d radius) m = 0 < (cube_reply L d radius m).0
-LeavesTable L (opening bs) m = 0 < (open_reply L bs m).0
+LeavesTable L (cubing d radius) m = 0 < reply_number (cube_reply L d radius m).0
+LeavesTable L (opening bs) m = 0 < reply_number (open_reply L bs m).0
 
 -- no cube and no file among the calls is taken
 abbrev pub TableStays : Limits → List Call → Memory → Type 0
@@ -58,7 +55,7 @@ pub data ListQuestion : Type 0 where
   file_of_table : ListQuestion
   print_file_of : ElementNumber → ListQuestion
 
-abbrev pub list_reply : Limits → ListQuestion → Memory → List ℕ → ListReply × List ℕ
+abbrev pub list_reply : Limits → ListQuestion → Memory → List ℕ → Reply ℕ × List ℕ
 list_reply L (sub_elements_of e) m room = sub_elements_reply L m e room
 list_reply L (sub_elements_with_rank k e) m room = with_rank_reply L m k e room
 list_reply L (vertex_set_of e) m room = vertex_set_reply L m e room
@@ -80,27 +77,27 @@ list_refusals (print_file_of e) = 3 ∷ 4 ∷ 6 ∷ 16 ∷ 12 ∷ []
 -- ---- what a reply says
 
 -- a cut is done with these values and this warning, and this is the memory after it
-pub record Gives (r : CutReply × Memory) (vs : List (Option ElementNumber)) (w : Bool) (m : Memory) : Type 0 where
-  pub number : cut_number r.0 ≡ 0
+pub record Gives (r : Reply ElementAnswer × Memory) (vs : List (Option ElementNumber)) (w : Bool) (m : Memory) : Type 0 where
+  pub number : reply_number r.0 ≡ 0
   pub values : cut_values r.0 ≡ vs
   pub warning : cut_warning r.0 ≡ w
   pub memory : r.1 ≡ m
 
 -- the number is 0 with an answer, or one of some refusals, with no element and no warning
-pub record CutNumbered (ns : List ℕ) (r : CutReply) : Type 0 where
-  pub number : member (cut_number r) (0 ∷ ns) ≡ true
-  pub answered : cut_number r ≡ 0 → (a : ElementAnswer) × (r ≡ as_reply a)
-  pub refused : 0 < cut_number r → (cut_values r ≡ []) × (cut_warning r ≡ false)
+pub record CutNumbered (ns : List ℕ) (r : Reply ElementAnswer) : Type 0 where
+  pub number : member (reply_number r) (0 ∷ ns) ≡ true
+  pub answered : reply_number r ≡ 0 → (a : ElementAnswer) × (r ≡ Ok a)
+  pub refused : 0 < reply_number r → (cut_values r ≡ []) × (cut_warning r ≡ false)
 
-pub record ListNumbered (ns : List ℕ) (r : ListReply) : Type 0 where
-  pub number : member (list_number r) (0 ∷ ns) ≡ true
-  pub answered : list_number r ≡ 0 → (n : ℕ) × (list_size r ≡ some n)
-  pub refused : 0 < list_number r → list_size r ≡ none
+pub record ListNumbered (ns : List ℕ) (r : Reply ℕ) : Type 0 where
+  pub number : member (reply_number r) (0 ∷ ns) ≡ true
+  pub answered : reply_number r ≡ 0 → (n : ℕ) × (list_size r ≡ Some n)
+  pub refused : 0 < reply_number r → list_size r ≡ None
 
-pub record FacetNumbered (ns : List ℕ) (r : FacetReply) : Type 0 where
-  pub number : member (facet_number r) (0 ∷ ns) ≡ true
-  pub answered : facet_number r ≡ 0 → (b : Bool) × (facet_value r ≡ some b)
-  pub refused : 0 < facet_number r → facet_value r ≡ none
+pub record FacetNumbered (ns : List ℕ) (r : Reply Bool) : Type 0 where
+  pub number : member (reply_number r) (0 ∷ ns) ≡ true
+  pub answered : reply_number r ≡ 0 → (b : Bool) × (facet_value r ≡ Some b)
+  pub refused : 0 < reply_number r → facet_value r ≡ None
 
 -- a list of n entries fits the room, and leaves all behind it
 pub record Filled {A : Type 0} (n : ℕ) (room filled : List A) : Type 0 where

@@ -1,6 +1,5 @@
 -- Document 01, "The primordial cube". Definitions only.
-use Rattle.std.specs.Prelude.{ℕ, zero, suc, ◌+◌, ◌*◌, ◌^◌, ◌/◌, ◌%◌, Bool, not, ◌&&◌, List, [], ◌∷◌, ◌++◌, map, eqb, length, Float, if◌then◌else◌}
-use Rattle.std.proofs.Math.Option.{none, some}
+use Rattle.std.specs.Prelude.{ℕ, zero, suc, ◌+◌, ◌*◌, ◌^◌, ◌/◌, ◌%◌, Bool, not, ◌&&◌, List, [], ◌∷◌, ◌++◌, map, eqb, length, Float, if◌then◌else◌, Some, None}
 use Rattle.std.specs.Float.Ieee.{neg, le}
 use Rattle.rules.specs.Lists.{keep, up_to, occurrences}
 use Rattle.rules.specs.Floats.{plus_zero, one, farthest}
@@ -47,7 +46,7 @@ unfoldable pub cube_element : ℕ → ElementNumber → Element
 cube_element d n =
     let ks = digits d n in
     if is_vertex ks then corner (length (chosen is_vertex d n))
-    else polytope (twos ks) (map of_digits (faces ks)) (if is_facet ks then some (length (chosen is_facet d n)) else none) (is_facet ks)
+    else polytope (twos ks) (map of_digits (faces ks)) (if is_facet ks then Some (length (chosen is_facet d n)) else None) (is_facet ks)
 
 unfoldable pub cube_point : Float → List ℕ → List Float
 cube_point radius ks = map (λ k. if eqb k 0 then neg radius else radius) ks

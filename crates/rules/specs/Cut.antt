@@ -1,28 +1,26 @@
 -- Document 01, "The cut", rules 1 to 8. Definitions only.
 -- A step works on a table, and gives a value with the table after it, or is refused with a number. A choice on what a search or a test gives is a function of its own, by clauses.
-use Rattle.std.specs.Prelude.{ℕ, zero, suc, ◌-◌, Bool, true, false, not, ◌&&◌, ◌||◌, List, [], ◌∷◌, ◌++◌, leb, ltb, eqb, length, get_or, drop, Float, if◌then◌else◌}
-use Rattle.std.proofs.Math.Option.{Option, none, some}
+use Rattle.std.specs.Prelude.{ℕ, zero, suc, ◌-◌, Bool, true, false, not, ◌&&◌, ◌||◌, List, [], ◌∷◌, ◌++◌, leb, ltb, eqb, length, get_or, drop, Float, if◌then◌else◌, Option, Some, None}
 use Rattle.std.specs.Float.{nan, inf, fin}
 use Rattle.rules.specs.Limits.{Limits}
 use Rattle.rules.specs.Lists.{find, find_from, with_member}
 use Rattle.rules.specs.Floats.{signed_distance, side_test, edge_test, crossing_point, matches, point_matches}
 use Rattle.rules.specs.Table.{ElementNumber, HyperplaneNumber, VertexNumber, Element, corner, polytope, Plane, Table, rank_of, boundary_of, plane_of, is_primordial, same_element, element, rank, element_count, point_at, primordials}
 use Rattle.rules.specs.Sound.{closed}
+use Rattle.rules.specs.declared.Refusal.{Refusal}
 use Rattle.rules.specs.declared.Side.{Side}
 use Rattle.rules.specs.declared.Side.TheVariants.{Inside, On, Outside}
 use Rattle.rules.specs.declared.SideTest.{SideTest}
-use Rattle.rules.specs.declared.Crossing.{Crossing}
-use Rattle.rules.specs.declared.Crossing.TheVariants.{None as NoCrossing, At}
-use Rattle.rules.specs.declared.ElementOrNone.{ElementOrNone}
-use Rattle.rules.specs.declared.ElementOrNone.TheVariants.{None, Some}
 use Rattle.rules.specs.declared.ElementCutOutput.{ElementCutOutput}
 use Rattle.rules.specs.declared.ElementCutOutput.TheVariants.{Flush, NonFlush}
 use Rattle.rules.specs.declared.ElementAnswer.{ElementAnswer}
+use Rattle.rules.specs.declared.ElementId.{ElementId}
+use Rattle.rules.specs.declared.Refusal.TheVariants.{BoundaryFull, ElementsFull, HyperplanesFull, NotClosed, VerticesFull}
 
 -- ---- steps
 
 pub data Outcome (A : Type 0) : Type 0 where
-  refused : ℕ → Outcome A
+  refused : Refusal → Outcome A
   done : A → Table → Outcome A
 
 abbrev pub Step : Type 0 → Type 0
@@ -58,29 +56,29 @@ with_plane h t = record { dimension = t.dimension; points = t.points; elements =
 
 -- the equal entry that was found, or a new one (9)
 abbrev pub share_element : Limits → Element → Option ElementNumber → Step ElementNumber
-share_element L e (some i) = give i
-share_element L e none = λ t. if ltb (element_count t) L.elements then done (element_count t) (with_element e t) else refused 9
+share_element L e (Some i) = give i
+share_element L e None = λ t. if ltb (element_count t) L.elements then done (element_count t) (with_element e t) else refused ElementsFull
 
 unfoldable pub add_element : Limits → Element → Step ElementNumber
 add_element L e = λ t. share_element L e (find (same_element e) t.elements) t
 
 -- the element of a number
-abbrev pub given : ElementNumber → ElementOrNone
+abbrev pub given : ElementNumber → Option ElementId
 given e = Some (record { 0 = e })
 
 -- rule 8: a new boundary whose count is not above its rank gives none; otherwise it is equal to an old entry, or is appended (11, 7, equal entry, 9)
-unfoldable pub add_polytope : Limits → ℕ → List ElementNumber → Option HyperplaneNumber → Bool → Step ElementOrNone
+unfoldable pub add_polytope : Limits → ℕ → List ElementNumber → Option HyperplaneNumber → Bool → Step (Option ElementId)
 add_polytope L r b h m = λ t.
     if leb (length b) r then done None t
-    else if ltb L.boundary (length b) then refused 11
-    else if not (closed t r b) then refused 7
+    else if ltb L.boundary (length b) then refused BoundaryFull
+    else if not (closed t r b) then refused NotClosed
     else next (add_element L (polytope r b h m) t) (λ i. give (given i))
 
 -- the element of the lowest match, which is there already; or a new vertex (8), then its element (9)
 abbrev pub share_vertex : Limits → List Float → Option VertexNumber → Step ElementNumber
-share_vertex L p (some v) = add_element L (corner v)
-share_vertex L p none = λ t.
-    if ltb (length t.points) L.vertices then add_element L (corner (length t.points)) (with_point p t) else refused 8
+share_vertex L p (Some v) = add_element L (corner v)
+share_vertex L p None = λ t.
+    if ltb (length t.points) L.vertices then add_element L (corner (length t.points)) (with_point p t) else refused VerticesFull
 
 unfoldable pub add_vertex : Limits → List Float → Step ElementNumber
 add_vertex L p = λ t. share_vertex L p (find (λ q. point_matches q p) t.points) t
@@ -91,8 +89,8 @@ plane_matches earlier later = point_matches earlier.normal later.normal && match
 
 -- the lowest match, or a new hyperplane (10)
 abbrev pub share_plane : Limits → Plane → Option HyperplaneNumber → Step HyperplaneNumber
-share_plane L h (some n) = give n
-share_plane L h none = λ t. if ltb (length t.planes) L.hyperplanes then done (length t.planes) (with_plane h t) else refused 10
+share_plane L h (Some n) = give n
+share_plane L h None = λ t. if ltb (length t.planes) L.hyperplanes then done (length t.planes) (with_plane h t) else refused HyperplanesFull
 
 -- hyperplanes numbered below P are never matched
 unfoldable pub add_plane : Limits → Plane → Step HyperplaneNumber
@@ -143,7 +141,7 @@ unfoldable pub cut_corner : Cutting → ElementNumber → Step ElementAnswer
 cut_corner c e = λ t. done (corner_answer e (side_test (distance_of c (point_at t e)))) t
 
 -- a set with an element in it, or as it is
-abbrev pub including : ElementOrNone → List ElementNumber → List ElementNumber
+abbrev pub including : Option ElementId → List ElementNumber → List ElementNumber
 including None s = s
 including (Some e) s = with_member e.0 s
 
@@ -163,12 +161,12 @@ abbrev pub gathering : ElementNumber → ElementAnswer → Gathered → Gathered
 gathering b a g = gathering_output b a.output (g.warning || a.warning) g
 
 -- rule 7: that side's set and the intersection, with the old rank, hyperplane and mark; a removed side is none
-abbrev pub side_of_cut : Limits → Bool → Element → ElementOrNone → List ElementNumber → Step ElementOrNone
+abbrev pub side_of_cut : Limits → Bool → Element → Option ElementId → List ElementNumber → Step (Option ElementId)
 side_of_cut L false e x s = give None
 side_of_cut L true e x s = add_polytope L (rank_of e) (including x s) (plane_of e) (is_primordial e)
 
 -- rule 7: then inside, then outside, if kept
-unfoldable pub rule7 : Limits → Cutting → Element → Gathered → ElementOrNone → Step ElementAnswer
+unfoldable pub rule7 : Limits → Cutting → Element → Gathered → Option ElementId → Step ElementAnswer
 rule7 L c e g x = do
   i ← side_of_cut L c.params.keep_inside e x g.inside
   o ← side_of_cut L c.params.keep_outside e x g.outside
@@ -176,10 +174,10 @@ rule7 L c e g x = do
 
 -- the divider's hyperplane if the rank is the dimension
 abbrev pub plane_of_intersection : Table → Cutting → ℕ → Option HyperplaneNumber
-plane_of_intersection t c r = if eqb r t.dimension then some c.number else none
+plane_of_intersection t c r = if eqb r t.dimension then Some c.number else None
 
 -- the gathered intersections form an element of rank - 1, not primordial
-abbrev pub new_intersection : Limits → Cutting → ℕ → List ElementNumber → Step ElementOrNone
+abbrev pub new_intersection : Limits → Cutting → ℕ → List ElementNumber → Step (Option ElementId)
 new_intersection L c r s = λ t. add_polytope L (r - 1) s (plane_of_intersection t c r) false t
 
 -- rule 6, by the flush answers: none, exactly one, more than one
@@ -191,9 +189,9 @@ rule6 L c e g (f ∷ []) = rule7 L c e g (given f)
 rule6 L c e g (f ∷ f' ∷ fs) = give (record { output = Flush; warning = g.warning })
 
 -- rule 4: a crossing is matched or appended (vertex, then its element) and counts as the flush one
-abbrev pub cross_edge : Limits → List Float → List Float → Crossing → Gathered → Step Gathered
-cross_edge L p q NoCrossing g = give g
-cross_edge L p q (At t) g = do
+abbrev pub cross_edge : Limits → List Float → List Float → Option Float → Gathered → Step Gathered
+cross_edge L p q None g = give g
+cross_edge L p q (Some t) g = do
   v ← add_vertex L (crossing_point t p q)
   give (record { flush = v ∷ []; inside = g.inside; outside = g.outside; intersections = g.intersections; warning = g.warning })
 

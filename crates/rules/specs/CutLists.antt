@@ -1,21 +1,21 @@
 -- Document 02, order 5: a list of cuts in one call: the cuts that it asks for, the whole reply, and what is promised of it. Definitions only.
-use Rattle.std.specs.Prelude.{ℕ, suc, ◌*◌, ◌/◌, ◌%◌, ◌≤◌, ◌<◌, ◌≡◌, Bool, true, not, ◌&&◌, List, [], ◌∷◌, map, leb, ltb, eqb, length, get_or, set, take, drop, Float, if◌then◌else◌}
-use Rattle.std.proofs.Math.Option.{Option, none, some}
+use Rattle.std.specs.Prelude.{ℕ, suc, ◌*◌, ◌/◌, ◌%◌, ◌≤◌, ◌<◌, ◌≡◌, Bool, true, not, ◌&&◌, List, [], ◌∷◌, map, leb, ltb, eqb, length, get_or, set, take, drop, Float, if◌then◌else◌, Option, Some, None, Err, Ok}
 use Rattle.rules.specs.Limits.{Limits}
 use Rattle.rules.specs.Lists.{member, up_to}
 use Rattle.rules.specs.Floats.{plus_zero}
 use Rattle.rules.specs.Table.{ElementNumber}
 use Rattle.rules.specs.Memory.{Memory, plane_width, sound_memory}
-use Rattle.rules.specs.Replies.{output_word, fate_of, cut_by, as_reply, cut_reply}
+use Rattle.rules.specs.Replies.{output_word, fate_of, cut_by, cut_reply}
 use Rattle.rules.specs.Calls.{Call, cutting, after_calls, TableStays, Filled}
 use Rattle.rules.specs.declared.Hyperplane.{Hyperplane}
 use Rattle.rules.specs.declared.PolytopeFate.{PolytopeFate}
 use Rattle.rules.specs.declared.CutParams.{CutParams}
 use Rattle.rules.specs.declared.ElementAnswer.{ElementAnswer}
-use Rattle.rules.specs.declared.CutReply.{CutReply}
-use Rattle.rules.specs.declared.CutReply.TheVariants as one
 use Rattle.rules.specs.declared.CutListReply.{CutListReply}
 use Rattle.rules.specs.declared.CutListReply.TheVariants.{Refused, Stopped, Answered}
+use Rattle.rules.specs.Refusals.{refusal_number, Reply}
+use Rattle.rules.specs.declared.Refusal.{Refusal}
+use Rattle.rules.specs.declared.Refusal.TheVariants.{ListLong, NotSound, RoomShort}
 
 -- ---- the cuts of a list
 
@@ -61,9 +61,9 @@ cuts_of L l = map (cut_at L l) (up_to (length l.roots))
 -- ---- the reply, the room for answers and the memory after it
 
 -- the cut at position i: a refusal ends the list, and an answer is written at its position, as one number, before the list goes on
-abbrev pub going_on : ℕ → List ℕ → CutReply × Memory → (List ℕ → Memory → CutListReply × List ℕ × Memory) → CutListReply × List ℕ × Memory
-going_on i room (one.Refused n, m) rest = (Stopped n i, room, m)
-going_on i room (one.Answered a w, m) rest = rest (set room i (output_word a w)) m
+abbrev pub going_on : ℕ → List ℕ → Reply ElementAnswer × Memory → (List ℕ → Memory → CutListReply × List ℕ × Memory) → CutListReply × List ℕ × Memory
+going_on i room (Err n, m) rest = (Stopped n i, room, m)
+going_on i room (Ok a, m) rest = rest (set room i (output_word a.output a.warning)) m
 
 -- these cuts one after another, the first of them at position i
 abbrev pub cuts_from : Limits → List ListedCut → ℕ → List ℕ → Memory → CutListReply × List ℕ × Memory
@@ -73,16 +73,16 @@ cuts_from L (c ∷ cs) i room m = going_on i room (cut_reply L c.params c.root m
 -- 3, then 26, then 12 for the whole list, and then each cut with its own refusals
 unfoldable pub cut_list_reply : Limits → CutList → List ℕ → Memory → CutListReply × List ℕ × Memory
 cut_list_reply L l room m =
-    if not (sound_memory L m) then (Refused 3, room, m)
-    else if not (list_fits L l) then (Refused 26, room, m)
-    else if ltb (length room) (length l.roots) then (Refused 12, room, m)
+    if not (sound_memory L m) then (Refused NotSound, room, m)
+    else if not (list_fits L l) then (Refused ListLong, room, m)
+    else if ltb (length room) (length l.roots) then (Refused RoomShort, room, m)
     else cuts_from L (cuts_of L l) 0 room m
 
 -- ---- the number and the values of each case
 
 abbrev pub cut_list_number : CutListReply → ℕ
-cut_list_number (Refused n) = n
-cut_list_number (Stopped n i) = n
+cut_list_number (Refused r) = refusal_number r
+cut_list_number (Stopped r i) = refusal_number r
 cut_list_number (Answered k) = 0
 
 abbrev pub answers_written : CutListReply → ℕ
@@ -92,16 +92,16 @@ answers_written (Answered k) = k
 
 -- a position is given only with the refusal of a cut
 abbrev pub refused_at : CutListReply → Option ℕ
-refused_at (Refused n) = none
-refused_at (Stopped n i) = some i
-refused_at (Answered k) = none
+refused_at (Refused n) = None
+refused_at (Stopped n i) = Some i
+refused_at (Answered k) = None
 
 -- ---- promises
 
 -- of n cuts: 3, 26 or 12 before any cut; a refusal of a cut and its position; or all are answered
 abbrev pub EndsAs : ℕ → CutListReply → Type 0
-EndsAs n (Refused k) = member k (3 ∷ 26 ∷ 12 ∷ []) ≡ true
-EndsAs n (Stopped k i) = (member k (4 ∷ 5 ∷ 7 ∷ 8 ∷ 9 ∷ 10 ∷ 11 ∷ []) ≡ true) × (i < n)
+EndsAs n (Refused r) = member (refusal_number r) (3 ∷ 26 ∷ 12 ∷ []) ≡ true
+EndsAs n (Stopped r i) = (member (refusal_number r) (4 ∷ 5 ∷ 7 ∷ 8 ∷ 9 ∷ 10 ∷ 11 ∷ []) ≡ true) × (i < n)
 EndsAs n (Answered k) = k ≡ n
 
 abbrev pub CutListNumbers : Limits → Type 0
@@ -109,7 +109,7 @@ CutListNumbers L = (l : CutList) (room : List ℕ) (m : Memory) → EndsAs (leng
 
 -- refused before any cut, the memory and the room are as they came
 abbrev pub RefusedCutListLeaves : Limits → Type 0
-RefusedCutListLeaves L = (l : CutList) (room : List ℕ) (m : Memory) (n : ℕ) → (cut_list_reply L l room m).0 ≡ Refused n → cut_list_reply L l room m ≡ (Refused n, room, m)
+RefusedCutListLeaves L = (l : CutList) (room : List ℕ) (m : Memory) (n : Refusal) → (cut_list_reply L l room m).0 ≡ Refused n → cut_list_reply L l room m ≡ (Refused n, room, m)
 
 -- the list as calls of the single cut
 abbrev pub call_of : ListedCut → Call
@@ -123,13 +123,13 @@ abbrev pub after_first : Limits → CutList → ℕ → Memory → Memory
 after_first L l i m = after_calls L (take i (calls_of L l)) m
 
 -- the cut at position i, made singly after those before it
-abbrev pub singly : Limits → CutList → ℕ → Memory → CutReply × Memory
+abbrev pub singly : Limits → CutList → ℕ → Memory → Reply ElementAnswer × Memory
 singly L l i m = cut_reply L (cut_at L l i).params (cut_at L l i).root (after_first L l i m)
 
 -- a single cut that is answered, and this is its word
-pub record AnsweredAs (r : CutReply) (word : ℕ) : Type 0 where
+pub record AnsweredAs (r : Reply ElementAnswer) (word : ℕ) : Type 0 where
   pub answer : ElementAnswer
-  pub reply : r ≡ as_reply answer
+  pub reply : r ≡ Ok answer
   pub told : word ≡ output_word answer.output answer.warning
 
 -- the first k cuts of a list, as they are made singly in that order: their answers, their memory, and the room behind the answers as it came
@@ -146,8 +146,8 @@ CutListIsCuts L = (l : CutList) (room : List ℕ) (m : Memory) → let r = cut_l
 
 -- stopped at a cut: made singly there it is refused with the same number, and leaves the memory of those before it
 abbrev pub StoppedAtTheRefused : Limits → Type 0
-StoppedAtTheRefused L = (l : CutList) (room : List ℕ) (m : Memory) (n i : ℕ) → (cut_list_reply L l room m).0 ≡ Stopped n i
-    → singly L l i m ≡ (one.Refused n, (cut_list_reply L l room m).2)
+StoppedAtTheRefused L = (l : CutList) (room : List ℕ) (m : Memory) (n : Refusal) (i : ℕ) → (cut_list_reply L l room m).0 ≡ Stopped n i
+    → singly L l i m ≡ (Err n, (cut_list_reply L l room m).2)
 
 -- the calls by which a list of which k cuts were made goes on after its cut at position i
 abbrev pub going_on_by : Limits → CutList → ℕ → ℕ → List Call

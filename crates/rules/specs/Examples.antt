@@ -1,7 +1,6 @@
 -- Examples beside the marked ones, for what those do not tell: each line of soundness broken once, each refusal met once, and choices that a wrong rule would make otherwise.
 -- Each row is what the rules give and what is right; proofs/Answers.antt has the theorems. Definitions only.
-use Rattle.std.specs.Prelude.{ℕ, true, false, List, [], ◌∷◌, ◌++◌, map, pos, negsuc, set, take, drop, replicate, Float}
-use Rattle.std.proofs.Math.Option.{Option, none, some}
+use Rattle.std.specs.Prelude.{ℕ, true, false, List, [], ◌∷◌, ◌++◌, map, pos, negsuc, set, take, drop, replicate, Float, Option, Some, None, Ok, Err, Bool}
 use Rattle.std.specs.Float.{nan, inf, fin, binary64}
 use Rattle.std.specs.Float.Ieee.{neg, of_bits}
 use Rattle.rules.specs.Limits.{Limits}
@@ -10,14 +9,13 @@ use Rattle.rules.specs.Table.{ElementNumber, Element, corner, polytope, Plane, T
 use Rattle.rules.specs.Sound.{sound}
 use Rattle.rules.specs.Memory.{Memory, encode, sound_memory}
 use Rattle.rules.specs.Cube.{cube}
-use Rattle.rules.specs.Replies.{crossing_value, is_sound_reply, cube_reply, sub_elements_reply, with_rank_reply, vertex_set_reply, greatest_common_reply, edges_in_order_reply, primordial_facet_reply}
+use Rattle.rules.specs.Replies.{is_sound_reply, cube_reply, sub_elements_reply, with_rank_reply, vertex_set_reply, greatest_common_reply, edges_in_order_reply, primordial_facet_reply}
 use Rattle.rules.specs.Marked.{Shown, cut_shown, list_shown, side_shown, verdict, numbers, floats, show_cut, show_list, at_x, slanted, room}
 use Rattle.rules.specs.declared.Hyperplane.{Hyperplane}
 use Rattle.rules.specs.declared.Side.TheVariants.{Inside, On, Outside}
 use Rattle.rules.specs.declared.PolytopeFate.{PolytopeFate}
 use Rattle.rules.specs.declared.PolytopeFate.TheVariants.{Remove, Keep}
-use Rattle.rules.specs.declared.FacetReply.{FacetReply}
-use Rattle.rules.specs.declared.FacetReply.TheVariants.{Refused as FacetRefused, Has}
+use Rattle.rules.specs.Refusals.{refusal_number, Reply, reply_number}
 
 -- ---- tables made by hand
 
@@ -44,13 +42,13 @@ abbrev pub corners : List Element
 corners = corner 0 ∷ corner 1 ∷ corner 2 ∷ corner 3 ∷ []
 
 abbrev pub edge : ElementNumber → ElementNumber → ℕ → Element
-edge a b h = polytope 1 (a ∷ b ∷ []) (some h) true
+edge a b h = polytope 1 (a ∷ b ∷ []) (Some h) true
 
 abbrev pub edges : List Element
 edges = edge 0 1 0 ∷ edge 2 3 1 ∷ edge 0 2 2 ∷ edge 1 3 3 ∷ []
 
 abbrev pub face : List ElementNumber → Element
-face b = polytope 2 b none false
+face b = polytope 2 b None false
 
 abbrev pub planes : List Plane
 planes = plane plus_zero minus_one one ∷ plane plus_zero one one ∷ plane minus_one plus_zero one ∷ plane one plus_zero one ∷ []
@@ -97,10 +95,10 @@ beside_triangle = made 2 (points ++ (plus_zero ∷ two ∷ []) ∷ [])
 
 -- two tetrahedra as one body, each with one corner at x = -1 and three at x = 1: nothing is asked of rank 3
 abbrev pub line3 : ElementNumber → ElementNumber → Element
-line3 a b = polytope 1 (a ∷ b ∷ []) none false
+line3 a b = polytope 1 (a ∷ b ∷ []) None false
 
 abbrev pub face3 : ElementNumber → ElementNumber → ElementNumber → Element
-face3 a b c = polytope 2 (a ∷ b ∷ c ∷ []) (some 0) false
+face3 a b c = polytope 2 (a ∷ b ∷ c ∷ []) (Some 0) false
 
 abbrev pub three : Float
 three = fin false 3 (pos 0)
@@ -112,7 +110,7 @@ tetrahedra = made 3
     (corners ++ corner 4 ∷ corner 5 ∷ corner 6 ∷ corner 7
     ∷ line3 0 1 ∷ line3 0 2 ∷ line3 0 3 ∷ line3 1 2 ∷ line3 1 3 ∷ line3 2 3 ∷ line3 4 5 ∷ line3 4 6 ∷ line3 4 7 ∷ line3 5 6 ∷ line3 5 7 ∷ line3 6 7
     ∷ face3 8 9 11 ∷ face3 8 10 12 ∷ face3 9 10 13 ∷ face3 11 12 13 ∷ face3 14 15 17 ∷ face3 14 16 18 ∷ face3 15 16 19 ∷ face3 17 18 19
-    ∷ polytope 3 (20 ∷ 21 ∷ 22 ∷ 23 ∷ 24 ∷ 25 ∷ 26 ∷ 27 ∷ []) none false ∷ [])
+    ∷ polytope 3 (20 ∷ 21 ∷ 22 ∷ 23 ∷ 24 ∷ 25 ∷ 26 ∷ 27 ∷ []) None false ∷ [])
     (replicate 6 (record { normal = one ∷ plus_zero ∷ plus_zero ∷ []; distance = one }))
 
 -- ---- soundness: each line of document 01 broken, and nothing else
@@ -171,14 +169,14 @@ soundness =
     ∷ broken (of_points (points ++ (plus_zero ∷ plus_zero ∷ []) ∷ []))
     -- a face in one dimension
     ∷ broken (made 1 ((plus_zero ∷ []) ∷ (one ∷ []) ∷ (two ∷ []) ∷ []) (corner 0 ∷ corner 1 ∷ corner 2
-    ∷ polytope 1 (0 ∷ 1 ∷ []) none false ∷ polytope 1 (0 ∷ 2 ∷ []) none false ∷ polytope 1 (1 ∷ 2 ∷ []) none false ∷ face (3 ∷ 4 ∷ 5 ∷ []) ∷ []) [])
+    ∷ polytope 1 (0 ∷ 1 ∷ []) None false ∷ polytope 1 (0 ∷ 2 ∷ []) None false ∷ polytope 1 (1 ∷ 2 ∷ []) None false ∷ face (3 ∷ 4 ∷ 5 ∷ []) ∷ []) [])
     -- boundary numbers that do not rise; a boundary number above its own; a rank not one less; a count not above the rank
     ∷ broken (of_elements (corners ++ edges ++ face (5 ∷ 4 ∷ 6 ∷ 7 ∷ []) ∷ []))
     ∷ broken (of_elements (corners ++ face (5 ∷ 6 ∷ 7 ∷ 8 ∷ []) ∷ edges))
     ∷ broken (of_elements (corners ++ edges ++ edge 3 4 0 ∷ []))
     ∷ broken (of_elements (corners ++ edge 0 1 0 ∷ edge 0 1 1 ∷ face (4 ∷ 5 ∷ []) ∷ []))
     -- an edge with three ends; a face that is not closed, once with its lowest corner inside the path and once at its end, from where the walk takes each edge once
-    ∷ broken (of_elements (corners ++ polytope 1 (0 ∷ 1 ∷ 2 ∷ []) (some 0) true ∷ []))
+    ∷ broken (of_elements (corners ++ polytope 1 (0 ∷ 1 ∷ 2 ∷ []) (Some 0) true ∷ []))
     ∷ broken (of_elements (corners ++ edges ++ face (4 ∷ 5 ∷ 6 ∷ []) ∷ []))
     ∷ broken (of_elements (corners ++ edges ++ face (4 ∷ 5 ∷ 7 ∷ []) ∷ []))
     -- two triangles are two faces, and no face together; nor are two edges between two corners beside others
@@ -188,9 +186,9 @@ soundness =
     ∷ (verdict (sound small beside_triangle), verdict false)
     -- a hyperplane not in use; none where one is due; one where none is; a mark where none is
     ∷ broken (of_elements (corners ++ edge 0 1 4 ∷ []))
-    ∷ broken (of_elements (corners ++ polytope 1 (0 ∷ 1 ∷ []) none false ∷ []))
-    ∷ broken (of_elements (corners ++ edges ++ polytope 2 (4 ∷ 5 ∷ 6 ∷ 7 ∷ []) (some 0) false ∷ []))
-    ∷ broken (of_elements (corners ++ edges ++ polytope 2 (4 ∷ 5 ∷ 6 ∷ 7 ∷ []) none true ∷ []))
+    ∷ broken (of_elements (corners ++ polytope 1 (0 ∷ 1 ∷ []) None false ∷ []))
+    ∷ broken (of_elements (corners ++ edges ++ polytope 2 (4 ∷ 5 ∷ 6 ∷ 7 ∷ []) (Some 0) false ∷ []))
+    ∷ broken (of_elements (corners ++ edges ++ polytope 2 (4 ∷ 5 ∷ 6 ∷ 7 ∷ []) None true ∷ []))
     -- two elements equal in all fields
     ∷ broken (of_elements (corners ++ edges ++ edge 0 1 0 ∷ []))
     -- memory: each slice of another size
@@ -217,12 +215,12 @@ soundness =
 -- a triangle whose lowest corner has its lower neighbour on the second edge; no edge is primordial
 unfoldable pub triangle : Table
 triangle = made 2 (drop 1 points) (corner 0 ∷ corner 1 ∷ corner 2
-    ∷ polytope 1 (0 ∷ 2 ∷ []) (some 0) false ∷ polytope 1 (0 ∷ 1 ∷ []) (some 1) false ∷ polytope 1 (1 ∷ 2 ∷ []) (some 2) false ∷ face (3 ∷ 4 ∷ 5 ∷ []) ∷ []) planes
+    ∷ polytope 1 (0 ∷ 2 ∷ []) (Some 0) false ∷ polytope 1 (0 ∷ 1 ∷ []) (Some 1) false ∷ polytope 1 (1 ∷ 2 ∷ []) (Some 2) false ∷ face (3 ∷ 4 ∷ 5 ∷ []) ∷ []) planes
 
 -- on a line, at 0, 0.9 T, -1, 1 and 1.5 T, an edge from -1 to 1; x = 0 is hyperplane 0
 unfoldable pub line : Table
 line = made 1 ((plus_zero ∷ []) ∷ (of_bits binary64 0x3eaccccccccccccd ∷ []) ∷ (minus_one ∷ []) ∷ (one ∷ []) ∷ (fin false 3 (negsuc 20) ∷ []) ∷ [])
-    (corner 0 ∷ corner 1 ∷ corner 2 ∷ corner 3 ∷ corner 4 ∷ polytope 1 (2 ∷ 3 ∷ []) none false ∷ []) (record { normal = one ∷ []; distance = plus_zero } ∷ [])
+    (corner 0 ∷ corner 1 ∷ corner 2 ∷ corner 3 ∷ corner 4 ∷ polytope 1 (2 ∷ 3 ∷ []) None false ∷ []) (record { normal = one ∷ []; distance = plus_zero } ∷ [])
 
 abbrev pub on_line : ℕ → Hyperplane
 on_line bits = at_x (of_bits binary64 bits)
@@ -246,12 +244,12 @@ abbrev pub flat_y : Hyperplane
 flat_y = record { normal = plus_zero ∷ one ∷ plus_zero ∷ plus_zero ∷ []; distance = plus_zero }
 
 abbrev pub show_crossing : Option Float → Shown
-show_crossing none = floats []
-show_crossing (some t) = floats ((t ∷ []) ∷ [])
+show_crossing None = floats []
+show_crossing (Some t) = floats ((t ∷ []) ∷ [])
 
-abbrev pub show_facet : FacetReply → Shown
-show_facet (FacetRefused n) = list_shown n []
-show_facet (Has b) = verdict b
+abbrev pub show_facet : Reply Bool → Shown
+show_facet (Err r) = list_shown (refusal_number r) []
+show_facet (Ok b) = verdict b
 
 -- ---- choices
 
@@ -265,22 +263,22 @@ choices =
     ∷ (side_shown (side_of (of_bits binary64 0xbeb0000000000001)), side_shown Inside)
     ∷ (side_shown (side_of nan), side_shown Outside)
     -- from -1 to 2 the plane is met a third of the way, which is no float; two ends on one side are not crossed
-    ∷ (show_crossing (crossing_value (edge_test minus_one two).crossing), floats ((of_bits binary64 0x3fd5555555555555 ∷ []) ∷ []))
-    ∷ (show_crossing (crossing_value (edge_test minus_one minus_one).crossing), floats [])
+    ∷ (show_crossing (edge_test minus_one two).crossing, floats ((of_bits binary64 0x3fd5555555555555 ∷ []) ∷ []))
+    ∷ (show_crossing (edge_test minus_one minus_one).crossing, floats [])
     -- a third of the way from 1 to 2, with the lower-numbered end first
     ∷ (floats (crossing_point (of_bits binary64 0x3fd5555555555555) (one ∷ []) (two ∷ []) ∷ []), floats ((of_bits binary64 0x3ff5555555555555 ∷ []) ∷ []))
     ∷ (floats ((clamp one two nan ∷ clamp one two (inf false) ∷ clamp two one plus_zero ∷ []) ∷ []), floats ((one ∷ two ∷ one ∷ []) ∷ []))
     -- the square's planes: outward, the highest axis first
     ∷ (floats (map (λ (h : Plane). h.normal) (cube 2 one).planes), floats ((plus_zero ∷ minus_one ∷ []) ∷ (plus_zero ∷ one ∷ []) ∷ (minus_one ∷ plus_zero ∷ []) ∷ (one ∷ plus_zero ∷ []) ∷ []))
     -- M2, M3, M4 and M5, in the small room: the theorem of M1 to M11 is another crate's, and these tell most of what goes wrong in a cut
-    ∷ (cut_small (at_x plus_zero) Remove Remove 8, cut_shown 0 (none ∷ none ∷ some 11 ∷ []) false (12 ∷ 6 ∷ 5 ∷ []))
-    ∷ (cut_small (at_x one) Keep Remove 8, cut_shown 0 (some 8 ∷ none ∷ some 7 ∷ []) false (9 ∷ 4 ∷ 5 ∷ []))
-    ∷ (cut_small (at_x (inf false)) Remove Remove 8, cut_shown 0 (some 8 ∷ none ∷ none ∷ []) false (9 ∷ 4 ∷ 4 ∷ []))
-    ∷ (cut_small (at_x plus_zero) Remove Keep 0, cut_shown 0 (some 0 ∷ none ∷ none ∷ []) false (9 ∷ 4 ∷ 5 ∷ []))
+    ∷ (cut_small (at_x plus_zero) Remove Remove 8, cut_shown 0 (None ∷ None ∷ Some 11 ∷ []) false (12 ∷ 6 ∷ 5 ∷ []))
+    ∷ (cut_small (at_x one) Keep Remove 8, cut_shown 0 (Some 8 ∷ None ∷ Some 7 ∷ []) false (9 ∷ 4 ∷ 5 ∷ []))
+    ∷ (cut_small (at_x (inf false)) Remove Remove 8, cut_shown 0 (Some 8 ∷ None ∷ None ∷ []) false (9 ∷ 4 ∷ 4 ∷ []))
+    ∷ (cut_small (at_x plus_zero) Remove Keep 0, cut_shown 0 (Some 0 ∷ None ∷ None ∷ []) false (9 ∷ 4 ∷ 5 ∷ []))
     -- the corner (1, 1) lies at T: the products are added, and the distance is subtracted after them; before them it would lie beyond
     ∷ (cut_small (slanted 0x3ff6666566666666) Keep Keep 4, cut_shown 0 [] false (9 ∷ 4 ∷ 5 ∷ []))
     -- 0.8 T is nearer to vertex 1 than to vertex 0, which is the lowest match
-    ∷ (show_cut small (on_line 0x3ea999999999999a) Keep Keep 5 (encode small line), cut_shown 0 (some 6 ∷ some 7 ∷ some 0 ∷ []) false (8 ∷ 5 ∷ 1 ∷ []))
+    ∷ (show_cut small (on_line 0x3ea999999999999a) Keep Keep 5 (encode small line), cut_shown 0 (Some 6 ∷ Some 7 ∷ Some 0 ∷ []) false (8 ∷ 5 ∷ 1 ∷ []))
     -- 0.9 T is hyperplane 0, and the corner at 1.5 T is on the divider as given
     ∷ (show_cut small (on_line 0x3eaccccccccccccd) Keep Keep 4 (encode small line), cut_shown 0 [] false (6 ∷ 5 ∷ 1 ∷ []))
     -- two flush edges are a flush face, and the edge crossed on the way keeps its entries
@@ -319,12 +317,12 @@ close_calls =
     ∷ (verdict (edge_test (of_bits binary64 0x3ef0000000000000) minus_one).warning, verdict true)
     ∷ (verdict (edge_test two (of_bits binary64 0x3ef0000000000000)).warning, verdict true)
     -- 8 T from the corners at x = -1, of which the last edge asked has none: the square, an edge of it, a corner that is near and one that is not
-    ∷ (cut_small (on_line 0xbfeffff000000000) Keep Keep 8, cut_shown 0 (some 16 ∷ some 17 ∷ some 15 ∷ []) true (18 ∷ 6 ∷ 5 ∷ []))
-    ∷ (cut_small (on_line 0xbfeffff000000000) Keep Keep 2, cut_shown 0 (some 10 ∷ some 11 ∷ some 9 ∷ []) true (12 ∷ 5 ∷ 5 ∷ []))
-    ∷ (cut_small (on_line 0xbfeffff000000000) Remove Keep 0, cut_shown 0 (some 0 ∷ none ∷ none ∷ []) true (9 ∷ 4 ∷ 5 ∷ []))
-    ∷ (cut_small (on_line 0xbfeffff000000000) Keep Remove 1, cut_shown 0 (none ∷ some 1 ∷ none ∷ []) false (9 ∷ 4 ∷ 5 ∷ []))
+    ∷ (cut_small (on_line 0xbfeffff000000000) Keep Keep 8, cut_shown 0 (Some 16 ∷ Some 17 ∷ Some 15 ∷ []) true (18 ∷ 6 ∷ 5 ∷ []))
+    ∷ (cut_small (on_line 0xbfeffff000000000) Keep Keep 2, cut_shown 0 (Some 10 ∷ Some 11 ∷ Some 9 ∷ []) true (12 ∷ 5 ∷ 5 ∷ []))
+    ∷ (cut_small (on_line 0xbfeffff000000000) Remove Keep 0, cut_shown 0 (Some 0 ∷ None ∷ None ∷ []) true (9 ∷ 4 ∷ 5 ∷ []))
+    ∷ (cut_small (on_line 0xbfeffff000000000) Keep Remove 1, cut_shown 0 (None ∷ Some 1 ∷ None ∷ []) false (9 ∷ 4 ∷ 5 ∷ []))
     -- 8 T beyond the corners at x = 1: the square is its old entry
-    ∷ (cut_small (on_line 0x3ff0000800000000) Keep Keep 8, cut_shown 0 (some 8 ∷ none ∷ none ∷ []) true (9 ∷ 4 ∷ 5 ∷ []))
+    ∷ (cut_small (on_line 0x3ff0000800000000) Keep Keep 8, cut_shown 0 (Some 8 ∷ None ∷ None ∷ []) true (9 ∷ 4 ∷ 5 ∷ []))
     -- a flush face, a corner of which is near
     ∷ (show_cut small flat_y Keep Keep 10 (encode small (bent (fin false 1 (negsuc 16)))), cut_shown 0 [] true (14 ∷ 6 ∷ 5 ∷ []))
     ∷ []
@@ -353,7 +351,7 @@ refusals =
     ∷ (cut_small (at_x (of_bits binary64 0x4110000000000001)) Keep Keep 8, cut_shown 5 [] false (9 ∷ 4 ∷ 4 ∷ []))
     -- squares that add up to 1 + 2^-18, and to 1 + 2^-20
     ∷ (cut_small (flat (fin false 1 (negsuc 8))) Keep Keep 0, cut_shown 5 [] false (9 ∷ 4 ∷ 4 ∷ []))
-    ∷ (cut_small (flat (fin false 1 (negsuc 9))) Keep Keep 0, cut_shown 0 (some 0 ∷ none ∷ none ∷ []) false (9 ∷ 4 ∷ 5 ∷ []))
+    ∷ (cut_small (flat (fin false 1 (negsuc 9))) Keep Keep 0, cut_shown 0 (Some 0 ∷ None ∷ None ∷ []) false (9 ∷ 4 ∷ 5 ∷ []))
     -- no room: 10 for the hyperplane, then 8 for the vertex, then 9 for its element; a refusal leaves the counts
     ∷ (in_room (room_of 1 2 3 0 2) (cube 1 one) plus_zero, cut_shown 10 [] false (3 ∷ 2 ∷ 0 ∷ []))
     ∷ (in_room (room_of 1 2 3 1 2) (cube 1 one) plus_zero, cut_shown 8 [] false (3 ∷ 2 ∷ 0 ∷ []))
@@ -368,11 +366,11 @@ refusals =
     ∷ (show_cut big (at_x plus_zero) Remove Remove 28 (encode big tetrahedra), cut_shown 7 [] false (29 ∷ 8 ∷ 6 ∷ []))
     -- a cube: 1, then 2, then 3
     ∷ (
-      numbers ((cube_reply small 0 nan (encode tight square)).0 ∷ (cube_reply small 5 one small_q).0 ∷ (cube_reply small 2 nan (encode tight square)).0
-          ∷ (cube_reply small 2 (of_bits binary64 0x40f0000000000001) small_q).0 ∷ (cube_reply small 2 one (encode tight square)).0 ∷ (cube_reply tight 2 one (encode tight square)).0 ∷ []),
+      numbers (reply_number (cube_reply small 0 nan (encode tight square)).0 ∷ reply_number (cube_reply small 5 one small_q).0 ∷ reply_number (cube_reply small 2 nan (encode tight square)).0
+          ∷ reply_number (cube_reply small 2 (of_bits binary64 0x40f0000000000001) small_q).0 ∷ reply_number (cube_reply small 2 one (encode tight square)).0 ∷ reply_number (cube_reply tight 2 one (encode tight square)).0 ∷ []),
       numbers (1 ∷ 1 ∷ 2 ∷ 2 ∷ 3 ∷ 0 ∷ []),
     )
-    ∷ (numbers (is_sound_reply small small_q ∷ is_sound_reply tight small_q ∷ []), numbers (0 ∷ 3 ∷ []))
+    ∷ (numbers (reply_number (is_sound_reply small small_q) ∷ reply_number (is_sound_reply tight small_q) ∷ []), numbers (0 ∷ 3 ∷ []))
     -- 4 before 6, 6 before 12; a room too short is 12
     ∷ (show_list (greatest_common_reply small small_q (8 ∷ 2 ∷ 9 ∷ []) []), list_shown 4 [])
     ∷ (show_list (greatest_common_reply small small_q (8 ∷ 2 ∷ []) []), list_shown 6 [])

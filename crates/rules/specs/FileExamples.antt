@@ -1,6 +1,5 @@
 -- Examples of files: what is written of a table, what is refused with 13 and what with 3; proofs/Answers.antt has the theorem. Definitions only.
-use Rattle.std.specs.Prelude.{ℕ, true, List, [], ◌∷◌, ◌++◌, take, drop, replicate}
-use Rattle.std.proofs.Math.Option.{some}
+use Rattle.std.specs.Prelude.{ℕ, true, List, [], ◌∷◌, ◌++◌, take, drop, replicate, Some}
 use Rattle.rules.specs.Limits.{Limits}
 use Rattle.rules.specs.Floats.{plus_zero, one}
 use Rattle.rules.specs.Table.{polytope}
@@ -11,6 +10,7 @@ use Rattle.rules.specs.Session.{blank}
 use Rattle.rules.specs.Marked.{Shown, numbers, list_shown, show_list}
 use Rattle.rules.specs.Examples.{plane, minus_one, small, tight}
 use Rattle.rules.specs.Sessions.{one_bytes, zero_bytes}
+use Rattle.rules.specs.Refusals.{reply_number}
 
 -- -1, and -0, by their bits
 abbrev pub minus_one_bytes : List ℕ
@@ -44,7 +44,7 @@ good_file = edge_file minus_one_bytes edge_bytes
 
 -- the number of opening some bytes, and then the counts of the memory: those of a blank one, where it was refused
 abbrev pub opened_in : Limits → Memory → List ℕ → Shown
-opened_in L m bs = let r = open_reply L bs m in numbers (r.0 ∷ r.1.counts)
+opened_in L m bs = let r = open_reply L bs m in numbers (reply_number r.0 ∷ r.1.counts)
 
 abbrev pub opened_as : List ℕ → Shown
 opened_as bs = opened_in small (blank small) bs
@@ -61,7 +61,7 @@ files =
     -- what is written: a table, a hyperplane with its distance last, a primordial edge that names hyperplane 2
     (numbers (file_of (cube 1 one)), numbers good_file)
     ∷ (numbers (plane_record (plane plus_zero one minus_one)), numbers (0x48 ∷ 0x50 ∷ (zero_bytes ++ one_bytes ++ minus_one_bytes)))
-    ∷ (numbers (element_record (polytope 1 (0 ∷ 3 ∷ []) (some 2) true)), numbers (0x45 ∷ 0x4C ∷ 1 ∷ 1 ∷ 2 ∷ 0 ∷ 2 ∷ 0 ∷ 0 ∷ 0 ∷ 3 ∷ 0 ∷ []))
+    ∷ (numbers (element_record (polytope 1 (0 ∷ 3 ∷ []) (Some 2) true)), numbers (0x45 ∷ 0x4C ∷ 1 ∷ 1 ∷ 2 ∷ 0 ∷ 2 ∷ 0 ∷ 0 ∷ 0 ∷ 3 ∷ 0 ∷ []))
     -- it is saved where there is room, and 12 where a byte is missing; 3 comes before 12
     ∷ (show_list (save_reply small (encode small (cube 1 one)) (replicate 62 0)), list_shown 0 good_file)
     ∷ (show_list (save_reply small (encode small (cube 1 one)) (replicate 61 0)), list_shown 12 [])

@@ -1,5 +1,5 @@
 -- Document 02, order 1: the one file of a table, what bytes say when they are read, and the replies of saving and opening. Definitions only.
-use Rattle.std.specs.Prelude.{ℕ, zero, suc, Bool, true, ◌&&◌, List, [], ◌∷◌, ◌++◌, map, leb, eqb, length, take, drop, Float, if◌then◌else◌}
+use Rattle.std.specs.Prelude.{ℕ, zero, suc, Bool, true, ◌&&◌, List, [], ◌∷◌, ◌++◌, map, leb, eqb, length, take, drop, Float, if◌then◌else◌, Err, Ok}
 use Rattle.std.specs.Float.{binary64}
 use Rattle.std.specs.Float.Ieee.{of_bits, fits}
 use Rattle.rules.specs.Limits.{Limits, no_plane}
@@ -10,7 +10,8 @@ use Rattle.rules.specs.Sound.{sound}
 use Rattle.rules.specs.Memory.{Memory, element_row, read_element, encode, decode, right_size}
 use Rattle.rules.specs.Questions.{Asked, no_answer, answer}
 use Rattle.rules.specs.Replies.{asked, listed}
-use Rattle.rules.specs.declared.ListReply.{ListReply}
+use Rattle.rules.specs.Refusals.{Reply}
+use Rattle.rules.specs.declared.Refusal.TheVariants.{Layout, NotSound}
 
 -- ---- written: records in the order of their marks, little-endian, no padding
 
@@ -105,9 +106,9 @@ layout bs = after_mark 0x48 0x44 table_after bs
 
 -- 13 for the layout alone, bytes after the last record too; then 3 for the table that the file says
 abbrev pub judged : Limits → Reading Table → Asked Table
-judged L broken = no_answer 13
-judged L (got t []) = if sound L t then answer t else no_answer 3
-judged L (got t (b ∷ bs)) = no_answer 13
+judged L broken = no_answer Layout
+judged L (got t []) = if sound L t then answer t else no_answer NotSound
+judged L (got t (b ∷ bs)) = no_answer Layout
 
 unfoldable pub table_in : Limits → List ℕ → Asked Table
 table_in L bs = judged L (layout bs)
@@ -115,16 +116,16 @@ table_in L bs = judged L (layout bs)
 -- ---- the replies
 
 -- saving: 3, then 12; it fills the front of the room lent and leaves the remainder
-unfoldable pub save_reply : Limits → Memory → List ℕ → ListReply × List ℕ
+unfoldable pub save_reply : Limits → Memory → List ℕ → Reply ℕ × List ℕ
 save_reply L m room = listed (asked L m [] (answer (file_of (decode L m)))) room
 
 -- a file that is taken replaces all of the memory; a room of another size is refused last, so 13 comes before every 3
-abbrev pub opened : Limits → Memory → Asked Table → ℕ × Memory
-opened L m (no_answer n) = (n, m)
-opened L m (answer t) = if right_size L m then (0, encode L t) else (3, m)
+abbrev pub opened : Limits → Memory → Asked Table → Reply (Unit {0}) × Memory
+opened L m (no_answer r) = (Err r, m)
+opened L m (answer t) = if right_size L m then (Ok tt, encode L t) else (Err NotSound, m)
 
 -- opening: 13, then 3
-unfoldable pub open_reply : Limits → List ℕ → Memory → ℕ × Memory
+unfoldable pub open_reply : Limits → List ℕ → Memory → Reply (Unit {0}) × Memory
 open_reply L bs m = opened L m (table_in L bs)
 
 -- ---- for the promises

@@ -1,6 +1,6 @@
 -- Document 01, "Floats": tolerance, signed distance, side, unit normal, crossing, match. Definitions only.
 -- A point is the list of its coordinates, one for each dimension.
-use Rattle.std.specs.Prelude.{Bool, true, false, not, ◌&&◌, ◌||◌, List, [], ◌∷◌, ℤ, pos, negsuc, eqb, Float, if◌then◌else◌}
+use Rattle.std.specs.Prelude.{Bool, true, false, not, ◌&&◌, ◌||◌, List, [], ◌∷◌, ℤ, pos, negsuc, eqb, Float, if◌then◌else◌, Option, Some, None}
 use Rattle.std.specs.Bool.{beq}
 use Rattle.std.specs.Float.{nan, inf, fin, binary64}
 use Rattle.std.specs.Float.Ieee.{neg, add, sub, mul, div, lt, le, is_nan}
@@ -8,8 +8,6 @@ use Rattle.rules.specs.Lists.{all, alike}
 use Rattle.rules.specs.declared.Side.{Side}
 use Rattle.rules.specs.declared.Side.TheVariants.{Inside, On, Outside}
 use Rattle.rules.specs.declared.SideTest.{SideTest}
-use Rattle.rules.specs.declared.Crossing.{Crossing}
-use Rattle.rules.specs.declared.Crossing.TheVariants.{None, At}
 use Rattle.rules.specs.declared.EdgeTest.{EdgeTest}
 
 -- ---- numbers that the rules name
@@ -108,8 +106,8 @@ opposite Outside On = false
 opposite Outside Outside = false
 
 -- from the signed distances of the lower-numbered end and the other: t = sa / (sa - sb)
-unfoldable pub crossing_of : Float → Float → Crossing
-crossing_of sa sb = if opposite (side_of sa) (side_of sb) then At (div binary64 sa (sub binary64 sa sb)) else None
+unfoldable pub crossing_of : Float → Float → Option Float
+crossing_of sa sb = if opposite (side_of sa) (side_of sb) then Some (div binary64 sa (sub binary64 sa sb)) else None
 
 -- the edge test: the crossing, and a warning where an end was a close call
 abbrev pub edge_test : Float → Float → EdgeTest

@@ -1,6 +1,6 @@
 -- For contracts over the lent memory: when one table goes on from another, what the memory holds of a table, and what code did of a step. Definitions only.
 -- Nothing here is needed to read the rules; it stands in specs/ because contracts cite only that.
-use Rattle.std.specs.Prelude.{ℕ, suc, ◌*◌, ◌≤◌, ◌<◌, ◌≡◌, Bool, true, not, ◌&&◌, List, [], ◌∷◌, ◌++◌, map, leb, eqb, length, Float}
+use Rattle.std.specs.Prelude.{ℕ, suc, ◌*◌, ◌≤◌, ◌<◌, ◌≡◌, Bool, true, not, ◌&&◌, List, [], ◌∷◌, ◌++◌, map, leb, eqb, length, Float, Option, Some, None}
 use Rattle.rules.specs.Limits.{Limits, no_plane}
 use Rattle.rules.specs.Lists.{all, pad, joined, rises}
 use Rattle.rules.specs.Floats.{plus_zero}
@@ -8,11 +8,11 @@ use Rattle.rules.specs.Table.{Element, corner, polytope, Table, rank, element_co
 use Rattle.rules.specs.Sound.{names_none}
 use Rattle.rules.specs.Memory.{Memory, plane_number, element_row, plane_row, element_width, plane_width}
 use Rattle.rules.specs.Cut.{Outcome, refused, done, Gathered}
-use Rattle.rules.specs.declared.ElementOrNone.{ElementOrNone}
-use Rattle.rules.specs.declared.ElementOrNone.TheVariants.{None, Some}
 use Rattle.rules.specs.declared.ElementCutOutput.{ElementCutOutput}
 use Rattle.rules.specs.declared.ElementCutOutput.TheVariants.{Flush, NonFlush}
 use Rattle.rules.specs.declared.ElementAnswer.{ElementAnswer}
+use Rattle.rules.specs.declared.ElementId.{ElementId}
+use Rattle.rules.specs.declared.Refusal.{Refusal}
 
 -- ---- one list goes on from another, and one table from another
 
@@ -83,9 +83,9 @@ pub record Holds (L : Limits) (cs : List ℕ) (ps hs : List Float) (es : List �
 -- ---- what code did of a step
 
 -- the step's value, in a reply of its own, and the memory of the table that it gives; or its refusal, and the memory of some table that goes on from the one before
-pub data Came {A R : Type 0} (made : A → R) (no : ℕ → R) (H : Table → Type 0) (t : Table) (o : Outcome A) (r : R) : Type 0 where
+pub data Came {A R : Type 0} (made : A → R) (no : Refusal → R) (H : Table → Type 0) (t : Table) (o : Outcome A) (r : R) : Type 0 where
   went : (a : A) (u : Table) → o ≡ done a u → r ≡ made a → H u → Came made no H t o r
-  stopped : (n : ℕ) (u : Table) → o ≡ refused n → r ≡ no n → Extends t u → H u → Came made no H t o r
+  stopped : (n : Refusal) (u : Table) → o ≡ refused n → r ≡ no n → Extends t u → H u → Came made no H t o r
 
 -- ---- sets of elements in use, of one rank: each member's rank is one less than q
 
@@ -101,7 +101,7 @@ pub record SetOf (t : Table) (q : ℕ) (s : List ℕ) : Type 0 where
   pub ranked : AllOf (Ranked t q) s
 
 -- an element of such a rank, or none
-abbrev pub SomeOf : ℕ → ElementOrNone → Table → Type 0
+abbrev pub SomeOf : ℕ → Option ElementId → Table → Type 0
 SomeOf q None t = Unit {0}
 SomeOf q (Some e) t = Ranked t q e.0
 

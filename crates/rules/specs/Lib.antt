@@ -1,6 +1,7 @@
 -- The rules of document 01, in the order in which they build on each other; Promises says what is proved of them.
 -- A short definition that only names an expression is `abbrev`; one that a proof opens by name is `unfoldable`.
 pub mod Limits
+pub mod Refusals
 pub mod Lists
 pub mod Bytes
 pub mod Floats

@@ -1,7 +1,6 @@
 -- Tests, searches and sets over lists; a set of numbers is a list that rises strictly. Definitions only.
 -- A recursive call stands in a `let` where a test may do without it: antt computes an argument before the call.
-use Rattle.std.specs.Prelude.{ℕ, zero, suc, ◌-◌, Bool, true, false, not, ◌&&◌, ◌||◌, List, [], ◌∷◌, ◌++◌, ltb, eqb, length, take, drop, replicate, if◌then◌else◌}
-use Rattle.std.proofs.Math.Option.{Option, none, some}
+use Rattle.std.specs.Prelude.{ℕ, zero, suc, ◌-◌, Bool, true, false, not, ◌&&◌, ◌||◌, List, [], ◌∷◌, ◌++◌, ltb, eqb, length, take, drop, replicate, if◌then◌else◌, Option, Some, None}
 
 module _ {A : Type 0} where
   -- p holds of every entry
@@ -26,8 +25,8 @@ module _ {A : Type 0} where
 
   -- the lowest number, counted from n, of an entry of which p holds
   abbrev pub find_from : ℕ → (A → Bool) → List A → Option ℕ
-  find_from n p [] = none
-  find_from n p (x ∷ xs) = let r = find_from (suc n) p xs in if p x then some n else r
+  find_from n p [] = None
+  find_from n p (x ∷ xs) = let r = find_from (suc n) p xs in if p x then Some n else r
 
   abbrev pub find : (A → Bool) → List A → Option ℕ
   find p xs = find_from 0 p xs

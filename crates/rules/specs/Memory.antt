@@ -1,6 +1,5 @@
 -- The lent memory: counts, points, planes and elements, each a list of numbers or floats whose unused room is zero bits. Definitions only.
-use Rattle.std.specs.Prelude.{ℕ, ◌+◌, ◌*◌, Bool, ◌&&◌, cond, List, [], ◌∷◌, ◌++◌, map, eqb, length, get_or, take, drop, Float, if◌then◌else◌}
-use Rattle.std.proofs.Math.Option.{Option, none, some}
+use Rattle.std.specs.Prelude.{ℕ, ◌+◌, ◌*◌, Bool, ◌&&◌, cond, List, [], ◌∷◌, ◌++◌, map, eqb, length, get_or, take, drop, Float, if◌then◌else◌, Option, Some, None}
 use Rattle.rules.specs.Limits.{Limits, no_plane}
 use Rattle.rules.specs.Lists.{pad, joined, rows, alike}
 use Rattle.rules.specs.Floats.{plus_zero, same_bits}
@@ -17,8 +16,8 @@ pub record Memory : Type 0 where
 -- ---- written
 
 abbrev pub plane_number : Option HyperplaneNumber → ℕ
-plane_number none = no_plane
-plane_number (some h) = h
+plane_number None = no_plane
+plane_number (Some h) = h
 
 -- rank, primordial mark, hyperplane or FFFF, count, boundary numbers; a corner is rank 0, mark 0, FFFF, count 1 and its vertex number
 unfoldable pub element_row : Element → List ℕ
@@ -49,7 +48,7 @@ encode L t = record {
 -- ---- read
 
 abbrev pub plane_named : ℕ → Option HyperplaneNumber
-plane_named n = if eqb n no_plane then none else some n
+plane_named n = if eqb n no_plane then None else Some n
 
 unfoldable pub read_element : List ℕ → Element
 read_element row =

@@ -1,6 +1,5 @@
 -- Document 02, order 11: a piece of three dimensions as binary STL, the print file of a resin printer; the whole reply, and what is promised of the file. Definitions only.
-use Rattle.std.specs.Prelude.{ℕ, ◌+◌, ◌*◌, ◌-◌, ◌<◌, ◌≡◌, Bool, true, false, ◌&&◌, List, [], ◌∷◌, ◌++◌, map, eqb, length, get_or, replicate, Float, if◌then◌else◌}
-use Rattle.std.proofs.Math.Option.{some}
+use Rattle.std.specs.Prelude.{ℕ, ◌+◌, ◌*◌, ◌-◌, ◌<◌, ◌≡◌, Bool, true, false, ◌&&◌, List, [], ◌∷◌, ◌++◌, map, eqb, length, get_or, replicate, Float, if◌then◌else◌, Some}
 use Rattle.std.specs.Float.{nan, inf, fin, binary32}
 use Rattle.std.specs.Float.Ieee.{up, down, round, to_bits}
 use Rattle.rules.specs.Limits.{Limits}
@@ -11,7 +10,8 @@ use Rattle.rules.specs.Sound.{sound}
 use Rattle.rules.specs.Memory.{Memory, decode}
 use Rattle.rules.specs.Questions.{Asked, no_answer, answer, edges_in_order, primordial_facet}
 use Rattle.rules.specs.Replies.{asked, list_size, listed}
-use Rattle.rules.specs.declared.ListReply.{ListReply}
+use Rattle.rules.specs.Refusals.{Reply}
+use Rattle.rules.specs.declared.Refusal.TheVariants.{PrimordialFacet, Rank}
 
 -- ---- coordinates
 
@@ -77,15 +77,15 @@ print_file t root =
 -- 16 where the piece has a primordial facet
 abbrev pub unless_facet : Asked Bool → List ℕ → Asked (List ℕ)
 unless_facet (no_answer n) file = no_answer n
-unless_facet (answer true) file = no_answer 16
+unless_facet (answer true) file = no_answer PrimordialFacet
 unless_facet (answer false) file = answer file
 
 -- 6 unless the table is three-dimensional and the root of full rank
 unfoldable pub printed : Table → ElementNumber → Asked (List ℕ)
-printed t root = if eqb t.dimension 3 then unless_facet (primordial_facet t root) (print_file t root) else no_answer 6
+printed t root = if eqb t.dimension 3 then unless_facet (primordial_facet t root) (print_file t root) else no_answer Rank
 
 -- 3, 4, 6, 16, and 12 last
-unfoldable pub print_reply : Limits → Memory → ElementNumber → List ℕ → ListReply × List ℕ
+unfoldable pub print_reply : Limits → Memory → ElementNumber → List ℕ → Reply ℕ × List ℕ
 print_reply L m root room = listed (asked L m (root ∷ []) (printed (decode L m) root)) room
 
 -- ---- promises: the file
@@ -100,7 +100,7 @@ triangle_count t root = total_of (map (λ f. length (boundary t f) - 2) (boundar
 
 -- 84 bytes and 50 for each triangle, and the file says how many there are
 abbrev pub PrintIsSized : Limits → Type 0
-PrintIsSized L = (m : Memory) (root : ElementNumber) (room : List ℕ) (n : ℕ) → list_size (print_reply L m root room).0 ≡ some n
+PrintIsSized L = (m : Memory) (root : ElementNumber) (room : List ℕ) (n : ℕ) → list_size (print_reply L m root room).0 ≡ Some n
     → (n ≡ 84 + 50 * triangle_count (decode L m) root) × (number_at 4 80 (print_reply L m root room).1 ≡ triangle_count (decode L m) root)
 
 -- ---- promises: the triangles of a face

@@ -1,7 +1,6 @@
 -- What is promised of the rules, over any room: each statement in the words of the demands. Definitions only.
 -- proofs/Promises.antt proves the record at the end, for every room that can be read back, has place for its cubes, and has numbers that a file can hold: the desk's, and the large one.
-use Rattle.std.specs.Prelude.{ℕ, suc, ◌*◌, ◌≤◌, ◌<◌, ◌≡◌, Bool, true, false, not, ◌||◌, List, [], ◌∷◌, length, get_or, take, drop, Float}
-use Rattle.std.proofs.Math.Option.{Option, none, some}
+use Rattle.std.specs.Prelude.{ℕ, suc, ◌*◌, ◌≤◌, ◌<◌, ◌≡◌, Bool, true, false, not, ◌||◌, List, [], ◌∷◌, length, get_or, take, drop, Float, Option, Some, None, Err}
 use Rattle.std.specs.Float.{inf}
 use Rattle.std.specs.Float.Ieee.{le, is_nan}
 use Rattle.rules.specs.Limits.{Limits}
@@ -14,7 +13,7 @@ use Rattle.rules.specs.Cut.{Outcome, refused, done, add_plane}
 use Rattle.rules.specs.Questions.{is_below}
 use Rattle.rules.specs.Asking.{border, SubElementsAreReached, SubElementsAreLeast, VertexSetIsTheUnion, VertexSetRises, CommonAreGreatest, WalkGoesRound, NoFacetInOneDimension}
 use Rattle.rules.specs.Rings.{RuleIsOneRing, FaceIsOneRing, FaceIsWalked}
-use Rattle.rules.specs.Replies.{cut_number, cut_values, cut_warning, list_number, list_size, is_sound_reply, cube_reply, divider_fits, divider_of, cut_by, cut_reply, primordial_facet_reply}
+use Rattle.rules.specs.Replies.{cut_values, cut_warning, list_size, is_sound_reply, cube_reply, divider_fits, divider_of, cut_by, cut_reply, primordial_facet_reply}
 use Rattle.rules.specs.Touch.{some_close_call, TouchNumbers, TouchInfinite, TouchIsRead, TouchIsCounted, TouchIsOfTheTable, AllOnIsFlush, OneSideIsMissed, OneSideAddsNoVertex, BothCutsAnEdge}
 use Rattle.rules.specs.Print.{PrintIsSized, FacesAreFanned}
 use Rattle.rules.specs.Files.{open_reply}
@@ -26,39 +25,39 @@ use Rattle.rules.specs.Rooms.{RoomierAlike}
 use Rattle.rules.specs.declared.Hyperplane.{Hyperplane}
 use Rattle.rules.specs.declared.Side.{Side}
 use Rattle.rules.specs.declared.Side.TheVariants.{Inside, Outside}
-use Rattle.rules.specs.declared.ElementOrNone.{ElementOrNone}
-use Rattle.rules.specs.declared.ElementOrNone.TheVariants.{None, Some}
 use Rattle.rules.specs.declared.ElementCutOutput.{ElementCutOutput}
 use Rattle.rules.specs.declared.ElementCutOutput.TheVariants.{Flush, NonFlush}
 use Rattle.rules.specs.declared.PolytopeFate.{PolytopeFate}
 use Rattle.rules.specs.declared.PolytopeFate.TheVariants.{Remove, Keep}
 use Rattle.rules.specs.declared.CutParams.{CutParams}
-use Rattle.rules.specs.declared.CutReply.{CutReply}
+use Rattle.rules.specs.Refusals.{Reply, reply_number}
+use Rattle.rules.specs.declared.ElementAnswer.{ElementAnswer}
+use Rattle.rules.specs.declared.ElementId.{ElementId}
 
 -- ---- demand 1: an answer, or one numbered refusal that leaves everything as it came
 
 -- a refused cut leaves the memory
 abbrev pub RefusedCutLeaves : Limits → Type 0
-RefusedCutLeaves L = (p : CutParams) (root : ElementNumber) (m : Memory) → 0 < cut_number (cut_reply L p root m).0 → (cut_reply L p root m).1 ≡ m
+RefusedCutLeaves L = (p : CutParams) (root : ElementNumber) (m : Memory) → 0 < reply_number (cut_reply L p root m).0 → (cut_reply L p root m).1 ≡ m
 
 -- a refused cube leaves the memory
 abbrev pub RefusedCubeLeaves : Limits → Type 0
-RefusedCubeLeaves L = (d : ℕ) (radius : Float) (m : Memory) → 0 < (cube_reply L d radius m).0 → (cube_reply L d radius m).1 ≡ m
+RefusedCubeLeaves L = (d : ℕ) (radius : Float) (m : Memory) → 0 < reply_number (cube_reply L d radius m).0 → (cube_reply L d radius m).1 ≡ m
 
 -- a refused question leaves the list room
 abbrev pub RefusedListLeaves : Limits → Type 0
-RefusedListLeaves L = (q : ListQuestion) (m : Memory) (room : List ℕ) → 0 < list_number (list_reply L q m room).0 → (list_reply L q m room).1 ≡ room
+RefusedListLeaves L = (q : ListQuestion) (m : Memory) (room : List ℕ) → 0 < reply_number (list_reply L q m room).0 → (list_reply L q m room).1 ≡ room
 
 -- a list done fills the front of its room and leaves the remainder
 abbrev pub ListFillsFront : Limits → Type 0
-ListFillsFront L = (q : ListQuestion) (m : Memory) (room : List ℕ) (n : ℕ) → list_size (list_reply L q m room).0 ≡ some n → Filled n room (list_reply L q m room).1
+ListFillsFront L = (q : ListQuestion) (m : Memory) (room : List ℕ) (n : ℕ) → list_size (list_reply L q m room).0 ≡ Some n → Filled n room (list_reply L q m room).1
 
 -- which numbers each public reply can have
 abbrev pub CutNumbers : Limits → Type 0
 CutNumbers L = (p : CutParams) (root : ElementNumber) (m : Memory) → CutNumbered (3 ∷ 4 ∷ 5 ∷ 7 ∷ 8 ∷ 9 ∷ 10 ∷ 11 ∷ []) (cut_reply L p root m).0
 
 abbrev pub CubeNumbers : Limits → Type 0
-CubeNumbers L = (d : ℕ) (radius : Float) (m : Memory) → member (cube_reply L d radius m).0 (0 ∷ 1 ∷ 2 ∷ 3 ∷ []) ≡ true
+CubeNumbers L = (d : ℕ) (radius : Float) (m : Memory) → member (reply_number (cube_reply L d radius m).0) (0 ∷ 1 ∷ 2 ∷ 3 ∷ []) ≡ true
 
 abbrev pub ListNumbers : Limits → Type 0
 ListNumbers L = (q : ListQuestion) (m : Memory) (room : List ℕ) → ListNumbered (list_refusals q) (list_reply L q m room).0
@@ -67,7 +66,7 @@ abbrev pub FacetNumbers : Limits → Type 0
 FacetNumbers L = (m : Memory) (e : ElementNumber) → FacetNumbered (3 ∷ 4 ∷ 6 ∷ []) (primordial_facet_reply L m e)
 
 abbrev pub SoundNumbers : Limits → Type 0
-SoundNumbers L = (m : Memory) → member (is_sound_reply L m) (0 ∷ 3 ∷ []) ≡ true
+SoundNumbers L = (m : Memory) → member (reply_number (is_sound_reply L m)) (0 ∷ 3 ∷ []) ≡ true
 
 -- ---- demand 3: after an unrefused cut
 
@@ -105,7 +104,7 @@ EnoughBoundary L = (cs : List Call) (m : Memory) → sound_memory L m ≡ true �
 
 -- the same cut again, after any further calls of which no cube and no file is taken, gives the same reply and leaves the memory as it is
 abbrev pub AgainLater : Limits → Type 0
-AgainLater L = (p : CutParams) (root : ElementNumber) (m : Memory) → cut_number (cut_reply L p root m).0 ≡ 0
+AgainLater L = (p : CutParams) (root : ElementNumber) (m : Memory) → reply_number (cut_reply L p root m).0 ≡ 0
     → (cs : List Call) → TableStays L cs (cut_reply L p root m).1 → let later = after_calls L cs (cut_reply L p root m).1 in
     cut_reply L p root later ≡ ((cut_reply L p root m).0, later)
 
@@ -119,13 +118,13 @@ OneSideLater L = (h : Hyperplane) (root : ElementNumber) (m : Memory) (in' out x
     → let slice = cut_reply L (cut_by h Keep Keep) root m in
     Finite h.distance → 0 < rank (decode L m) root → cut_values slice.0 ≡ in' ∷ out ∷ x ∷ []
     → (cs : List Call) → TableStays L cs slice.1 → let later = after_calls L cs slice.1 in
-    Gives (cut_reply L (cut_by h Keep Remove) root later) (in' ∷ none ∷ x ∷ []) (cut_warning slice.0) later
-    × Gives (cut_reply L (cut_by h Remove Keep) root later) (none ∷ out ∷ x ∷ []) (cut_warning slice.0) later
+    Gives (cut_reply L (cut_by h Keep Remove) root later) (in' ∷ None ∷ x ∷ []) (cut_warning slice.0) later
+    × Gives (cut_reply L (cut_by h Remove Keep) root later) (None ∷ out ∷ x ∷ []) (cut_warning slice.0) later
 
 -- and what was flush, done and without values, is flush with the same warning, whichever sides are kept
 abbrev pub FlushLater : Limits → Type 0
 FlushLater L = (h : Hyperplane) (root : ElementNumber) (m : Memory) → let slice = cut_reply L (cut_by h Keep Keep) root m in
-    Finite h.distance → 0 < rank (decode L m) root → cut_number slice.0 ≡ 0 → cut_values slice.0 ≡ []
+    Finite h.distance → 0 < rank (decode L m) root → reply_number slice.0 ≡ 0 → cut_values slice.0 ≡ []
     → (i o : PolytopeFate) (cs : List Call) → TableStays L cs slice.1 → let later = after_calls L cs slice.1 in
     cut_reply L (cut_by h i o) root later ≡ (slice.0, later)
 
@@ -133,7 +132,7 @@ FlushLater L = (h : Hyperplane) (root : ElementNumber) (m : Memory) → let slic
 
 -- a cube that is not refused is sound: every dimension in the room, every radius in range
 abbrev pub CubeIsSound : Limits → Type 0
-CubeIsSound L = (d : ℕ) (radius : Float) (m : Memory) → (cube_reply L d radius m).0 ≡ 0 → sound_memory L (cube_reply L d radius m).1 ≡ true
+CubeIsSound L = (d : ℕ) (radius : Float) (m : Memory) → reply_number (cube_reply L d radius m).0 ≡ 0 → sound_memory L (cube_reply L d radius m).1 ≡ true
 
 -- no vertex matches an earlier one
 abbrev pub Unmatched : Table → Type 0
@@ -144,7 +143,7 @@ abbrev pub OpensUnmatched : Limits → Call → Memory → Type 0
 OpensUnmatched L (cutting p root) m = Unit {0}
 OpensUnmatched L asking m = Unit {0}
 OpensUnmatched L (cubing d radius) m = Unit {0}
-OpensUnmatched L (opening bs) m = (open_reply L bs m).0 ≡ 0 → Unmatched (decode L (open_reply L bs m).1)
+OpensUnmatched L (opening bs) m = reply_number (open_reply L bs m).0 ≡ 0 → Unmatched (decode L (open_reply L bs m).1)
 
 -- no file among the calls brings matching vertices
 abbrev pub FilesUnmatched : Limits → List Call → Memory → Type 0
@@ -153,7 +152,7 @@ FilesUnmatched L (c ∷ cs) m = OpensUnmatched L c m × FilesUnmatched L cs (aft
 
 -- one crossing, one corner: from a cube, by any calls, cubes too, and files that bring no matching vertices, a crossing is never entered as two corners
 abbrev pub OneCrossingOneCorner : Limits → Type 0
-OneCrossingOneCorner L = (d : ℕ) (radius : Float) (m : Memory) → (cube_reply L d radius m).0 ≡ 0
+OneCrossingOneCorner L = (d : ℕ) (radius : Float) (m : Memory) → reply_number (cube_reply L d radius m).0 ≡ 0
     → (cs : List Call) → FilesUnmatched L cs (cube_reply L d radius m).1 → Unmatched (decode L (after_calls L cs (cube_reply L d radius m).1))
 
 -- and a table without matching vertices, whatever it came from, stays so
@@ -173,8 +172,8 @@ pub record Passes (L : Limits) (h : Hyperplane) (root : ElementNumber) (m : Memo
   pub fits : divider_fits L (decode L m).dimension h ≡ true
 
 -- rule 2 and nothing more: the divider's hyperplane is matched or appended, and these are the values and the warning; or 10
-abbrev pub OnlyPlane : Limits → Memory → List (Option ElementNumber) → Bool → CutReply × Memory → Outcome HyperplaneNumber → Type 0
-OnlyPlane L m vs w r (refused n) = (cut_number r.0 ≡ n) × (r.1 ≡ m)
+abbrev pub OnlyPlane : Limits → Memory → List (Option ElementNumber) → Bool → Reply ElementAnswer × Memory → Outcome HyperplaneNumber → Type 0
+OnlyPlane L m vs w r (refused n) = (r.0 ≡ Err n) × (r.1 ≡ m)
 OnlyPlane L m vs w r (done n t) = Gives r vs w (encode L t)
 
 -- the divider of a call, as a hyperplane of the table
@@ -183,21 +182,21 @@ divider_in L m h = divider_of (decode L m).dimension h
 
 -- document 02, order 2: of a finite divider and a cut that is not refused, the warning is on exactly where some corner of the root is a close call
 abbrev pub WarnsOfCloseCalls : Limits → Type 0
-WarnsOfCloseCalls L = (p : CutParams) (root : ElementNumber) (m : Memory) → Finite p.divider.distance → cut_number (cut_reply L p root m).0 ≡ 0
+WarnsOfCloseCalls L = (p : CutParams) (root : ElementNumber) (m : Memory) → Finite p.divider.distance → reply_number (cut_reply L p root m).0 ≡ 0
     → cut_warning (cut_reply L p root m).0 ≡ some_close_call (divider_in L m p.divider) (decode L m) root
 
 -- a missed piece is its old entry: all corners Inside and inside kept, the values are the root, none, none; the same for Outside
 abbrev pub MissedPiece : Limits → Type 0
 MissedPiece L = (h : Hyperplane) (root : ElementNumber) (m : Memory) → Passes L h root m → Finite h.distance
     → let divider = divider_in L m h in let t = decode L m in let warning = some_close_call divider t root in
-    (AllOn Inside divider t root → (o : PolytopeFate) → OnlyPlane L m (some root ∷ none ∷ none ∷ []) warning (cut_reply L (cut_by h Keep o) root m) (add_plane L divider t))
-    × (AllOn Outside divider t root → (i : PolytopeFate) → OnlyPlane L m (none ∷ some root ∷ none ∷ []) warning (cut_reply L (cut_by h i Keep) root m) (add_plane L divider t))
+    (AllOn Inside divider t root → (o : PolytopeFate) → OnlyPlane L m (Some root ∷ None ∷ None ∷ []) warning (cut_reply L (cut_by h Keep o) root m) (add_plane L divider t))
+    × (AllOn Outside divider t root → (i : PolytopeFate) → OnlyPlane L m (None ∷ Some root ∷ None ∷ []) warning (cut_reply L (cut_by h i Keep) root m) (add_plane L divider t))
 
 -- an infinite distance answers the root, as inside for + and as outside for -, without a warning, and leaves the memory as it is
 abbrev pub InfiniteDistance : Limits → Type 0
 InfiniteDistance L = (p : CutParams) (root : ElementNumber) (m : Memory) → Passes L p.divider root m
-    → (p.divider.distance ≡ inf false → Gives (cut_reply L p root m) (some root ∷ none ∷ none ∷ []) false m)
-    × (p.divider.distance ≡ inf true → Gives (cut_reply L p root m) (none ∷ some root ∷ none ∷ []) false m)
+    → (p.divider.distance ≡ inf false → Gives (cut_reply L p root m) (Some root ∷ None ∷ None ∷ []) false m)
+    × (p.divider.distance ≡ inf true → Gives (cut_reply L p root m) (None ∷ Some root ∷ None ∷ []) false m)
 
 -- ---- memory and room
 
@@ -209,7 +208,7 @@ ReadBack L = ((t : Table) → sound L t ≡ true → (sound_memory L (encode L t
 -- ---- beside the definitions
 
 -- an element of the first n, or none; and so each of an answer's three places, as contracts say it
-abbrev pub OneBelow : ℕ → ElementOrNone → Type 0
+abbrev pub OneBelow : ℕ → Option ElementId → Type 0
 OneBelow n None = Unit {0}
 OneBelow n (Some e) = e.0 < n
 
@@ -220,7 +219,7 @@ NamesBelow n (NonFlush i o x) = OneBelow n i × OneBelow n o × OneBelow n x
 -- the elements that a cut's values name are in use in the memory after it
 abbrev pub AnswersAreInUse : Limits → Type 0
 AnswersAreInUse L = (p : CutParams) (root : ElementNumber) (m : Memory) (k : ℕ) (e : ElementNumber)
-    → get_or (cut_values (cut_reply L p root m).0) k none ≡ some e → e < get_or (cut_reply L p root m).1.counts 1 0
+    → get_or (cut_values (cut_reply L p root m).0) k None ≡ Some e → e < get_or (cut_reply L p root m).1.counts 1 0
 
 -- x lies from the lesser of a and b to the greater
 pub record Between (a b x : Float) : Type 0 where

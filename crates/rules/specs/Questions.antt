@@ -3,10 +3,12 @@ use Rattle.std.specs.Prelude.{ℕ, zero, suc, Bool, not, ◌&&◌, ◌||◌, Lis
 use Rattle.rules.specs.Lists.{all, any, keep, up_to}
 use Rattle.rules.specs.Table.{ElementNumber, VertexNumber, Table, is_primordial, vertex_of, element, rank, boundary, element_count}
 use Rattle.rules.specs.Walk.{start_of, around, each_once}
+use Rattle.rules.specs.declared.Refusal.{Refusal}
+use Rattle.rules.specs.declared.Refusal.TheVariants.{NotClosed, Rank}
 
--- an answer, or a refusal's number
+-- an answer, or a refusal
 pub data Asked (A : Type 0) : Type 0 where
-  no_answer : ℕ → Asked A
+  no_answer : Refusal → Asked A
   answer : A → Asked A
 
 -- ---- sub-elements: the root and all below it, vertices too, rising
@@ -48,9 +50,9 @@ greatest_from t (suc r) es = let lower = greatest_from t r es in some_or (common
 
 -- all of one rank, else 6; an empty input is 6
 unfoldable pub greatest_common : Table → List ElementNumber → Asked (List ElementNumber)
-greatest_common t [] = no_answer 6
+greatest_common t [] = no_answer Rank
 greatest_common t (e ∷ es) =
-    if all (λ x. eqb (rank t x) (rank t e)) es then answer (greatest_from t (rank t e) (e ∷ es)) else no_answer 6
+    if all (λ x. eqb (rank t x) (rank t e)) es then answer (greatest_from t (rank t e) (e ∷ es)) else no_answer Rank
 
 -- ---- edges in order, of a rank-2 element
 
@@ -65,10 +67,10 @@ unfoldable pub edges_in_order : Table → ElementNumber → Asked (List (VertexN
 edges_in_order t f =
     let es = boundary t f in
     let steps = around t es in
-    if not (eqb (rank t f) 2) then no_answer 6 else if each_once es steps then answer (pairs t (start_of t es) steps) else no_answer 7
+    if not (eqb (rank t f) 2) then no_answer Rank else if each_once es steps then answer (pairs t (start_of t es) steps) else no_answer NotClosed
 
 -- ---- primordial facet: of an element of full rank, else 6
 
 unfoldable pub primordial_facet : Table → ElementNumber → Asked Bool
 primordial_facet t e =
-    if eqb (rank t e) t.dimension then answer (any (λ b. is_primordial (element t b)) (boundary t e)) else no_answer 6
+    if eqb (rank t e) t.dimension then answer (any (λ b. is_primordial (element t b)) (boundary t e)) else no_answer Rank

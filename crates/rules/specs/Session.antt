@@ -1,5 +1,5 @@
 -- Document 01, "The session program": what `cutlist` prints for the bytes of a session, record by record. Definitions only.
-use Rattle.std.specs.Prelude.{ℕ, zero, suc, ◌+◌, ◌*◌, ◌/◌, ◌%◌, Bool, true, false, ◌&&◌, List, [], ◌∷◌, ◌++◌, map, leb, eqb, length, get_or, take, drop, replicate, if◌then◌else◌}
+use Rattle.std.specs.Prelude.{ℕ, zero, suc, ◌+◌, ◌*◌, ◌/◌, ◌%◌, Bool, true, false, ◌&&◌, List, [], ◌∷◌, ◌++◌, map, leb, eqb, length, get_or, take, drop, replicate, if◌then◌else◌, Option, Some, None, Err, Ok}
 use Rattle.rules.specs.Limits.{Limits}
 use Rattle.rules.specs.Lists.{alike, pad, joined}
 use Rattle.rules.specs.Floats.{plus_zero}
@@ -7,20 +7,19 @@ use Rattle.rules.specs.Bytes.{number_at, float_at, floats_at, decimal}
 use Rattle.rules.specs.Memory.{Memory, element_width, plane_width}
 use Rattle.rules.specs.Replies.{cube_reply, fate_of, cut_reply}
 use Rattle.rules.specs.declared.Hyperplane.{Hyperplane}
-use Rattle.rules.specs.declared.ElementOrNone.{ElementOrNone}
-use Rattle.rules.specs.declared.ElementOrNone.TheVariants.{None, Some}
 use Rattle.rules.specs.declared.ElementCutOutput.{ElementCutOutput}
 use Rattle.rules.specs.declared.ElementCutOutput.TheVariants.{Flush, NonFlush}
 use Rattle.rules.specs.declared.CutParams.{CutParams}
-use Rattle.rules.specs.declared.CutReply.{CutReply}
-use Rattle.rules.specs.declared.CutReply.TheVariants.{Refused, Answered}
+use Rattle.rules.specs.Refusals.{refusal_number, Reply}
+use Rattle.rules.specs.declared.ElementAnswer.{ElementAnswer}
+use Rattle.rules.specs.declared.ElementId.{ElementId}
 
 -- ---- what is printed
 
 -- the counts are elements, vertices, hyperplanes
 pub data Line : Type 0 where
   cube_line : List ℕ → Line
-  cut_line : ElementOrNone → ElementOrNone → ElementOrNone → List ℕ → Line
+  cut_line : Option ElementId → Option ElementId → Option ElementId → List ℕ → Line
   flush_line : List ℕ → Line
   refused_line : ℕ → Line
   bad_line : ℕ → Line
@@ -30,7 +29,7 @@ abbrev pub spaced : List ℕ → List ℕ
 spaced ns = joined (map (λ n. 32 ∷ decimal n) ns)
 
 -- a space, and the element's number or -
-abbrev pub place : ElementOrNone → List ℕ
+abbrev pub place : Option ElementId → List ℕ
 place None = 32 ∷ 45 ∷ []
 place (Some e) = 32 ∷ decimal e.0
 
@@ -76,7 +75,7 @@ is_cut d bs = alike eqb (take 2 bs) (0x43 ∷ 0x54 ∷ []) && leb (cut_length d)
 
 -- ---- what a record asks for, and what is printed of its reply
 
-abbrev pub cube_asked : Limits → Memory → List ℕ → ℕ × Memory
+abbrev pub cube_asked : Limits → Memory → List ℕ → Reply (Unit {0}) × Memory
 cube_asked L m bs = cube_reply L (number_at 1 2 bs) (float_at 3 bs) m
 
 abbrev pub divider_at : Limits → ℕ → List ℕ → Hyperplane
@@ -86,24 +85,24 @@ divider_at L d bs = record { normal = pad plus_zero L.dimensions (floats_at d 5 
 abbrev pub params_at : Limits → ℕ → List ℕ → CutParams
 params_at L d bs = let kept = number_at 1 2 bs in record { divider = divider_at L d bs; inside = fate_of (eqb (kept % 2) 1); outside = fate_of (eqb (kept / 2) 1) }
 
-abbrev pub cut_asked : Limits → Memory → List ℕ → CutReply × Memory
+abbrev pub cut_asked : Limits → Memory → List ℕ → Reply ElementAnswer × Memory
 cut_asked L m bs = cut_reply L (params_at L (get_or m.counts 0 0) bs) (number_at 2 3 bs) m
 
 -- a refused cube leaves the memory, and keeps the table before it
-abbrev pub cube_turn : Bool → ℕ × Memory → Turn
-cube_turn stands (zero, m) = taken 11 (cube_line (table_counts m)) true m
-cube_turn stands (suc n, m) = taken 11 (refused_line (suc n)) stands m
+abbrev pub cube_turn : Bool → Reply (Unit {0}) × Memory → Turn
+cube_turn stands (Ok x, m) = taken 11 (cube_line (table_counts m)) true m
+cube_turn stands (Err r, m) = taken 11 (refused_line (refusal_number r)) stands m
 
 abbrev pub output_text : ElementCutOutput → List ℕ → Line
 output_text Flush ns = flush_line ns
 output_text (NonFlush i o x) ns = cut_line i o x ns
 
 -- a line has no place for the warning
-abbrev pub cut_text : CutReply → List ℕ → Line
-cut_text (Refused n) ns = refused_line n
-cut_text (Answered a w) ns = output_text a ns
+abbrev pub cut_text : Reply ElementAnswer → List ℕ → Line
+cut_text (Err r) ns = refused_line (refusal_number r)
+cut_text (Ok a) ns = output_text a.output ns
 
-abbrev pub cut_turn : ℕ → CutReply × Memory → Turn
+abbrev pub cut_turn : ℕ → Reply ElementAnswer × Memory → Turn
 cut_turn d (r, m) = taken (cut_length d) (cut_text r (table_counts m)) true m
 
 -- another mark, a short record, a kept byte above 3, or a cut with no table is bad

@@ -1,7 +1,6 @@
 -- Document 01, "A table is sound when": one test for each of its lines. Definitions only.
 -- That unused room is zero bits is said where memory is (Memory): a table here has none.
-use Rattle.std.specs.Prelude.{ℕ, zero, suc, Bool, true, false, not, ◌&&◌, List, map, leb, ltb, eqb, length, Float, if◌then◌else◌}
-use Rattle.std.proofs.Math.Option.{Option, none, some}
+use Rattle.std.specs.Prelude.{ℕ, zero, suc, Bool, true, false, not, ◌&&◌, List, map, leb, ltb, eqb, length, Float, if◌then◌else◌, Option, Some, None}
 use Rattle.rules.specs.Limits.{Limits}
 use Rattle.rules.specs.Lists.{all, keep, all_from, alike, distinct, up_to, rises}
 use Rattle.rules.specs.Floats.{within, farthest, farthest_plane, unit}
@@ -47,12 +46,12 @@ sound_boundary t e r b =
 -- ---- the fourth: it names a hyperplane in use exactly when rank + 1 is the dimension, and has a primordial mark only then
 
 abbrev pub names_plane : Table → Option HyperplaneNumber → Bool
-names_plane t none = false
-names_plane t (some h) = ltb h (length t.planes)
+names_plane t None = false
+names_plane t (Some h) = ltb h (length t.planes)
 
 abbrev pub names_none : Option HyperplaneNumber → Bool
-names_none none = true
-names_none (some h) = false
+names_none None = true
+names_none (Some h) = false
 
 unfoldable pub sound_facet : Table → ℕ → Option HyperplaneNumber → Bool → Bool
 sound_facet t r h m = if eqb (suc r) t.dimension then names_plane t h else (names_none h && not m)

@@ -1,7 +1,6 @@
 -- Document 01, "The table": dimension, vertices, elements and hyperplanes, with no room left over. Definitions only.
-use Rattle.std.specs.Prelude.{ℕ, zero, suc, ◌*◌, Bool, true, false, ◌&&◌, List, [], eqb, length, get_or, Float}
+use Rattle.std.specs.Prelude.{ℕ, zero, suc, ◌*◌, Bool, true, false, ◌&&◌, List, [], eqb, length, get_or, Float, Option, Some, None}
 use Rattle.std.specs.Bool.{beq}
-use Rattle.std.proofs.Math.Option.{Option, none, some}
 use Rattle.rules.specs.Lists.{alike}
 
 -- three numberings, of three separate lists, each from 0
@@ -42,7 +41,7 @@ boundary_of (corner v) = []
 boundary_of (polytope r b h m) = b
 
 abbrev pub plane_of : Element → Option HyperplaneNumber
-plane_of (corner v) = none
+plane_of (corner v) = None
 plane_of (polytope r b h m) = h
 
 abbrev pub is_primordial : Element → Bool
@@ -61,10 +60,10 @@ is_corner (polytope r b h m) = false
 -- ---- equality in all fields
 
 abbrev pub same_plane : Option HyperplaneNumber → Option HyperplaneNumber → Bool
-same_plane none none = true
-same_plane none (some k) = false
-same_plane (some h) none = false
-same_plane (some h) (some k) = eqb h k
+same_plane None None = true
+same_plane None (Some k) = false
+same_plane (Some h) None = false
+same_plane (Some h) (Some k) = eqb h k
 
 unfoldable pub same_element : Element → Element → Bool
 same_element (corner v) (corner w) = eqb v w

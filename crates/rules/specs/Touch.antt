@@ -1,5 +1,5 @@
 -- Document 02, order 6: where the corners of an element lie to a plane, without a cut; the whole reply, and what is promised of it. Definitions only.
-use Rattle.std.specs.Prelude.{ℕ, suc, ◌≤◌, ◌<◌, ◌≡◌, Bool, true, false, not, ◌&&◌, ◌||◌, List, [], ◌∷◌, map, ltb, length, get_or, take, Float, if◌then◌else◌}
+use Rattle.std.specs.Prelude.{ℕ, suc, ◌≤◌, ◌<◌, ◌≡◌, Bool, true, false, not, ◌&&◌, ◌||◌, List, [], ◌∷◌, map, ltb, length, get_or, take, Float, if◌then◌else◌, Option, None, Err, Ok}
 use Rattle.std.specs.Float.{nan, inf, fin}
 use Rattle.rules.specs.Limits.{Limits}
 use Rattle.rules.specs.Lists.{any, member}
@@ -14,15 +14,15 @@ use Rattle.rules.specs.declared.Hyperplane.{Hyperplane}
 use Rattle.rules.specs.declared.PolytopeFate.{PolytopeFate}
 use Rattle.rules.specs.declared.Side.{Side}
 use Rattle.rules.specs.declared.Side.TheVariants.{Inside, On, Outside}
-use Rattle.rules.specs.declared.ElementOrNone.{ElementOrNone}
-use Rattle.rules.specs.declared.ElementOrNone.TheVariants.{None}
 use Rattle.rules.specs.declared.ElementCutOutput.{ElementCutOutput}
 use Rattle.rules.specs.declared.ElementCutOutput.TheVariants.{Flush, NonFlush}
 use Rattle.rules.specs.declared.ElementAnswer.{ElementAnswer}
 use Rattle.rules.specs.declared.Touch.{Touch}
 use Rattle.rules.specs.declared.Touch.TheVariants.{AllOn, InsideOrOn, OutsideOrOn, Both}
-use Rattle.rules.specs.declared.TouchReply.{TouchReply}
-use Rattle.rules.specs.declared.TouchReply.TheVariants.{Refused, Touched}
+use Rattle.rules.specs.Refusals.{Reply, reply_number}
+use Rattle.rules.specs.declared.ElementId.{ElementId}
+use Rattle.rules.specs.declared.Refusal.TheVariants.{Divider, NotInUse, NotSound}
+use Rattle.rules.specs.declared.Touched.{Touched}
 
 -- ---- the sides of the full vertex set, and close calls in it
 
@@ -66,33 +66,33 @@ tested_from i o [] = 0
 tested_from i o (s ∷ ss) =
     let rest = tested_from (i || is_inside s) (o || is_outside s) ss in if (i || is_inside s) && (o || is_outside s) then 1 else suc rest
 
-abbrev pub touched : List Side → TouchReply
-touched ss = Touched (touch_of ss) (tested_from false false ss)
+-- an answer, and how many corners were tested for it
+abbrev pub touch_with : Touch → ℕ → Touched
+touch_with a k = record { answer = a; tested = k }
+
+abbrev pub touched : List Side → Reply Touched
+touched ss = Ok (touch_with (touch_of ss) (tested_from false false ss))
 
 -- an infinite distance tests none and gives the side of rule 1
-abbrev pub touch_at_distance : Plane → Float → ElementNumber → Table → TouchReply
-touch_at_distance h (inf false) root t = Touched InsideOrOn 0
-touch_at_distance h (inf true) root t = Touched OutsideOrOn 0
+abbrev pub touch_at_distance : Plane → Float → ElementNumber → Table → Reply Touched
+touch_at_distance h (inf false) root t = Ok (touch_with InsideOrOn 0)
+touch_at_distance h (inf true) root t = Ok (touch_with OutsideOrOn 0)
 touch_at_distance h nan root t = touched (corner_sides h t root)
 touch_at_distance h (fin s m e) root t = touched (corner_sides h t root)
 
-unfoldable pub touch : Plane → ElementNumber → Table → TouchReply
+unfoldable pub touch : Plane → ElementNumber → Table → Reply Touched
 touch h root t = touch_at_distance h h.distance root t
 
 -- 3, 4, 5 as a cut has them; the memory is read only
-unfoldable pub touch_reply : Limits → Hyperplane → ElementNumber → Memory → TouchReply
+unfoldable pub touch_reply : Limits → Hyperplane → ElementNumber → Memory → Reply Touched
 touch_reply L h root m =
     let t = decode L m in
-    if not (sound_memory L m) then Refused 3
-    else if not (ltb root (element_count t)) then Refused 4
-    else if not (divider_fits L t.dimension h) then Refused 5
+    if not (sound_memory L m) then Err NotSound
+    else if not (ltb root (element_count t)) then Err NotInUse
+    else if not (divider_fits L t.dimension h) then Err Divider
     else touch (divider_of t.dimension h) root t
 
 -- ---- the number and the values of each case
-
-abbrev pub touch_number : TouchReply → ℕ
-touch_number (Refused n) = n
-touch_number (Touched a k) = 0
 
 -- 1 where a corner lies inside, and 2 more where one lies outside
 abbrev pub touch_value : Touch → ℕ
@@ -102,25 +102,25 @@ touch_value OutsideOrOn = 2
 touch_value Both = 3
 
 -- the answer and the count; a refusal carries neither
-abbrev pub touch_values : TouchReply → List ℕ
-touch_values (Refused n) = []
-touch_values (Touched a k) = touch_value a ∷ k ∷ []
+abbrev pub touch_values : Reply Touched → List ℕ
+touch_values (Err n) = []
+touch_values (Ok t) = touch_value t.answer ∷ t.tested ∷ []
 
 -- ---- promises: the reply
 
 -- the number is 0 with an answer and a count, or 3, 4 or 5 with neither
-pub record TouchNumbered (r : TouchReply) : Type 0 where
-  pub number : member (touch_number r) (0 ∷ 3 ∷ 4 ∷ 5 ∷ []) ≡ true
-  pub answered : touch_number r ≡ 0 → (a : Touch) × (k : ℕ) × (r ≡ Touched a k)
-  pub refused : 0 < touch_number r → touch_values r ≡ []
+pub record TouchNumbered (r : Reply Touched) : Type 0 where
+  pub number : member (reply_number r) (0 ∷ 3 ∷ 4 ∷ 5 ∷ []) ≡ true
+  pub answered : reply_number r ≡ 0 → (a : Touch) × (k : ℕ) × (r ≡ Ok (touch_with a k))
+  pub refused : 0 < reply_number r → touch_values r ≡ []
 
 abbrev pub TouchNumbers : Limits → Type 0
 TouchNumbers L = (h : Hyperplane) (root : ElementNumber) (m : Memory) → TouchNumbered (touch_reply L h root m)
 
 -- where it is not refused, an infinite distance tests no corner: all inside for +, all outside for -
 abbrev pub TouchInfinite : Limits → Type 0
-TouchInfinite L = (h : Hyperplane) (root : ElementNumber) (m : Memory) → touch_number (touch_reply L h root m) ≡ 0
-    → (h.distance ≡ inf false → touch_reply L h root m ≡ Touched InsideOrOn 0) × (h.distance ≡ inf true → touch_reply L h root m ≡ Touched OutsideOrOn 0)
+TouchInfinite L = (h : Hyperplane) (root : ElementNumber) (m : Memory) → reply_number (touch_reply L h root m) ≡ 0
+    → (h.distance ≡ inf false → touch_reply L h root m ≡ Ok (touch_with InsideOrOn 0)) × (h.distance ≡ inf true → touch_reply L h root m ≡ Ok (touch_with OutsideOrOn 0))
 
 -- ---- promises: the answer and the count, of an element in use in a sound table, by a plane that fits it
 
@@ -168,10 +168,10 @@ pub record Touches (L : Limits) (h : Plane) (root : ElementNumber) (t : Table) :
   pub fits : sound_plane t.dimension h ≡ true
 
 abbrev pub TouchIsRead : Limits → Type 0
-TouchIsRead L = (h : Plane) (root : ElementNumber) (t : Table) (a : Touch) (k : ℕ) → Touches L h root t → touch h root t ≡ Touched a k → ReadFromCorners h t root a
+TouchIsRead L = (h : Plane) (root : ElementNumber) (t : Table) (a : Touch) (k : ℕ) → Touches L h root t → touch h root t ≡ Ok (touch_with a k) → ReadFromCorners h t root a
 
 abbrev pub TouchIsCounted : Limits → Type 0
-TouchIsCounted L = (h : Plane) (root : ElementNumber) (t : Table) (a : Touch) (k : ℕ) → Touches L h root t → touch h root t ≡ Touched a k → Counted (corner_sides h t root) a k
+TouchIsCounted L = (h : Plane) (root : ElementNumber) (t : Table) (a : Touch) (k : ℕ) → Touches L h root t → touch h root t ≡ Ok (touch_with a k) → Counted (corner_sides h t root) a k
 
 -- ---- promises: the cut of the same root by the same plane, whichever sides are kept unless it is said
 
@@ -181,26 +181,26 @@ only_plane L h a w = λ t. next (add_plane L h t) (λ n. give (record { output =
 
 -- all on: the cut is flush, without a warning
 abbrev pub AllOnIsFlush : Limits → Type 0
-AllOnIsFlush L = (h : Plane) (root : ElementNumber) (t : Table) (k : ℕ) → Touches L h root t → touch h root t ≡ Touched AllOn k
+AllOnIsFlush L = (h : Plane) (root : ElementNumber) (t : Table) (k : ℕ) → Touches L h root t → touch h root t ≡ Ok (touch_with AllOn k)
     → (i o : Bool) → cut L (keeping h i o) root t ≡ only_plane L h Flush false t
 
 -- all inside or on with no corner on, and inside kept: the piece is missed, with a warning where a corner is a close call; the same for outside
 abbrev pub OneSideIsMissed : Limits → Type 0
 OneSideIsMissed L = (h : Plane) (root : ElementNumber) (t : Table) (k : ℕ) → Touches L h root t → (SomeCorner On h t root → ⊥)
     → let warning = some_close_call h t root in
-    (touch h root t ≡ Touched InsideOrOn k → (o : Bool) → cut L (keeping h true o) root t ≡ only_plane L h (NonFlush (given root) None None) warning t)
-    × (touch h root t ≡ Touched OutsideOrOn k → (i : Bool) → cut L (keeping h i true) root t ≡ only_plane L h (NonFlush None (given root) None) warning t)
+    (touch h root t ≡ Ok (touch_with InsideOrOn k) → (o : Bool) → cut L (keeping h true o) root t ≡ only_plane L h (NonFlush (given root) None None) warning t)
+    × (touch h root t ≡ Ok (touch_with OutsideOrOn k) → (i : Bool) → cut L (keeping h i true) root t ≡ only_plane L h (NonFlush None (given root) None) warning t)
 
 -- unless both are met, the cut adds no vertex
 abbrev pub OneSideAddsNoVertex : Limits → Type 0
-OneSideAddsNoVertex L = (h : Plane) (root : ElementNumber) (t : Table) (a : Touch) (k : ℕ) → Touches L h root t → touch h root t ≡ Touched a k → (a ≡ Both → ⊥)
+OneSideAddsNoVertex L = (h : Plane) (root : ElementNumber) (t : Table) (a : Touch) (k : ℕ) → Touches L h root t → touch h root t ≡ Ok (touch_with a k) → (a ≡ Both → ⊥)
     → (i o : Bool) (b : ElementAnswer) (u : Table) → cut L (keeping h i o) root t ≡ done b u → u.points ≡ t.points
 
 -- an edge that has both is cut at a corner: it is not flush, and not missed
 abbrev pub BothCutsAnEdge : Limits → Type 0
-BothCutsAnEdge L = (h : Plane) (root : ElementNumber) (t : Table) (k : ℕ) → Touches L h root t → touch h root t ≡ Touched Both k → rank t root ≡ 1
+BothCutsAnEdge L = (h : Plane) (root : ElementNumber) (t : Table) (k : ℕ) → Touches L h root t → touch h root t ≡ Ok (touch_with Both k) → rank t root ≡ 1
     → (i o : Bool) (b : ElementAnswer) (u : Table) → cut L (keeping h i o) root t ≡ done b u
-    → (x : ElementNumber) × (p q : ElementOrNone) × (b.output ≡ NonFlush p q (given x))
+    → (x : ElementNumber) × (p q : Option ElementId) × (b.output ≡ NonFlush p q (given x))
 
 -- ---- promises: of the replies
 
@@ -213,4 +213,4 @@ pub record OfTheTable (L : Limits) (h : Hyperplane) (root : ElementNumber) (m : 
 -- so it is where a touch is done and the distance is no infinity: what is promised of a table's touch and cut is promised of these replies
 abbrev pub TouchIsOfTheTable : Limits → Type 0
 TouchIsOfTheTable L = (h : Hyperplane) (root : ElementNumber) (m : Memory) → ((s : Bool) → h.distance ≡ inf s → ⊥)
-    → touch_number (touch_reply L h root m) ≡ 0 → OfTheTable L h root m
+    → reply_number (touch_reply L h root m) ≡ 0 → OfTheTable L h root m

@@ -1,21 +1,21 @@
 -- Examples of a touch (document 02, order 6), each beside what a cut of the same root by the same plane gives: what a touch says of a cut, and no more.
 -- Each row is what the rules give and what is right; proofs/Answers.antt has the theorem. Definitions only.
-use Rattle.std.specs.Prelude.{List, [], ◌∷◌, ◌++◌, true, false, pos}
-use Rattle.std.proofs.Math.Option.{none, some}
+use Rattle.std.specs.Prelude.{List, [], ◌∷◌, ◌++◌, true, false, pos, Some, None}
 use Rattle.std.specs.Float.{nan, inf, fin}
 use Rattle.std.specs.Float.Ieee.{neg}
 use Rattle.rules.specs.Floats.{plus_zero, one}
 use Rattle.rules.specs.Table.{ElementNumber, corner, Table}
 use Rattle.rules.specs.Memory.{Memory, encode}
-use Rattle.rules.specs.Touch.{touch_number, touch_values, touch_reply}
+use Rattle.rules.specs.Touch.{touch_values, touch_reply}
 use Rattle.rules.specs.Marked.{Shown, cut_shown, numbers, show_cut, at_x, slanted}
 use Rattle.rules.specs.Examples.{made, edge, face, planes, corners, two, minus_one, small, small_q, counts_changed, flat_y}
 use Rattle.rules.specs.declared.Hyperplane.{Hyperplane}
 use Rattle.rules.specs.declared.PolytopeFate.TheVariants.{Remove, Keep}
+use Rattle.rules.specs.Refusals.{reply_number}
 
 -- its number, and then its answer and its count
 abbrev pub show_touch : Hyperplane → ElementNumber → Memory → Shown
-show_touch h root m = let r = touch_reply small h root m in numbers (touch_number r ∷ touch_values r)
+show_touch h root m = let r = touch_reply small h root m in numbers (reply_number r ∷ touch_values r)
 
 abbrev pub touch_small : Hyperplane → ElementNumber → Shown
 touch_small h root = show_touch h root small_q
@@ -51,7 +51,7 @@ touches =
     ∷ (touch_small (record { normal = []; distance = inf false }) 8, numbers (5 ∷ []))
     -- both, and yet the cut gives the old entry alone, with a warning: the crossing 1.125 T from the corner is the corner
     ∷ (show_touch (slanted 0xbeb2000000000000) 6 (encode small near_corner), numbers (0 ∷ 3 ∷ 2 ∷ []))
-    ∷ (show_cut small (slanted 0xbeb2000000000000) Keep Keep 6 (encode small near_corner), cut_shown 0 (some 6 ∷ none ∷ none ∷ []) true (7 ∷ 3 ∷ 5 ∷ []))
+    ∷ (show_cut small (slanted 0xbeb2000000000000) Keep Keep 6 (encode small near_corner), cut_shown 0 (Some 6 ∷ None ∷ None ∷ []) true (7 ∷ 3 ∷ 5 ∷ []))
     -- inside or on, and the cut is flush
     ∷ (show_touch flat_y 8 (encode small straight), numbers (0 ∷ 1 ∷ 4 ∷ []))
     ∷ (show_cut small flat_y Keep Keep 8 (encode small straight), cut_shown 0 [] false (9 ∷ 4 ∷ 5 ∷ []))

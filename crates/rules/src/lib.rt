@@ -2,16 +2,20 @@
 
 #![tactic(auto)]
 
+ghost use Rattle.std.specs.Prelude.{◌≡◌};
+ghost use Rattle.rules.specs.Refusals.{refusal_number};
+ghost use Rattle.rules.specs.Replies.{fate_of};
+
 // An element's number in its list.
-#[derive(Clone, Copy)]
+#[derive(Clone, Copy, Debug, PartialEq, Eq, PartialOrd, Ord)]
 pub struct ElementId(pub usize);
 
 // A vertex's number: another list, so never an element's number.
-#[derive(Clone, Copy)]
+#[derive(Clone, Copy, Debug, PartialEq, Eq, PartialOrd, Ord)]
 pub struct VertexId(pub usize);
 
 // A hyperplane's number, in a third list.
-#[derive(Clone, Copy)]
+#[derive(Clone, Copy, Debug, PartialEq, Eq, PartialOrd, Ord)]
 pub struct HyperplaneId(pub usize);
 
 // A unit normal, zero past the dimension, and a distance.
@@ -36,25 +40,11 @@ pub struct SideTest {
     pub warning: bool,
 }
 
-// No crossing of an edge, or a crossing with its t.
-#[derive(Clone, Copy)]
-pub enum Crossing {
-    None,
-    At(f64),
-}
-
-// What an edge test answers: the crossing, and a warning where an end was a close call.
+// What an edge test answers: no crossing, or a crossing with its t, and a warning where an end was a close call.
 #[derive(Clone, Copy)]
 pub struct EdgeTest {
-    pub crossing: Crossing,
+    pub crossing: Option<f64>,
     pub warning: bool,
-}
-
-// An element or none.
-#[derive(Clone, Copy)]
-pub enum ElementOrNone {
-    None,
-    Some(ElementId),
 }
 
 // What becomes of what lies on one side of the divider.
@@ -62,6 +52,17 @@ pub enum ElementOrNone {
 pub enum PolytopeFate {
     Remove,
     Keep,
+}
+
+impl From<bool> for PolytopeFate {
+    ghost from_gives = { λ keep fate. fate ≡ fate_of keep };
+
+    fn from(keep: bool) -> PolytopeFate {
+        if keep {
+            return PolytopeFate::Keep;
+        }
+        PolytopeFate::Remove
+    }
 }
 
 // The parameters of a cut: its divider, and what becomes of each side.
@@ -79,14 +80,14 @@ pub struct Cutter {
     pub number: HyperplaneId,
 }
 
-// What a cut of an element gives.
+// What a cut of an element gives: flush, or an element or none in each of three places.
 #[derive(Clone, Copy)]
 pub enum ElementCutOutput {
     Flush,
     NonFlush {
-        inside: ElementOrNone,
-        outside: ElementOrNone,
-        intersection: ElementOrNone,
+        inside: Option<ElementId>,
+        outside: Option<ElementId>,
+        intersection: Option<ElementId>,
     },
 }
 
@@ -97,36 +98,62 @@ pub struct ElementAnswer {
     pub warning: bool,
 }
 
-// The whole public reply of a cut.
-#[derive(Clone, Copy)]
-pub enum CutReply {
-    Refused(u8),
-    Answered {
-        output: ElementCutOutput,
-        warning: bool,
-    },
+// Why a call is refused; its number is what a host is told.
+#[derive(Clone, Copy, Debug, PartialEq, Eq)]
+pub enum Refusal {
+    Dimension,
+    Radius,
+    NotSound,
+    NotInUse,
+    Divider,
+    Rank,
+    NotClosed,
+    VerticesFull,
+    ElementsFull,
+    HyperplanesFull,
+    BoundaryFull,
+    RoomShort,
+    Layout,
+    PrimordialFacet,
+    OffGrid,
+    ListLong,
 }
+
+impl From<Refusal> for u8 {
+    ghost from_gives = { λ refusal number. number ≡ refusal_number refusal };
+
+    fn from(refusal: Refusal) -> u8 {
+        match refusal {
+            Refusal::Dimension => 1,
+            Refusal::Radius => 2,
+            Refusal::NotSound => 3,
+            Refusal::NotInUse => 4,
+            Refusal::Divider => 5,
+            Refusal::Rank => 6,
+            Refusal::NotClosed => 7,
+            Refusal::VerticesFull => 8,
+            Refusal::ElementsFull => 9,
+            Refusal::HyperplanesFull => 10,
+            Refusal::BoundaryFull => 11,
+            Refusal::RoomShort => 12,
+            Refusal::Layout => 13,
+            Refusal::PrimordialFacet => 16,
+            Refusal::OffGrid => 25,
+            Refusal::ListLong => 26,
+        }
+    }
+}
+
+// The whole public reply of a call: what it gives, or why it is refused. A list's reply gives how many entries were written.
+pub type Reply<T> = Result<T, Refusal>;
 
 // The whole public reply of a list of cuts: refused before any cut, stopped at a cut that is refused, or all cuts answered.
+// Three cases, and a stop too has made cuts: no Result.
 #[derive(Clone, Copy)]
 pub enum CutListReply {
-    Refused(u8),
-    Stopped { number: u8, position: usize },
+    Refused(Refusal),
+    Stopped { refusal: Refusal, position: usize },
     Answered(usize),
-}
-
-// The whole public reply of a question that gives a list: how many entries it wrote.
-#[derive(Clone, Copy)]
-pub enum ListReply {
-    Refused(u8),
-    Listed(usize),
-}
-
-// The whole public reply of the question about a primordial facet.
-#[derive(Clone, Copy)]
-pub enum FacetReply {
-    Refused(u8),
-    Has(bool),
 }
 
 // Where the corners of an element lie to a plane.
@@ -138,9 +165,9 @@ pub enum Touch {
     Both,
 }
 
-// The whole public reply of a touch: the answer, and how many corners were tested.
+// What a touch gives: the answer, and how many corners were tested.
 #[derive(Clone, Copy)]
-pub enum TouchReply {
-    Refused(u8),
-    Touched { answer: Touch, tested: usize },
+pub struct Touched {
+    pub answer: Touch,
+    pub tested: usize,
 }

@@ -11,18 +11,14 @@ use Rattle.rules.specs.Limits.{desk, Readable}
 use Rattle.rules.specs.Lists.{all, member}
 use Rattle.rules.specs.Table.{element_count}
 use Rattle.rules.specs.Memory.{Memory, encode, decode, sound_memory}
-use Rattle.rules.specs.Replies.{cut_number, cube_reply, cut_reply}
+use Rattle.rules.specs.Replies.{cube_reply, cut_reply}
 use Rattle.rules.specs.Bytes.{decimal}
 use Rattle.rules.specs.Session.{spaced, place, text, cube_line, refused_line, output_text, cut_text, table_counts}
 use Rattle.rules.specs.Held.{AllOf}
 use Rattle.rules.specs.Promises.{OneBelow, NamesBelow}
 use Rattle.rules.specs.declared.CutParams.{CutParams}
-use Rattle.rules.specs.declared.ElementOrNone.{ElementOrNone}
-use Rattle.rules.specs.declared.ElementOrNone.TheVariants.{None, Some}
 use Rattle.rules.specs.declared.ElementCutOutput.{ElementCutOutput}
 use Rattle.rules.specs.declared.ElementCutOutput.TheVariants.{Flush, NonFlush}
-use Rattle.rules.specs.declared.CutReply.{CutReply}
-use Rattle.rules.specs.declared.CutReply.TheVariants.{Refused, Answered}
 use Rattle.rules.proofs.FaceEdges.{of_all}
 use Rattle.rules.proofs.Good.{sound_good}
 use Rattle.rules.proofs.Laws.{le_test}
@@ -31,6 +27,10 @@ use Rattle.rules.proofs.Promises.{desk_keeps}
 use Rattle.rules.proofs.RoundTrip.{memory_back}
 use Rattle.lent_bytes.proofs.Decimals.{five_digits}
 use Rattle.session.specs.Written.{line_room}
+use Rattle.rules.specs.Refusals.{Reply, reply_number, refusal_number}
+use Rattle.rules.specs.declared.ElementAnswer.{ElementAnswer}
+use Rattle.rules.specs.declared.ElementId.{ElementId}
+use Rattle.std.specs.Prelude.{Option, Some, None, Err, Ok}
 
 -- ---- numbers below 65,536
 
@@ -49,7 +49,7 @@ spaced_short (n ∷ ns) h =
     let a = length-append (32 ∷ decimal n) (spaced ns) in
     omega (arith, d, r, a)
 
-place_short : (e : ElementOrNone) → OneBelow 512 e → length (place e) ≤ 6
+place_short : (e : Option ElementId) → OneBelow 512 e → length (place e) ≤ 6
 place_short None h = lit≤ tt
 place_short (Some e) h = let d = five_digits e.0 (let q : e.0 < 0x10000 = omega (arith, h) in q) in omega (arith, d)
 
@@ -91,13 +91,13 @@ counts_short m s = let c = counts_low m s in let l = spaced_short (table_counts 
 -- ---- the line of a cube, and of a cut
 
 module _ (d : ℕ) (radius : Float) (m : Memory) where
-  pub cube_short : (cube_reply desk d radius m).0 ≡ 0 → length (text (cube_line (table_counts (cube_reply desk d radius m).1))) ≤ line_room
+  pub cube_short : reply_number (cube_reply desk d radius m).0 ≡ 0 → length (text (cube_line (table_counts (cube_reply desk d radius m).1))) ≤ line_room
   cube_short z =
       let s = counts_short (cube_reply desk d radius m).1 (desk_keeps.cube_is_sound d radius m z) in
       in_line (99 ∷ 117 ∷ 98 ∷ 101 ∷ []) (spaced (table_counts (cube_reply desk d radius m).1)) (lit≤ tt) (omega (arith, s))
 
-  pub cube_refused_short : length (text (refused_line (cube_reply desk d radius m).0)) ≤ line_room
-  cube_refused_short = refused_short (cube_reply desk d radius m).0 (low_in (0 ∷ 1 ∷ 2 ∷ 3 ∷ []) (cube_reply desk d radius m).0 refl (desk_keeps.cube_numbers d radius m))
+  pub cube_refused_short : length (text (refused_line (reply_number (cube_reply desk d radius m).0))) ≤ line_room
+  cube_refused_short = refused_short (reply_number (cube_reply desk d radius m).0) (low_in (0 ∷ 1 ∷ 2 ∷ 3 ∷ []) (reply_number (cube_reply desk d radius m).0) refl (desk_keeps.cube_numbers d radius m))
 
 desk_reads : Readable desk
 desk_reads = record { planes = lit≤ tt; boundary = lit≤ tt }
@@ -106,7 +106,7 @@ module _ (p : CutParams) (root : ℕ) (m : Memory) where
   pub cut_short : length (text (cut_text (cut_reply desk p root m).0 (table_counts (cut_reply desk p root m).1))) ≤ line_room
   cut_short = go (cut_reply desk p root m).0 (cut_reply desk p root m).1 refl
     where
-      one_low : (n : ℕ) (e : ElementOrNone) → n ≤ 512 → OneBelow n e → OneBelow 512 e
+      one_low : (n : ℕ) (e : Option ElementId) → n ≤ 512 → OneBelow n e → OneBelow 512 e
       one_low n None l b = tt
       one_low n (Some e) l b = omega (arith, l, b)
 
@@ -127,9 +127,9 @@ module _ (p : CutParams) (root : ℕ) (m : Memory) where
           let e₅ = length-append (word ++ place x ++ place y ++ place z ++ spaced (table_counts m')) (10 ∷ []) in
           omega (arith, l, px, q, r, e₁, e₂, e₃, e₄, e₅)
 
-      go : (r : CutReply) (m' : Memory) → cut_reply desk p root m ≡ (r, m') → length (text (cut_text r (table_counts m'))) ≤ line_room
-      go (Refused n) m' e =
-          refused_short n (low_in (0 ∷ 3 ∷ 4 ∷ 5 ∷ 7 ∷ 8 ∷ 9 ∷ 10 ∷ 11 ∷ []) n refl
-          (subst (λ (x : CutReply × Memory). member (cut_number x.0) (0 ∷ 3 ∷ 4 ∷ 5 ∷ 7 ∷ 8 ∷ 9 ∷ 10 ∷ 11 ∷ []) ≡ true) e (desk_keeps.cut_numbers p root m).number))
-      go (Answered a w) m' e =
-          answer_short a m' (memory_sound desk desk_reads p root m (record { output = a; warning = w }) m' e) (names_in_use desk desk_reads p root m (record { output = a; warning = w }) m' e)
+      go : (r : Reply ElementAnswer) (m' : Memory) → cut_reply desk p root m ≡ (r, m') → length (text (cut_text r (table_counts m'))) ≤ line_room
+      go (Err n) m' e =
+          refused_short (refusal_number n) (low_in (0 ∷ 3 ∷ 4 ∷ 5 ∷ 7 ∷ 8 ∷ 9 ∷ 10 ∷ 11 ∷ []) (refusal_number n) refl
+          (subst (λ (x : Reply ElementAnswer × Memory). member (reply_number x.0) (0 ∷ 3 ∷ 4 ∷ 5 ∷ 7 ∷ 8 ∷ 9 ∷ 10 ∷ 11 ∷ []) ≡ true) e (desk_keeps.cut_numbers p root m).number))
+      go (Ok a) m' e =
+          answer_short a.output m' (memory_sound desk desk_reads p root m a m' e) (names_in_use desk desk_reads p root m a m' e)

@@ -1,8 +1,7 @@
 -- The promises of a record's turn, by cases on its tests: too little room, a cube, a cut, a bad record.
-use Rattle.std.specs.Prelude.{if◌then◌else◌}
-use Prim.Native.Nat.{ℕ, zero, suc, ◌+◌, ◌≤◌, ◌<◌}
+use Rattle.std.specs.Prelude.{if◌then◌else◌, Option, Some, None, Err, Ok}
+use Prim.Native.Nat.{ℕ, suc, ◌+◌, ◌≤◌, ◌<◌}
 use mathlib.Core.Bool.{Bool, true, false, ◌&&◌, false≢true}
-use mathlib.Core.Option.{Option, none, some}
 use mathlib.Core.List.{List, [], ◌∷◌}
 use mathlib.Core.Path.{◌≡◌, refl, sym, ap, subst, ◌∙◌}
 use native.Mathlib.Nat.{suc-ne-zero, le_trans, le_of_suc-le-suc}
@@ -16,14 +15,14 @@ use Rattle.rules.specs.Session.{Line, text, bad, taken, turn, is_cube, is_cut, c
 use Rattle.rules.specs.Bytes.{number_at, float_at}
 use Rattle.rules.specs.Session.{params_at}
 use Rattle.rules.proofs.Laws.{and_right, le_test, test_le, not_le, none_some}
-use Rattle.session.specs.declared.TurnReply.{TurnReply}
-use Rattle.session.specs.declared.TurnReply.TheVariants.{NoRoom}
-use Rattle.session.specs.Written.{line_room, turn_number, turn_values, reply_of, turn_reply}
+use Rattle.session.specs.declared.Untaken.TheVariants.{NoRoom}
+use Rattle.session.specs.Written.{line_room, TurnReply, turn_number, turn_values, reply_of, turn_reply}
 use Rattle.session.specs.Promises.{TurnNumbered, TurnTaken, Promises}
 use Rattle.session.proofs.Lines.{cube_short, cube_refused_short, cut_short}
 use Rattle.session.proofs.Turns.{cube_long, cut_long}
+use Rattle.rules.specs.Refusals.{Reply, reply_number, reply_number, refusal_number}
 
-not_twelve : ◌≡◌ {A = Option ℕ} (some 0) (some 12) → ⊥
+not_twelve : ◌≡◌ {A = Option ℕ} (Some 0) (Some 12) → ⊥
 not_twelve e = let z : ◌≡◌ {A = ℕ} 0 12 = cc in suc-ne-zero 11 (sym z)
 
 -- what stands behind a line stays
@@ -34,11 +33,11 @@ drop_sets (a ∷ vs) l i n h = drop_sets vs (set l i a) (suc i) n (omega (arith,
 module _ (stands : Bool) (m : Memory) (bs room : List ℕ) where
   -- all that is promised of one reply, in a room for which there is a line or not
   record Kept (short : Bool) (x : TurnReply × Memory × List ℕ) : Type 0 where
-    numbered : (short ≡ true → turn_number x.0 ≡ some 12) × (turn_number x.0 ≡ some 12 → (short ≡ true) × (turn_values x.0 ≡ none))
-    taken_has : turn_number x.0 ≡ some 0 → (v : ℕ × ℕ × Bool) × (turn_values x.0 ≡ some v)
-    bad_has : turn_number x.0 ≡ none → turn_values x.0 ≡ none
-    untaken : turn_values x.0 ≡ none → (x.1 ≡ m) × (x.2 ≡ room)
-    goes_on : (k n : ℕ) (later : Bool) → turn_values x.0 ≡ some (k, n, later) → TurnTaken stands bs room x.2 k n later
+    numbered : (short ≡ true → turn_number x.0 ≡ Some 12) × (turn_number x.0 ≡ Some 12 → (short ≡ true) × (turn_values x.0 ≡ None))
+    taken_has : turn_number x.0 ≡ Some 0 → (v : ℕ × ℕ × Bool) × (turn_values x.0 ≡ Some v)
+    bad_has : turn_number x.0 ≡ None → turn_values x.0 ≡ None
+    untaken : turn_values x.0 ≡ None → (x.1 ≡ m) × (x.2 ≡ room)
+    goes_on : (k n : ℕ) (later : Bool) → turn_values x.0 ≡ Some (k, n, later) → TurnTaken stands bs room x.2 k n later
 
   -- a turn that is taken, in a room for a line
   of_taken : line_room ≤ length room → (k : ℕ) (line : Line) (later : Bool) (after : Memory) → 0 < k → k ≤ length bs → length (text line) ≤ line_room → (stands ≡ true → later ≡ true)
@@ -59,20 +58,20 @@ module _ (stands : Bool) (m : Memory) (bs room : List ℕ) where
   }
     where
       value_or : ℕ × ℕ × Bool → Option (ℕ × ℕ × Bool) → ℕ × ℕ × Bool
-      value_or v none = v
-      value_or v (some w) = w
+      value_or v None = v
+      value_or v (Some w) = w
 
   module _ (wide : line_room ≤ length room) where
     of_cube : is_cube bs ≡ true → Kept false (reply_of m room (cube_turn stands (cube_asked desk m bs)))
     of_cube e = go (cube_asked desk m bs).0 (cube_asked desk m bs).1 refl
       where
-        go : (n : ℕ) (after : Memory) → cube_asked desk m bs ≡ (n, after) → Kept false (reply_of m room (cube_turn stands (n, after)))
-        go zero after q =
+        go : (r : Reply (Unit {0})) (after : Memory) → cube_asked desk m bs ≡ (r, after) → Kept false (reply_of m room (cube_turn stands (r, after)))
+        go (Ok x) after q =
             of_taken wide 11 (cube_line (table_counts after)) true after (lit≤ tt) (cube_long bs e)
-            (subst (λ (x : Memory). length (text (cube_line (table_counts x))) ≤ line_room) (ap (λ (x : ℕ × Memory). x.1) q) (cube_short _ _ m (ap (λ (x : ℕ × Memory). x.0) q))) (λ h. refl)
-        go (suc n) after q =
-            of_taken wide 11 (refused_line (suc n)) stands after (lit≤ tt) (cube_long bs e)
-            (subst (λ (k : ℕ). length (text (refused_line k)) ≤ line_room) (ap (λ (x : ℕ × Memory). x.0) q) (cube_refused_short (number_at 1 2 bs) (float_at 3 bs) m)) (λ h. h)
+            (subst (λ (x : Memory). length (text (cube_line (table_counts x))) ≤ line_room) (ap (λ (x : Reply (Unit {0}) × Memory). x.1) q) (cube_short _ _ m (ap (λ (x : Reply (Unit {0}) × Memory). reply_number x.0) q))) (λ h. refl)
+        go (Err n) after q =
+            of_taken wide 11 (refused_line (refusal_number n)) stands after (lit≤ tt) (cube_long bs e)
+            (subst (λ (k : ℕ). length (text (refused_line k)) ≤ line_room) (ap (λ (x : Reply (Unit {0}) × Memory). reply_number x.0) q) (cube_refused_short (number_at 1 2 bs) (float_at 3 bs) m)) (λ h. h)
 
     of_cut : is_cut (get_or m.counts 0 0) bs ≡ true → Kept false (reply_of m room (cut_turn (get_or m.counts 0 0) (cut_asked desk m bs)))
     of_cut e =
@@ -101,7 +100,7 @@ module _ (stands : Bool) (m : Memory) (bs room : List ℕ) where
   unfolding turn_reply
   kept = go (ltb (length room) line_room) refl
     where
-      go : (b : Bool) → ltb (length room) line_room ≡ b → Kept b (if b then (NoRoom, m, room) else reply_of m room (turn desk stands m bs))
+      go : (b : Bool) → ltb (length room) line_room ≡ b → Kept b (if b then (Err NoRoom, m, room) else reply_of m room (turn desk stands m bs))
       go true e = record {
         numbered = (λ q. refl, λ q. (refl, refl));
         taken_has = λ q. absurd (not_twelve (sym q));

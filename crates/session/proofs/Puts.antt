@@ -8,12 +8,12 @@ use lib.Seq.{drop-cons}
 use Rattle.rules.specs.Promises.{OneBelow}
 use Rattle.rules.specs.Bytes.{decimal}
 use Rattle.rules.specs.Session.{spaced, place}
-use Rattle.rules.specs.declared.ElementOrNone.{ElementOrNone}
-use Rattle.rules.specs.declared.ElementOrNone.TheVariants.{None, Some}
 use Rattle.lent_bytes.specs.Lent.{Put}
 use Rattle.lent_bytes.proofs.Decimals.{five_digits, twenty_digits}
 use Rattle.lent_bytes.proofs.Puts.{put_as, put_length, then}
 use Rattle.session.specs.Written.{line_room}
+use Rattle.rules.specs.declared.ElementId.{ElementId}
+use Rattle.std.specs.Prelude.{Option, Some, None}
 
 -- ---- numbers one after another
 
@@ -41,7 +41,7 @@ number_short n l p = let q = five_digits n l in let e = p.place in omega (arith,
 pub number_fits_lem : {room after : List ℕ} {at end : ℕ} (n : ℕ) → n < 0x10000000000000000 → Put room at (32 ∷ decimal n) end after → end ≤ at + 21
 number_fits_lem n l p = let q = twenty_digits n l in let e = p.place in omega (arith, q, e)
 
-pub element_short : {room after : List ℕ} {at end : ℕ} (e : ElementOrNone) → OneBelow 512 e → Put room at (place e) end after → end ≤ at + 6
+pub element_short : {room after : List ℕ} {at end : ℕ} (e : Option ElementId) → OneBelow 512 e → Put room at (place e) end after → end ≤ at + 6
 element_short None l p = let e = p.place in omega (arith, e)
 element_short (Some id) l p = number_short id.0 (let z : id.0 < 0x10000 = omega (arith, l) in z) p
 
@@ -55,7 +55,7 @@ pub record Far (room : List ℕ) (end most : ℕ) : Type 0 where
 pub far_word : {room after : List ℕ} {end : ℕ} {xs : List ℕ} → line_room ≤ length room → Put room 0 xs end after → Far after end (length xs)
 far_word l p = record { place = (let e = p.place in omega (arith, e)); enough = (let k = put_length p in omega (arith, k, l)) }
 
-pub far_element : {room after : List ℕ} {at end most : ℕ} (e : ElementOrNone) → OneBelow 512 e → Far room at most → Put room at (place e) end after → Far after end (most + 6)
+pub far_element : {room after : List ℕ} {at end most : ℕ} (e : Option ElementId) → OneBelow 512 e → Far room at most → Put room at (place e) end after → Far after end (most + 6)
 far_element e l f p = record {
   place = (let q = element_short e l p in let m = f.place in omega (arith, q, m));
   enough = (let k = put_length p in let m = f.enough in omega (arith, k, m));

@@ -1,18 +1,19 @@
 -- What a function asks of its caller: one record for each that asks more than one thing. Definitions only.
 -- `room` says that what the function puts fits the lent room, whose bytes are `out`.
-use Rattle.std.specs.Prelude.{ℕ, ◌+◌, ◌≤◌, ◌<◌, ◌≡◌, true, List, length, get_or}
+use Rattle.std.specs.Prelude.{ℕ, ◌+◌, ◌≤◌, ◌<◌, ◌≡◌, true, List, length, get_or, Option}
 use Rattle.rules.specs.Limits.{desk}
 use Rattle.rules.specs.Promises.{OneBelow, NamesBelow}
 use Rattle.rules.specs.Session.{is_cube, is_cut, cut_length}
-use Rattle.rules.specs.declared.ElementOrNone.{ElementOrNone}
 use Rattle.rules.specs.declared.ElementCutOutput.{ElementCutOutput}
-use Rattle.rules.specs.declared.CutReply.{CutReply}
 use Rattle.session.specs.Written.{line_room, LineFits}
+use Rattle.rules.specs.Refusals.{Reply}
+use Rattle.rules.specs.declared.ElementAnswer.{ElementAnswer}
+use Rattle.rules.specs.declared.ElementId.{ElementId}
 
 -- ---- parts of a line
 
 -- the place of an element or none
-pub record PlaceReady (e : ElementOrNone) (out : List ℕ) (at : ℕ) : Type 0 where
+pub record PlaceReady (e : Option ElementId) (out : List ℕ) (at : ℕ) : Type 0 where
   pub element : OneBelow desk.elements e
   pub room : at + 21 ≤ length out
 
@@ -35,7 +36,7 @@ pub record CountedReady (word cs out : List ℕ) : Type 0 where
   pub room : line_room ≤ length out
 
 -- the three places of an answer and the counts
-pub record SidesLineReady (i o x : ElementOrNone) (cs out : List ℕ) : Type 0 where
+pub record SidesLineReady (i o x : Option ElementId) (cs out : List ℕ) : Type 0 where
   pub inside : OneBelow desk.elements i
   pub outside : OneBelow desk.elements o
   pub intersection : OneBelow desk.elements x
@@ -49,7 +50,7 @@ pub record AnswerLineReady (a : ElementCutOutput) (cs out : List ℕ) : Type 0 w
   pub room : line_room ≤ length out
 
 -- a cut's reply
-pub record CutLineReady (r : CutReply) (cs out : List ℕ) : Type 0 where
+pub record CutLineReady (r : Reply ElementAnswer) (cs out : List ℕ) : Type 0 where
   pub fits : LineFits r cs
   pub room : line_room ≤ length out
 

@@ -14,16 +14,19 @@ use record::{cube_turn, cut_turn, is_cube, is_cut};
 // Room that is enough for every line.
 const LINE_ROOM: usize = 64;
 
-// What became of a record: its length, the length of its line, and whether a table stands then.
+// Of a record that is taken: how many bytes it has and its line, and whether a table stands then.
 #[derive(Clone, Copy)]
-pub enum TurnReply {
+pub struct Taken {
+    pub record_bytes: usize,
+    pub line_bytes: usize,
+    pub stands: bool,
+}
+
+// Why a record is not taken: too little room for its line, or it is bad.
+#[derive(Clone, Copy, Debug, PartialEq, Eq)]
+pub enum Untaken {
     NoRoom,
     Bad,
-    Taken {
-        record: usize,
-        line: usize,
-        stands: bool,
-    },
 }
 
 // The record at the front of the input. `stands` says whether the memory has a table: before the first cube it has none.
@@ -35,23 +38,23 @@ pub fn turn(
     planes: &mut [f64],
     elements: &mut [u16],
     room: &mut [u8],
-) -> TurnReply
+) -> Result<Taken, Untaken>
     ensures { (result, memory_of counts.new points.new planes.new elements.new, room.new)
         ≡ turn_reply stands (memory_of counts.old points.old planes.old elements.old) input.now room.old }
 {
     if room.len() < LINE_ROOM {
-        return TurnReply::NoRoom;
+        return Err(Untaken::NoRoom);
     }
     if is_cube(input) {
-        return cube_turn(input, stands, counts, points, planes, elements, room);
+        return Ok(cube_turn(input, stands, counts, points, planes, elements, room));
     }
     if !stands {
-        return TurnReply::Bad;
+        return Err(Untaken::Bad);
     }
     if !is_cut(counts, input) {
-        return TurnReply::Bad;
+        return Err(Untaken::Bad);
     }
-    cut_turn(input, counts, points, planes, elements, room)
+    Ok(cut_turn(input, counts, points, planes, elements, room))
 }
 
 // The line of a bad record, and its length: 0 in too little room.

@@ -1,10 +1,9 @@
 // What a record asks for: a cube or a cut, its call, and the line of its reply.
-ghost use Rattle.std.specs.Prelude.{◌+◌, ◌*◌, ◌≤◌, ◌≡◌, [], ◌∷◌, eqb, ltb, length, get_or, take, drop, if◌then◌else◌};
+ghost use Rattle.std.specs.Prelude.{◌+◌, ◌*◌, ◌≤◌, ◌≡◌, [], ◌∷◌, eqb, ltb, length, get_or, take, drop, if◌then◌else◌, Ok};
 ghost use Rattle.rules.specs.Limits.{desk};
 ghost use Rattle.rules.specs.Lists.{alike};
 ghost use Rattle.rules.specs.Floats.{plus_zero};
 ghost use Rattle.rules.specs.Held.{memory_of};
-ghost use Rattle.rules.specs.Replies.{fate_of};
 ghost use Rattle.rules.specs.Bytes.{float_at};
 ghost use Rattle.rules.specs.Session.{text, is_cube, is_cut, cube_asked, divider_at, cut_asked, cube_turn, output_text, cut_text, cut_turn};
 ghost use Rattle.lent_bytes.specs.Lent.{Put};
@@ -12,9 +11,11 @@ ghost use Rattle.space.specs.Numbers.{NumberBelow};
 ghost use Rattle.session.specs.Written.{reply_of};
 ghost use Rattle.session.specs.Ready.{ComponentReady, DividerReady, CubeTurnReady, AnswerLineReady, CutLineReady, CutTurnReady};
 
-use crate::{TurnReply, line};
+use crate::{Taken, line};
 use lent_bytes::read;
-use rules::{CutParams, CutReply, ElementCutOutput, ElementId, Hyperplane, PolytopeFate};
+use rules::{
+    CutParams, ElementAnswer, ElementCutOutput, ElementId, Hyperplane, PolytopeFate, Reply,
+};
 use space::words::wide;
 
 // Every mark's first byte is 43.
@@ -54,19 +55,10 @@ pub fn is_cut(counts: &[u16], input: &[u8]) -> bool
     if input.len() < 13 + 8 * d {
         return false;
     }
-    if 3 < read::one(input, 2) {
+    if 3 < read::number::<1>(input, 2) {
         return false;
     }
     is_marked(input, 0x54)
-}
-
-fn fate(kept: bool) -> PolytopeFate
-    ensures { result ≡ fate_of kept }
-{
-    if kept {
-        return PolytopeFate::Keep;
-    }
-    PolytopeFate::Remove
 }
 
 // A component of the divider's normal: zero past the dimension.
@@ -102,28 +94,25 @@ pub fn cube_turn(
     planes: &mut [f64],
     elements: &mut [u16],
     room: &mut [u8],
-) -> TurnReply
+) -> Taken
     requires { CubeTurnReady input.now room.old }
-    ensures { (result, memory_of counts.new points.new planes.new elements.new, room.new)
+    ensures { (Ok result, memory_of counts.new points.new planes.new elements.new, room.new)
         ≡ reply_of (memory_of counts.old points.old planes.old elements.old) room.old
         (cube_turn stands (cube_asked desk (memory_of counts.old points.old planes.old elements.old) input.now)) }
 {
-    let d = read::one(input, 2);
+    let d = read::number::<1>(input, 2);
     let radius = read::float(input, 3);
-    let no = cube::with_primordial_cube_radius(d, radius, counts, points, planes, elements);
-    if no == 0 {
-        let line = line::counted(b"cube", counts, room);
-        return TurnReply::Taken {
-            record: 11,
-            line,
+    match cube::with_primordial_cube_radius(d, radius, counts, points, planes, elements) {
+        Ok(()) => Taken {
+            record_bytes: 11,
+            line_bytes: line::counted(b"cube", counts, room),
             stands: true,
-        };
-    }
-    let line = line::numbered(b"refused", no as u64, room);
-    TurnReply::Taken {
-        record: 11,
-        line,
-        stands,
+        },
+        Err(refusal) => Taken {
+            record_bytes: 11,
+            line_bytes: line::refused(refusal, room),
+            stands,
+        },
     }
 }
 
@@ -142,13 +131,13 @@ fn answer_line(answer: ElementCutOutput, counts: &[u16], room: &mut [u8]) -> usi
 }
 
 // The line of a cut's reply.
-fn cut_line(reply: CutReply, counts: &[u16], room: &mut [u8]) -> usize
+fn cut_line(reply: Reply<ElementAnswer>, counts: &[u16], room: &mut [u8]) -> usize
     requires { CutLineReady reply counts.now room.old }
     ensures { Put room.old 0 (text (cut_text reply (drop 1 counts.now))) result room.new }
 {
     match reply {
-        CutReply::Refused(no) => line::numbered(b"refused", no as u64, room),
-        CutReply::Answered { output, warning: _ } => answer_line(output, counts, room),
+        Err(refusal) => line::refused(refusal, room),
+        Ok(answer) => answer_line(answer.output, counts, room),
     }
 }
 
@@ -159,18 +148,18 @@ pub fn cut_turn(
     planes: &mut [f64],
     elements: &mut [u16],
     room: &mut [u8],
-) -> TurnReply
+) -> Taken
     requires { CutTurnReady counts.old input.now room.old }
-    ensures { (result, memory_of counts.new points.new planes.new elements.new, room.new)
+    ensures { (Ok result, memory_of counts.new points.new planes.new elements.new, room.new)
         ≡ reply_of (memory_of counts.old points.old planes.old elements.old) room.old
         (cut_turn (get_or counts.old 0 0) (cut_asked desk (memory_of counts.old points.old planes.old elements.old) input.now)) }
 {
     let d = dimension_of(counts);
     let divider = divider_at(input, d);
-    let kept = read::one(input, 2);
-    let inside = fate(kept % 2 == 1);
-    let outside = fate(kept / 2 == 1);
-    let root = ElementId(read::two(input, 3) as usize);
+    let kept = read::number::<1>(input, 2);
+    let inside = PolytopeFate::from(kept % 2 == 1);
+    let outside = PolytopeFate::from(kept / 2 == 1);
+    let root = ElementId(read::number::<2>(input, 3) as usize);
     let params = CutParams {
         divider,
         inside,
@@ -178,9 +167,9 @@ pub fn cut_turn(
     };
     let reply = cut::cut(counts, points, planes, elements, params, root);
     let line = cut_line(reply, counts, room);
-    TurnReply::Taken {
-        record: 13 + 8 * d,
-        line,
+    Taken {
+        record_bytes: 13 + 8 * d,
+        line_bytes: line,
         stands: true,
     }
 }

@@ -7,7 +7,7 @@ ghost use Rattle.session.specs.Ready.{PlaceReady, CountsEndReady};
 
 use lent_bytes::decimal::digits;
 use lent_bytes::write::word;
-use rules::ElementOrNone;
+use rules::ElementId;
 use space::words::wide;
 
 // A space and the number; a u64 has 20 digits at most.
@@ -20,13 +20,13 @@ pub fn spaced_number(n: u64, room: &mut [u8], at: usize) -> usize
 }
 
 // A space, and the element's number or -.
-pub fn element(e: ElementOrNone, room: &mut [u8], at: usize) -> usize
+pub fn element(e: Option<ElementId>, room: &mut [u8], at: usize) -> usize
     requires { PlaceReady e room.old at }
     ensures { Put room.old at (place e) result room.new }
 {
     match e {
-        ElementOrNone::None => word(b" -", room, at),
-        ElementOrNone::Some(id) => spaced_number(id.0 as u64, room, at),
+        None => word(b" -", room, at),
+        Some(id) => spaced_number(id.0 as u64, room, at),
     }
 }
 

@@ -7,8 +7,8 @@ use mathlib.Core.Path.{◌≡◌, refl, sym, ap, ap₂, ◌∙◌}
 use native.Mathlib.Numerals.{add-one}
 use native.Mathlib.Omega.{arith}
 use lib.Dec.{eqb, leb, ltb}
-use lib.ListN.{length, get_or, take, drop, drop_of_length-le}
-use lib.Seq.{get_or-take, length-take-le, drop-cons}
+use lib.ListN.{length, get_or, drop, drop_of_length-le}
+use lib.Seq.{drop-cons}
 use Rattle.rules.specs.Limits.{desk}
 use Rattle.rules.specs.Lists.{all, rises}
 use Rattle.rules.proofs.Laws.{and_left, and_right, test_le, and_when}
@@ -72,31 +72,26 @@ module _ (p q : ℕ → Bool) where
       by_three (leb low x) (climbs (suc x) xs) (p x) (all p xs) (q x) (all q xs)
       ∙ ap (λ (b : Bool). (leb low x && p x && q x) && b) (together (suc x) xs)
 
-module _ (es ws : List ℕ) (to e r : ℕ) where
+module _ (es b : List ℕ) (e r : ℕ) where
+  -- those from place i on, where the next may be low
   abbrev pub left : ℕ → ℕ → Bool
-  left low i = fits (λ x. ltb x e) (λ x. eqb (suc (get_or es (x * 36) 0)) r) low (drop i (take to ws))
+  left low i = fits (λ x. ltb x e) (λ x. eqb (suc (get_or es (x * 36) 0)) r) low (drop i b)
 
-  pub fits_start : (from : ℕ) → numbers_fit desk es e r (drop from (take to ws)) ≡ left 0 from
-  fits_start from =
-      let b = drop from (take to ws) in
+  pub fits_start : numbers_fit desk es e r b ≡ left 0 0
+  fits_start =
       ap (λ (c : Bool). c && all (λ x. ltb x e) b && all (λ x. eqb (suc (get_or es (x * 36) 0)) r) b) (rises_all b)
       ∙ together (λ x. ltb x e) (λ x. eqb (suc (get_or es (x * 36) 0)) r) 0 b
 
-  module _ (fit : to ≤ length ws) where
-    on : (low i x : ℕ) (F : Bool) → x ≡ get_or ws i 0 → i < to → number_fits desk es e r low x ≡ F → left low i ≡ (F && left (x + 1) (i + 1))
-    on low i x F s h f =
-        ap (fits (λ y. ltb y e) (λ y. eqb (suc (get_or es (y * 36) 0)) r) low)
-        (drop-cons (take to ws) i 0 (let k = length-take-le to ws fit in let q : i < length (take to ws) = omega (arith, k, h) in q)
-        ∙ ap (λ (y : ℕ). y ∷ drop (suc i) (take to ws)) (get_or-take to ws i 0 h ∙ sym s))
-        ∙ (λ j. f j && left (sym (add-one x) j) (sym (add-one i) j))
+  on : (low i x : ℕ) (F : Bool) → x ≡ get_or b i 0 → i < length b → number_fits desk es e r low x ≡ F → left low i ≡ (F && left (x + 1) (i + 1))
+  on low i x F s h f =
+      ap (fits (λ y. ltb y e) (λ y. eqb (suc (get_or es (y * 36) 0)) r) low) (drop-cons b i 0 h ∙ ap (λ (y : ℕ). y ∷ drop (suc i) b) (sym s))
+      ∙ (λ j. f j && left (sym (add-one x) j) (sym (add-one i) j))
 
-    pub fits_go : {reply : Bool} (low i x : ℕ) → reply ≡ left low i → x ≡ get_or ws i 0 → i < to → number_fits desk es e r low x ≡ true → reply ≡ left (x + 1) (i + 1)
-    fits_go low i x t s h f = t ∙ on low i x true s h f
+  pub fits_go : {reply : Bool} (low i x : ℕ) → reply ≡ left low i → x ≡ get_or b i 0 → i < length b → number_fits desk es e r low x ≡ true → reply ≡ left (x + 1) (i + 1)
+  fits_go low i x t s h f = t ∙ on low i x true s h f
 
-    pub fits_no : {reply : Bool} (low i x : ℕ) → reply ≡ left low i → x ≡ get_or ws i 0 → i < to → number_fits desk es e r low x ≡ false → false ≡ reply
-    fits_no low i x t s h f = sym (t ∙ on low i x false s h f)
+  pub fits_no : {reply : Bool} (low i x : ℕ) → reply ≡ left low i → x ≡ get_or b i 0 → i < length b → number_fits desk es e r low x ≡ false → false ≡ reply
+  fits_no low i x t s h f = sym (t ∙ on low i x false s h f)
 
-    pub fits_end : {reply : Bool} (low i : ℕ) → reply ≡ left low i → to ≤ i → true ≡ reply
-    fits_end low i t h =
-        sym (t ∙ ap (fits (λ y. ltb y e) (λ y. eqb (suc (get_or es (y * 36) 0)) r) low)
-        (drop_of_length-le (take to ws) (let k = length-take-le to ws fit in let q : length (take to ws) ≤ i = omega (arith, k, h) in q)))
+  pub fits_end : {reply : Bool} (low i : ℕ) → reply ≡ left low i → length b ≤ i → true ≡ reply
+  fits_end low i t h = sym (t ∙ ap (fits (λ y. ltb y e) (λ y. eqb (suc (get_or es (y * 36) 0)) r) low) (drop_of_length-le b h))

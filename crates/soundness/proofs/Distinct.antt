@@ -1,9 +1,8 @@
 -- Rows one after another, each looked for among the earlier ones: no two are equal as long as none is found.
-use Rattle.std.specs.Prelude.{if◌then◌else◌}
+use Rattle.std.specs.Prelude.{if◌then◌else◌, Some, None}
 use Prim.Native.Nat.{ℕ, zero, suc, ◌+◌, ◌*◌, ◌-◌, ◌<◌}
 use mathlib.Core.Bool.{Bool, true, false, not, ◌&&◌, ◌||◌}
 use mathlib.Core.List.{List, [], ◌∷◌, ◌++◌}
-use mathlib.Core.Option.{none, some}
 use mathlib.Core.Path.{◌≡◌, refl, sym, ap, ap₂, ◌∙◌}
 use native.Mathlib.Numerals.{add-one}
 use native.Mathlib.Omega.{arith}
@@ -39,19 +38,19 @@ module _ {A : Type 0} where
       ap₂ (λ (a d : Bool). not a && d) (any_last (λ z. p z x) xs y) (distinct_last p xs y)
       ∙ shuffled (any (λ z. p z x) xs) (p y x) (distinct p xs) (any (p y) xs)
 
-  none_any : (p : A → Bool) (n : ℕ) (xs : List A) → find_from n p xs ≡ none → any p xs ≡ false
+  none_any : (p : A → Bool) (n : ℕ) (xs : List A) → find_from n p xs ≡ None → any p xs ≡ false
   none_any p n [] h = refl
   none_any p n (x ∷ xs) h = go (p x) h (none_any p (suc n) xs)
     where
-      go : (b : Bool) → (if b then some n else find_from (suc n) p xs) ≡ none → (find_from (suc n) p xs ≡ none → any p xs ≡ false) → (b || any p xs) ≡ false
+      go : (b : Bool) → (if b then Some n else find_from (suc n) p xs) ≡ None → (find_from (suc n) p xs ≡ None → any p xs ≡ false) → (b || any p xs) ≡ false
       go true e r = let z : ◌≡◌ {A = ℕ} 0 1 = cc in absurd (omega arith)
       go false e r = r e
 
-  some_any : (p : A → Bool) (n j : ℕ) (xs : List A) → find_from n p xs ≡ some j → any p xs ≡ true
+  some_any : (p : A → Bool) (n j : ℕ) (xs : List A) → find_from n p xs ≡ Some j → any p xs ≡ true
   some_any p n j [] h = let z : ◌≡◌ {A = ℕ} 0 1 = cc in absurd (omega arith)
   some_any p n j (x ∷ xs) h = go (p x) h (some_any p (suc n) j xs)
     where
-      go : (b : Bool) → (if b then some n else find_from (suc n) p xs) ≡ some j → (find_from (suc n) p xs ≡ some j → any p xs ≡ true) → (b || any p xs) ≡ true
+      go : (b : Bool) → (if b then Some n else find_from (suc n) p xs) ≡ Some j → (find_from (suc n) p xs ≡ Some j → any p xs ≡ true) → (b || any p xs) ≡ true
       go true e r = refl
       go false e r = r e
 
@@ -71,11 +70,11 @@ module _ (es : List ℕ) where
   one_more_lem i = ap (distinct (alike eqb)) (rows_last i es) ∙ distinct_last (alike eqb) (rows i 36 es) (stored_row es i)
 
   -- a row that is found among the earlier ones, and one that is not
-  pub row_met : (i j : ℕ) → some j ≡ find (alike eqb (stored_row es i)) (rows i 36 es) → false ≡ row_new es i
+  pub row_met : (i j : ℕ) → Some j ≡ find (alike eqb (stored_row es i)) (rows i 36 es) → false ≡ row_new es i
   unfolding row_new
   row_met i j f = ap not (sym (some_any (alike eqb (stored_row es i)) 0 j (rows i 36 es) (sym f)))
 
-  pub row_unmet : (i : ℕ) → none ≡ find (alike eqb (stored_row es i)) (rows i 36 es) → true ≡ row_new es i
+  pub row_unmet : (i : ℕ) → None ≡ find (alike eqb (stored_row es i)) (rows i 36 es) → true ≡ row_new es i
   unfolding row_new
   row_unmet i f = ap not (sym (none_any (alike eqb (stored_row es i)) 0 (rows i 36 es) (sym f)))
 

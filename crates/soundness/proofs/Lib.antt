@@ -17,3 +17,4 @@ pub mod RowsRead
 pub mod FaceLoops
 pub mod EdgesRead
 pub mod AskedOnce
+pub mod Every

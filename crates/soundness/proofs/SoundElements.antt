@@ -1,9 +1,8 @@
 -- Each element's own line: the words' test is the table's.
-use Rattle.std.specs.Prelude.{if◌then◌else◌}
+use Rattle.std.specs.Prelude.{if◌then◌else◌, Some, None}
 use Prim.Native.Nat.{ℕ, ◌<◌, ◌*◌, zero, suc, ◌+◌, ◌≤◌}
 use mathlib.Core.Bool.{not, Bool, true, false, ◌&&◌, false≢true}
 use mathlib.Core.List.{List, map, [], ◌∷◌}
-use mathlib.Core.Option.{none, some}
 use mathlib.Core.Path.{◌≡◌, ap, sym, ◌∙◌, refl, subst, ap₂}
 use native.Mathlib.Nat.{not-suc-le-zero, zero-mul, le_of_suc-le-suc, suc-mul, add-zero, le_trans}
 use native.Mathlib.Omega.{arith}
@@ -96,11 +95,11 @@ module _ (t : Table) (es : List ℕ) (n : ℕ) (long : length es ≡ 18432) (fit
   unfolding sound_facet facet_words
   facet_same r p m = ap₂ (λ (a b : Bool). if eqb (suc r) t.dimension then a else (b && not (eqb m 1))) (named (eqb p no_plane) refl) (none_named (eqb p no_plane))
     where
-      named : (b : Bool) → eqb p no_plane ≡ b → names_plane t (if b then none else some p) ≡ ltb p h
+      named : (b : Bool) → eqb p no_plane ≡ b → names_plane t (if b then None else Some p) ≡ ltb p h
       named true q = let z = eq_test p no_plane q in sym (le-ltb p h (let y : h ≤ p = omega (arith, low, z) in y))
       named false q = ap (ltb p) planes
 
-      none_named : (b : Bool) → names_none (if b then none else some p) ≡ b
+      none_named : (b : Bool) → names_none (if b then None else Some p) ≡ b
       none_named true = refl
       none_named false = refl
 
@@ -230,14 +229,14 @@ module _ (t : Table) (es : List ℕ) (n : ℕ) (long : length es ≡ 18432) (fit
       element_two (0 + x) (element t x) (all_at (sound_element t) 0 t.elements x (corner 0) (let q : x < length t.elements = omega (arith, e, l) in q) a)
 
   -- the entry of an edge's row
-  plain_read : (r : List ℕ) → get_or r 0 0 ≡ 1 → plane_named (get_or r 2 0) ≡ none → eqb (get_or r 1 0) 1 ≡ false → Plain (read_element r)
+  plain_read : (r : List ℕ) → get_or r 0 0 ≡ 1 → plane_named (get_or r 2 0) ≡ None → eqb (get_or r 1 0) 1 ≡ false → Plain (read_element r)
   unfolding read_element
   plain_read r q none_there unmarked =
       let y = read_element r in
-      let e : read_element r ≡ polytope 1 (boundary_in r) none false =
+      let e : read_element r ≡ polytope 1 (boundary_in r) None false =
       ap (λ (b : Bool). if b then corner (get_or r 4 0) else polytope (get_or r 0 0) (boundary_in r) (plane_named (get_or r 2 0)) (eqb (get_or r 1 0) 1)) (not_eq (get_or r 0 0) 0 (λ z. let w : ⊥ = omega (arith, z, q) in w))
       ∙ (λ i. polytope (q i) (boundary_in r) (none_there i) (unmarked i)) in
-      e ∙ ap (λ (b : List ℕ). polytope 1 b none false) (sym (ap boundary_of e))
+      e ∙ ap (λ (b : List ℕ). polytope 1 b None false) (sym (ap boundary_of e))
 
   row_two : (k : ℕ) (r : List ℕ) → element_sound desk es t.dimension h k r ≡ true → get_or r 0 0 ≡ 1 → TwoEnds d (boundary_in r) (read_element r)
   unfolding element_sound boundary_sound

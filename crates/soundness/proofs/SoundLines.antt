@@ -1,9 +1,8 @@
 -- Document 01's lines one by one: what the table read from the memory must meet, and the round trip, is what the words must meet.
-use Rattle.std.specs.Prelude.{if◌then◌else◌}
+use Rattle.std.specs.Prelude.{if◌then◌else◌, Some, None}
 use Prim.Native.Nat.{◌-◌, ℕ, ◌≤◌, ◌*◌, ◌<◌, suc, ◌+◌, zero}
 use mathlib.Core.Bool.{Bool, ◌&&◌, true, false, not, ◌||◌, cond}
 use mathlib.Core.List.{List, map, ◌∷◌, [], ◌++◌}
-use mathlib.Core.Option.{some, none}
 use mathlib.Core.Path.{◌≡◌, ap, ◌∙◌, refl, ap₂, sym, subst}
 use native.Mathlib.Nat.{le_trans, le_of_eq}
 use native.Mathlib.Omega.{arith}
@@ -159,7 +158,7 @@ module _ (L : Limits) (some_room : 1 ≤ L.boundary) where
   plane_back : (p : ℕ) → eqb (plane_number (plane_named p)) p ≡ true
   plane_back p = go (eqb p no_plane) refl
     where
-      go : (b : Bool) → eqb p no_plane ≡ b → eqb (plane_number (if b then none else some p)) p ≡ true
+      go : (b : Bool) → eqb p no_plane ≡ b → eqb (plane_number (if b then None else Some p)) p ≡ true
       go true q = test_eq no_plane p (sym (eq_test p no_plane q))
       go false q = eqb_self p
 

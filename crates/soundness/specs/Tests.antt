@@ -2,7 +2,7 @@
 use Rattle.std.specs.Prelude.{ℕ, zero, suc, ◌+◌, ◌<◌, ◌≤◌, ◌≡◌, Bool, true, false, cond, ◌&&◌, List, eqb, Float, length, get_or, take, drop, if◌then◌else◌}
 use Rattle.rules.specs.Held.{memory_of}
 use Rattle.rules.specs.Limits.{desk}
-use Rattle.rules.specs.Memory.{sound_memory, right_size}
+use Rattle.rules.specs.Memory.{Memory, sound_memory, right_size}
 use Rattle.space.specs.Numbers.{row_width, point_slice, plane_slice, element_slice}
 use Rattle.space.specs.Chains.{stored_row, key_of, new_start, Indexed}
 use Rattle.space.specs.Closed.{Unmet}
@@ -73,10 +73,9 @@ pub record NumbersReady (ws : List ℕ) (from to : ℕ) (fs : List ℕ) (sp : Sp
   pub spaced : Spaced fs sp
   pub room : e ≤ desk.elements
 
--- the edges of a face: each edge before it has its ends in order, and no corner counts as met
-pub record EdgesReady (ws : List ℕ) (from to : ℕ) (fs : List ℕ) (sp : Spacing) (e : ℕ) (met : List ℕ) : Type 0 where
-  pub part : PartOf from to (length ws)
-  pub size : to ≤ from + desk.boundary
+-- the edges of a face, ns: each edge before it has its ends in order, and no corner counts as met
+pub record EdgesReady (ns fs : List ℕ) (sp : Spacing) (e : ℕ) (met : List ℕ) : Type 0 where
+  pub size : length ns ≤ desk.boundary
   pub spaced : Spaced fs sp
   pub in_room : e < desk.elements
   pub edges : EdgesLow (known_rows fs sp) e
@@ -208,7 +207,7 @@ pub record RowsTested (test : Bool) (es : List ℕ) (d n h : ℕ) (index : List 
   pub read : index' ≡ with_rows es (rows_read es d n h) index
 
 -- the same of a memory
-pub record MemoryTested (cs : List ℕ) (ps hs : List Float) (es index : List ℕ) (reply : Bool) (index' : List ℕ) : Type 0 where
-  pub told : reply ≡ sound_memory desk (memory_of cs ps hs es)
-  pub indexed : reply ≡ true → Indexed es (get_or cs 1 0) index'
-  pub read : index' ≡ with_rows es (memory_read cs ps hs es) index
+pub record MemoryTested (m : Memory) (index : List ℕ) (reply : Bool) (index' : List ℕ) : Type 0 where
+  pub told : reply ≡ sound_memory desk m
+  pub indexed : reply ≡ true → Indexed m.elements (get_or m.counts 1 0) index'
+  pub read : index' ≡ with_rows m.elements (memory_read m.counts m.points m.planes m.elements) index

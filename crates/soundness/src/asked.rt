@@ -1,19 +1,19 @@
 // What every entry point asks first, in the old order: 3, a memory that is not sound; 4, a number that is no element's; 5, a divider that does not fit.
 ghost use Rattle.std.specs.Prelude.{◌≡◌, [], ◌∷◌, ltb, length, get_or};
 ghost use Rattle.rules.specs.Lists.{all};
-ghost use Rattle.rules.specs.Held.{memory_of};
 ghost use Rattle.space.specs.Chains.{Indexed};
-ghost use Rattle.soundness.specs.Asked.{refusal, asked_of, DividerAsked};
+ghost use Rattle.space.specs.Lent.{lent};
+ghost use Rattle.soundness.specs.Asked.{asked_of, roots_asked, DividerAsked};
 
 use crate::sound::{memory_indexed, memory_sound};
 use hypermath::{DistanceKind, distance_kind, is_unit};
-use rules::{ElementId, Hyperplane};
+use rules::{ElementId, Hyperplane, Refusal, Reply};
+use space::memory::Memory;
 use space::words::wide;
 
-// What a root and a divider are told: refused with a number, all on one side by rule 1, or a plane to be tested against.
+// What a root and a divider that are not refused are told: all on one side by rule 1, or a plane to be tested against.
 #[derive(Clone, Copy)]
 pub enum Asking {
-    Refused(u8),
     AllInside,
     AllOutside,
     Finite,
@@ -28,90 +28,71 @@ fn in_use(counts: &[u16], root: ElementId) -> bool
 }
 
 // 4, then 5, of a memory that is known to be sound: its counts tell the dimension and how many elements there are.
-pub fn sound_asked(counts: &[u16], divider: Hyperplane, root: ElementId) -> Asking
+pub fn sound_asked(counts: &[u16], divider: Hyperplane, root: ElementId) -> Reply<Asking>
     requires { length counts.now ≡ 4 }
     ensures { result ≡ asked_of (get_or counts.now 0 0) (get_or counts.now 1 0) divider root.0 }
 {
     if !in_use(counts, root) {
-        return Asking::Refused(4);
+        return Err(Refusal::NotInUse);
     }
     let normal = divider.normal;
     if !is_unit(wide(counts[0]), normal) {
-        return Asking::Refused(5);
+        return Err(Refusal::Divider);
     }
     let kind = distance_kind(divider.distance);
     match kind {
-        DistanceKind::Unfit => Asking::Refused(5),
-        DistanceKind::PlusInfinity => Asking::AllInside,
-        DistanceKind::MinusInfinity => Asking::AllOutside,
-        DistanceKind::Finite => Asking::Finite,
+        DistanceKind::Unfit => Err(Refusal::Divider),
+        DistanceKind::PlusInfinity => Ok(Asking::AllInside),
+        DistanceKind::MinusInfinity => Ok(Asking::AllOutside),
+        DistanceKind::Finite => Ok(Asking::Finite),
     }
 }
 
 // 3, then 4, then 5. From an empty index to that of the memory, where it is sound.
 pub fn divider_asked(
-    counts: &[u16],
-    points: &[f64],
-    planes: &[f64],
-    elements: &[u16],
+    memory: Memory,
     index: &mut [u16],
     divider: Hyperplane,
     root: ElementId,
-) -> Asking
-    requires { Indexed elements.now 0 index.old }
-    ensures { DividerAsked counts.now points.now planes.now elements.now divider root.0 result index.new }
+) -> Reply<Asking>
+    requires { Indexed memory.elements.now 0 index.old }
+    ensures { DividerAsked (lent memory.entry) divider root.0 result index.new }
 {
-    if !memory_indexed(counts, points, planes, elements, index) {
-        return Asking::Refused(3);
+    if !memory_indexed(memory, index) {
+        return Err(Refusal::NotSound);
     }
-    sound_asked(counts, divider, root)
+    sound_asked(memory.counts, divider, root)
 }
 
-// Where there is no divider: 3 or 4, or 0 where the question goes on.
-pub fn root_refusal(
-    counts: &[u16],
-    points: &[f64],
-    planes: &[f64],
-    elements: &[u16],
-    root: ElementId,
-) -> u8
-    ensures { result ≡ refusal (memory_of counts.now points.now planes.now elements.now) (root.0 ∷ []) }
+// Where there is no divider: 3 or 4, or the question goes on.
+pub fn root_asked(memory: Memory, root: ElementId) -> Reply<()>
+    ensures { result ≡ roots_asked (lent memory.entry) (root.0 ∷ []) }
 {
-    if !memory_sound(counts, points, planes, elements) {
-        return 3;
+    if !memory_sound(memory) {
+        return Err(Refusal::NotSound);
     }
-    if !in_use(counts, root) {
-        return 4;
+    if !in_use(memory.counts, root) {
+        return Err(Refusal::NotInUse);
     }
-    0
+    Ok(())
 }
 
-fn all_used(roots: &[u16], n: u16) -> bool
+// Whether every number is an element's, of n elements.
+pub fn all_used(roots: &[u16], n: u16) -> bool
     ensures { result ≡ all (λ e. ltb e n) roots.now }
 {
-    for i in 0..roots.len() {
-        if n <= roots[i] {
-            return false;
-        }
-    }
-    true
+    roots.iter().all(|&root| root < n)
 }
 
 // The same for any number of roots.
-pub fn roots_refusal(
-    counts: &[u16],
-    points: &[f64],
-    planes: &[f64],
-    elements: &[u16],
-    roots: &[u16],
-) -> u8
-    ensures { result ≡ refusal (memory_of counts.now points.now planes.now elements.now) roots.now }
+pub fn roots_asked(memory: Memory, roots: &[u16]) -> Reply<()>
+    ensures { result ≡ roots_asked (lent memory.entry) roots.now }
 {
-    if !memory_sound(counts, points, planes, elements) {
-        return 3;
+    if !memory_sound(memory) {
+        return Err(Refusal::NotSound);
     }
-    if !all_used(roots, counts[1]) {
-        return 4;
+    if !all_used(roots, memory.counts[1]) {
+        return Err(Refusal::NotInUse);
     }
-    0
+    Ok(())
 }

@@ -10,7 +10,7 @@ ghost use Rattle.soundness.specs.Tests.{NumberReady, NumbersReady, EdgesReady, N
 use crate::known::{join_ends, meet_ends, rank_known};
 use crate::row::Spacing;
 use rules::ElementId;
-use space::closed::{CLOSES, INSIDE, THRICE, few_edges};
+use space::closed::{INSIDE, Joined, few_edges};
 use space::words::{ELEMENTS, wide};
 
 // An element's stamp is above every word that was written for the elements before it: a word of a face is at most INSIDE above the face's own.
@@ -56,8 +56,8 @@ pub fn numbers_fit(
     ensures { result ≡ numbers_fit desk (known_rows earlier.now spacing) e.0 rank (drop from (take to words.now)) }
 {
     let mut low = 0usize;
-    for i in from..to {
-        let x = wide(words[i]);
+    for &word in &words[from..to] {
+        let x = wide(word);
         if !number_fits(earlier, spacing, x, low, e, rank) {
             return false;
         }
@@ -68,66 +68,61 @@ pub fn numbers_fit(
 
 // The numbers of a face of few edges: the ends of each are met in the same pass.
 fn few_fits(
-    words: &[u16],
-    from: usize,
-    to: usize,
+    edges: &[u16],
     earlier: &[u16],
     spacing: Spacing,
     e: ElementId,
     met: &mut [u32; ELEMENTS],
 ) -> bool
-    requires { EdgesReady words.now from to earlier.now spacing e.0 met.old }
-    ensures { BoundaryTested (few_words desk (known_rows earlier.now spacing) e.0 (drop from (take to words.now))) e.0 result met.new }
+    requires { EdgesReady edges.now earlier.now spacing e.0 met.old }
+    ensures { BoundaryTested (few_words desk (known_rows earlier.now spacing) e.0 edges.now) e.0 result met.new }
 {
     let stamp = stamp_of(e);
     let mut low = 0usize;
     let mut twice = 0usize;
-    for i in from..to {
-        let x = wide(words[i]);
+    for &word in edges {
+        let x = wide(word);
         if !number_fits(earlier, spacing, x, low, e, 2) {
             return false;
         }
-        twice = twice + meet_ends(earlier, spacing, ElementId(x), met, stamp);
+        twice += meet_ends(earlier, spacing, ElementId(x), met, stamp);
         low = x + 1;
     }
-    twice == to - from
+    twice == edges.len()
 }
 
 // The numbers of any other face: each edge joins paths in the same pass.
 fn face_fits(
-    words: &[u16],
-    from: usize,
-    to: usize,
+    edges: &[u16],
     earlier: &[u16],
     spacing: Spacing,
     e: ElementId,
     met: &mut [u32; ELEMENTS],
 ) -> bool
-    requires { EdgesReady words.now from to earlier.now spacing e.0 met.old }
-    ensures { BoundaryTested (face_words desk (known_rows earlier.now spacing) e.0 (drop from (take to words.now))) e.0 result met.new }
+    requires { EdgesReady edges.now earlier.now spacing e.0 met.old }
+    ensures { BoundaryTested (face_words desk (known_rows earlier.now spacing) e.0 edges.now) e.0 result met.new }
 {
     let stamp = stamp_of(e);
     let mut low = 0usize;
     let mut twice = 0usize;
-    for i in from..to {
-        let x = wide(words[i]);
+    for (i, &word) in edges.iter().enumerate() {
+        let x = wide(word);
         if !number_fits(earlier, spacing, x, low, e, 2) {
             return false;
         }
-        let joins = join_ends(earlier, spacing, ElementId(x), met, stamp);
-        if joins == THRICE {
-            return false;
-        }
-        if joins == CLOSES {
-            if i + 1 < to {
-                return false;
+        match join_ends(earlier, spacing, ElementId(x), met, stamp) {
+            Joined::Thrice => return false,
+            Joined::Closes => {
+                if i + 1 < edges.len() {
+                    return false;
+                }
+                return twice + 2 == edges.len();
             }
-            return twice + 2 == to - from;
+            Joined::Met(before) => twice += before,
         }
-        twice = twice + joins;
         low = x + 1;
     }
-    to - from == 0
+    edges.is_empty()
 }
 
 // More of them than the rank, rising, earlier, of rank one less, and closed: those of a face or a body.
@@ -152,7 +147,7 @@ pub fn boundary_sound(
         return numbers_fit(words, at, at + n, earlier, spacing, e, rank);
     }
     if n <= few_edges(d) {
-        return few_fits(words, at, at + n, earlier, spacing, e, met);
+        return few_fits(&words[at..at + n], earlier, spacing, e, met);
     }
-    face_fits(words, at, at + n, earlier, spacing, e, met)
+    face_fits(&words[at..at + n], earlier, spacing, e, met)
 }

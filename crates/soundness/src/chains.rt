@@ -2,7 +2,7 @@
 ghost use Rattle.soundness.specs.Tests.{NewReady, NewTested};
 
 use rules::ElementId;
-use space::chains::{FoundElement, find_row, join, key_of};
+use space::chains::{find_row, join, key_of};
 use space::words::WIDTH;
 
 // The row of e is equal to no earlier one, and joins the index then.
@@ -11,10 +11,9 @@ pub fn row_new(elements: &[u16], e: ElementId, index: &mut [u16]) -> bool
     ensures { NewTested elements.now e.0 index.old result index.new }
 {
     let at = e.0 * WIDTH;
-    let found = find_row(elements, e.0, elements, at, index);
-    match found {
-        FoundElement::At(_) => false,
-        FoundElement::None => {
+    match find_row(elements, e.0, elements, at, index) {
+        Some(_) => false,
+        None => {
             let key = key_of(elements, at);
             join(index, key, e.0);
             true

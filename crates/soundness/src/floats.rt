@@ -33,8 +33,8 @@ fn blank_floats(list: &[f64], from: usize, to: usize) -> bool
     ensures { result ≡ blank_floats (drop from (take to list.now)) }
 {
     let mut seen = 0u64;
-    for i in from..to {
-        seen = seen | bits_of(list[i]);
+    for &x in &list[from..to] {
+        seen = seen | bits_of(x);
     }
     seen == 0
 }
@@ -44,12 +44,7 @@ pub fn coordinates_fit(list: &[f64], from: usize, to: usize) -> bool
     requires { PartOf from to (length list.now) }
     ensures { result ≡ all (within farthest) (drop from (take to list.now)) }
 {
-    for i in from..to {
-        if !is_within(FARTHEST, list[i]) {
-            return false;
-        }
-    }
-    true
+    list[from..to].iter().all(|&x| is_within(FARTHEST, x))
 }
 
 // A coordinate for each dimension, and zero bits past it.
@@ -57,10 +52,7 @@ fn point_sound(points: &[f64], at: usize, d: usize) -> bool
     requires { PointThere points.now at d }
     ensures { result ≡ point_words d (take desk.dimensions (drop at points.now)) }
 {
-    if !coordinates_fit(points, at, at + d) {
-        return false;
-    }
-    blank_floats(points, at + d, at + AXES)
+    coordinates_fit(points, at, at + d) && blank_floats(points, at + d, at + AXES)
 }
 
 // The vertices in use, and zero bits past them.
@@ -81,10 +73,7 @@ pub fn hyperplane_sound(h: Hyperplane, d: usize) -> bool
     ensures { result ≡ (unit_normal d h.normal && within farthest_plane h.distance) }
 {
     let normal = h.normal;
-    if !is_unit(d, normal) {
-        return false;
-    }
-    is_within(FARTHEST_PLANE, h.distance)
+    is_unit(d, normal) && is_within(FARTHEST_PLANE, h.distance)
 }
 
 // The same of a lent row.
@@ -113,10 +102,7 @@ fn floats_along(points: &[f64], planes: &[f64], d: usize, v: usize, h: usize) ->
     requires { FloatsReady points.now planes.now d v h }
     ensures { result ≡ floats_sound desk d v h points.now planes.now }
 {
-    if !points_sound(points, d, v) {
-        return false;
-    }
-    planes_sound(planes, d, h)
+    points_sound(points, d, v) && planes_sound(planes, d, h)
 }
 
 // The same; with the dimension as a number the axes are gone over with no loop.

@@ -6,7 +6,7 @@ ghost use Rattle.soundness.specs.Known.{known_rows, ElementKnown, EndKnown, Ends
 
 use crate::row::Spacing;
 use rules::ElementId;
-use space::closed::{join_paths, meet};
+use space::closed::{Joined, join_paths, meet_both};
 use space::words::{ELEMENTS, wide};
 
 pub fn rank_known(earlier: &[u16], spacing: Spacing, x: ElementId) -> usize
@@ -40,9 +40,7 @@ pub fn meet_ends(
 {
     let a = end_known(earlier, spacing, x, 0);
     let b = end_known(earlier, spacing, x, 1);
-    let first = meet(met, a, stamp);
-    let second = meet(met, b, stamp);
-    first + second
+    meet_both(a, b, met, stamp)
 }
 
 // An edge joins the paths that end in its ends: `join_paths` says what is answered.
@@ -52,7 +50,7 @@ pub fn join_ends(
     x: ElementId,
     paths: &mut [u32; ELEMENTS],
     stamp: u32,
-) -> usize
+) -> Joined
     requires { PathsKnown earlier.now spacing x.0 stamp paths.old }
     ensures { EndsJoined stamp (known_rows earlier.now spacing) paths.old x.0 result paths.new }
 {

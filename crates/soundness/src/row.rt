@@ -56,7 +56,7 @@ pub fn one_if_corner(words: &[u16], at: usize) -> usize
     requires { at + row_width ≤ length words.now }
     ensures { MovesOn (take row_width (drop at words.now)) result }
 {
-    if words[at] == 0 { 1 } else { 0 }
+    usize::from(words[at] == 0)
 }
 
 // It names a hyperplane in use exactly when rank + 1 is the dimension, and has a primordial mark only then.
@@ -67,10 +67,7 @@ fn facet_sound(d: usize, h: usize, rank: usize, plane: usize, mark: usize) -> bo
     if d - rank == 1 {
         return plane < h;
     }
-    if plane == NO_PLANE as usize {
-        return mark != 1;
-    }
-    false
+    plane == NO_PLANE as usize && mark != 1
 }
 
 // The row of a vertex element has one fixed form, and names vertex k.

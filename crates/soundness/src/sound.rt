@@ -2,18 +2,19 @@
 ghost use Rattle.std.specs.Prelude.{◌*◌, ◌≡◌, ◌&&◌, length, take, drop};
 ghost use Rattle.rules.specs.Limits.{desk};
 ghost use Rattle.rules.specs.Memory.{sound_memory};
-ghost use Rattle.rules.specs.Held.{memory_of};
 ghost use Rattle.rules.specs.Replies.{is_sound_reply};
 ghost use Rattle.space.specs.Numbers.{row_width};
 ghost use Rattle.space.specs.Chains.{Indexed};
+ghost use Rattle.space.specs.Lent.{lent};
 ghost use Rattle.soundness.specs.Words.{blank_words, counts_fit, row_sound, rows_in_use, rows_distinct, rows_sound};
 ghost use Rattle.soundness.specs.Tests.{PartOf, StoredReady, RowTested, RowsReady, RowsTested, MemoryTested};
 
 use crate::chains::row_new;
 use crate::floats::floats_sound;
 use crate::row::{HEAD, MASK, Spacing, one_if_corner, past_mask, row_sound};
-use rules::{ElementId, VertexId};
+use rules::{ElementId, Refusal, Reply, VertexId};
 use space::chains::INDEX;
+use space::memory::Memory;
 use space::words::{
     AXES, BOUNDARY, ELEMENT_WORDS, ELEMENTS, HYPERPLANES, VERTICES, WIDTH, right_size, wide,
 };
@@ -22,25 +23,10 @@ use space::words::{
 pub fn counts_fit(d: usize, n: usize, v: usize, h: usize) -> bool
     ensures { result ≡ counts_fit desk d n v h }
 {
-    if d < 1 {
+    if d < 1 || AXES < d || VERTICES < v || ELEMENTS < n || HYPERPLANES < h {
         return false;
     }
-    if AXES < d {
-        return false;
-    }
-    if VERTICES < v {
-        return false;
-    }
-    if ELEMENTS < n {
-        return false;
-    }
-    if HYPERPLANES < h {
-        return false;
-    }
-    if d == 1 {
-        return true;
-    }
-    2 * d <= h
+    d == 1 || 2 * d <= h
 }
 
 // Unused words are zero. Their bits are gathered to the end whatever is met, so that many words are read at once.
@@ -49,8 +35,8 @@ fn blank_words(list: &[u16], from: usize, to: usize) -> bool
     ensures { result ≡ blank_words (drop from (take to list.now)) }
 {
     let mut seen = 0u16;
-    for i in from..to {
-        seen = seen | list[i];
+    for &word in &list[from..to] {
+        seen = seen | word;
     }
     seen == 0
 }
@@ -139,46 +125,40 @@ fn rows_sound(elements: &[u16], d: usize, n: usize, v: usize, h: usize, index: &
 }
 
 // Lengths and counts come first: the other tests rely on them. The rows that were read are in the index then: all in use where the memory is sound.
-pub fn memory_indexed(
-    counts: &[u16],
-    points: &[f64],
-    planes: &[f64],
-    elements: &[u16],
-    index: &mut [u16],
-) -> bool
-    requires { Indexed elements.now 0 index.old }
-    ensures { MemoryTested counts.now points.now planes.now elements.now index.old result index.new }
+pub fn memory_indexed(memory: Memory, index: &mut [u16]) -> bool
+    requires { Indexed memory.elements.now 0 index.old }
+    ensures { MemoryTested (lent memory.entry) index.old result index.new }
 {
-    if !right_size(counts, points, planes, elements) {
+    if !right_size(memory) {
         return false;
     }
-    let d = wide(counts[0]);
-    let n = wide(counts[1]);
-    let v = wide(counts[2]);
-    let h = wide(counts[3]);
+    let d = wide(memory.counts[0]);
+    let n = wide(memory.counts[1]);
+    let v = wide(memory.counts[2]);
+    let h = wide(memory.counts[3]);
     if !counts_fit(d, n, v, h) {
         return false;
     }
-    if !floats_sound(points, planes, d, v, h) {
+    if !floats_sound(memory.points, memory.planes, d, v, h) {
         return false;
     }
-    rows_sound(elements, d, n, v, h, index)
+    rows_sound(memory.elements, d, n, v, h, index)
 }
 
 // The same, where the index is not asked for.
-pub fn memory_sound(counts: &[u16], points: &[f64], planes: &[f64], elements: &[u16]) -> bool
-    ensures { result ≡ sound_memory desk (memory_of counts.now points.now planes.now elements.now) }
+pub fn memory_sound(memory: Memory) -> bool
+    ensures { result ≡ sound_memory desk (lent memory.entry) }
 {
     let mut index = [0u16; INDEX];
-    memory_indexed(counts, points, planes, elements, &mut index)
+    memory_indexed(memory, &mut index)
 }
 
-// Document 01, `is_sound`: 0 when the memory is sound, 3 when not.
-pub fn is_sound(counts: &[u16], points: &[f64], planes: &[f64], elements: &[u16]) -> u8
-    ensures { result ≡ is_sound_reply desk (memory_of counts.now points.now planes.now elements.now) }
+// Document 01, `is_sound`: done when the memory is sound, else 3.
+pub fn is_sound(memory: Memory) -> Reply<()>
+    ensures { result ≡ is_sound_reply desk (lent memory.entry) }
 {
-    if memory_sound(counts, points, planes, elements) {
-        return 0;
+    if memory_sound(memory) {
+        return Ok(());
     }
-    3
+    Err(Refusal::NotSound)
 }

@@ -2,10 +2,10 @@
 use Prim.Native.Nat.{ℕ, ◌+◌, suc, zero, ◌<◌, ◌*◌, ◌≤◌}
 use mathlib.Core.Bool.{cond, Bool, true, false, ◌&&◌}
 use mathlib.Core.List.{List, ◌∷◌, []}
-use mathlib.Core.Path.{◌≡◌, sym, ap, ap₂, ◌∙◌, refl, subst}
+use mathlib.Core.Path.{◌≡◌, sym, ap, ◌∙◌, refl, subst}
 use native.Mathlib.Nat.{zero-add}
 use native.Mathlib.Omega.{arith}
-use lib.Dec.{eqb, ltb, lit≤}
+use lib.Dec.{eqb, ltb}
 use lib.ListN.{length, drop, get_or, set, length-set}
 use lib.Seq.{drop-length, get_or-set_same, get_or-set_other}
 use borrow.Author.Tests.{ltb-true, lt-ltb, le-ltb}
@@ -13,7 +13,7 @@ use Rattle.rules.specs.Lists.{occurrences, all}
 use Rattle.rules.proofs.FaceEdges.{of_all}
 use Rattle.rules.proofs.Laws.{eq_test, test_eq, not_eq, unlike_eq, and_true, refute}
 use Rattle.rules.proofs.RingWalked.{all_of}
-use Rattle.space.specs.Closed.{CornerMet, EndsMet, EndsLow, Unmet, first_end, second_end, raw_ends, met_twice, met_next, meeting, is_second, both_met, seconds}
+use Rattle.space.specs.Closed.{BothMet, EndsMet, EndsLow, Unmet, first_end, second_end, raw_ends, met_twice, met_next, meeting, is_second, both_met, seconds}
 use Rattle.space.proofs.Meetings.{times_cons, bit, ends_on, met_in, in_met, spare, spare_none, spares, more_is, spares_more}
 use Rattle.space.proofs.Sums.{sum_zeros, zeros_sum}
 use Rattle.space.proofs.Webs.{more}
@@ -90,21 +90,13 @@ counts_go s c met twice ends a C low = record {
 
 -- ---- both ends of an edge
 
--- one after the other, each 1 at most
-pub ends_met : (s : ℕ) (es met one after : List ℕ) (e a b f g : ℕ) → a ≡ first_end es e → b ≡ second_end es e → CornerMet s met a f one → CornerMet s one b g after → EndsMet s es met e (f + g) after
+pub ends_met : {s : ℕ} {es met after : List ℕ} {e a b r : ℕ} → a ≡ first_end es e → b ≡ second_end es e → BothMet s met a b r after → EndsMet s es met e r after
 unfolding seconds both_met
-ends_met s es met one after e a b f g p q A B = record {
-  count = ap₂ (λ (x y : ℕ). x + y) (A.count ∙ ap (is_second s met) p) (B.count ∙ ap₂ (is_second s) first q);
-  words = B.words ∙ ap₂ (meeting s) first q;
-  most = let x = A.count in let y = B.count in let u = few (eqb (get_or met a 0) s) in let v = few (eqb (get_or one b 0) s) in omega arith;
+ends_met {s} {es} {met} p q M = record {
+  count = M.count ∙ (λ i. is_second s met (p i) + is_second s (meeting s met (p i)) (q i));
+  words = M.words ∙ (λ i. meeting s (meeting s met (p i)) (q i));
+  most = M.most;
 }
-  where
-    first : one ≡ meeting s met (first_end es e)
-    first = A.words ∙ ap (meeting s met) p
-
-    few : (t : Bool) → cond t 1 0 ≤ 1
-    few true = lit≤ tt
-    few false = lit≤ tt
 
 -- ---- a round of edges
 

@@ -1,9 +1,8 @@
 -- Sharing a hyperplane is the step of the rules; and its search, over the hyperplanes that are read back, is theirs.
-use Rattle.std.specs.Prelude.{if◌then◌else◌}
+use Rattle.std.specs.Prelude.{if◌then◌else◌, Option, Some, None, Ok, Err}
 use Prim.Native.Nat.{ℕ, ◌<◌, zero, suc, ◌≤◌, ◌*◌, ◌+◌}
 use mathlib.Core.Bool.{Bool, true, false}
 use mathlib.Core.List.{List, ◌∷◌, []}
-use mathlib.Core.Option.{Option}
 use mathlib.Core.Path.{◌≡◌, refl, ◌∙◌, ap, subst, sym, ap₂}
 use native.Mathlib.Nat.{le_trans, le_of_eq}
 use native.Mathlib.Omega.{arith}
@@ -22,22 +21,21 @@ use Rattle.rules.specs.Sound.{sound_plane}
 use Rattle.rules.specs.Table.{primordials, Table, Plane}
 use Rattle.rules.specs.declared.Hyperplane.{Hyperplane}
 use Rattle.rules.specs.declared.HyperplaneId.{HyperplaneId}
-use Rattle.hypermath.specs.declared.FoundHyperplane.{FoundHyperplane}
-use Rattle.hypermath.specs.declared.FoundHyperplane.TheVariants.{None as NoHyperplane, At as AtHyperplane}
 use Rattle.hypermath.specs.Answers.{hyperplane_number, hyperplane_of, planes_in}
 use Rattle.rules.proofs.Extends.{extends_refl}
 use Rattle.rules.proofs.Good.{Good, sound_good}
 use Rattle.rules.proofs.Laws.{le_test}
 use Rattle.rules.proofs.RoundTrip.{plane_read, plane_long}
 use Rattle.rules.proofs.Rows.{read_rows}
-use Rattle.space.specs.declared.memo.PlacedHyperplane.{PlacedHyperplane}
 use Rattle.space.specs.Shared.{five, new_hyperplane, hyperplane_by, plane_outcome, plane_found, hyperplane_outcome, HyperplaneShared, hyperplane_at, row_of, HyperplaneAdded}
 use Rattle.space.proofs.Room.{wide_more, plane_counted_lem, plane_stored}
 use Rattle.space.proofs.RowAdds.{readable_desk}
 use Rattle.space.proofs.Slices.{slices}
 use Rattle.space.proofs.VertexMemo.{four_is, dimension_is}
 use borrow.Author.Tests.{le-ltb, lt-ltb}
-use Rattle.space.specs.declared.memo.PlacedHyperplane.TheVariants as hyperplane
+use Rattle.rules.specs.declared.Refusal.TheVariants.{HyperplanesFull}
+use Rattle.rules.specs.Refusals.{Reply}
+use Rattle.rules.specs.declared.Refusal.TheVariants.{HyperplanesFull}
 
 pub primordials_none : (d : ℕ) → d < 2 → 0 ≡ primordials d
 primordials_none zero h = refl
@@ -49,15 +47,7 @@ primordials_two zero h = absurd (let z : ⊥ = omega arith in z)
 primordials_two (suc zero) h = absurd (let z : ⊥ = omega arith in z)
 primordials_two (suc (suc d)) h = refl
 
-pub five_stores : (l : List Float) (at : ℕ) (a b c d e : Float) → set (set (set (set (set l at a) (at + 1) b) (at + 2) c) (at + 3) d) (at + 4) e ≡ sets l at (a ∷ b ∷ c ∷ d ∷ e ∷ [])
-five_stores l at a b c d e =
-    let e₁ : at + 1 ≡ suc at = omega arith in
-    let e₂ : at + 2 ≡ suc (suc at) = omega arith in
-    let e₃ : at + 3 ≡ suc (suc (suc at)) = omega arith in
-    let e₄ : at + 4 ≡ suc (suc (suc (suc at))) = omega arith in
-    λ i. set (set (set (set (set l at a) (e₁ i) b) (e₂ i) c) (e₃ i) d) (e₄ i) e
-
-five_is : (p : List Float) → length p ≡ 5 → five p ≡ p
+pub five_is : (p : List Float) → length p ≡ 5 → five p ≡ p
 five_is [] h = absurd (let z : ⊥ = omega (arith, h) in z)
 five_is (a ∷ []) h = absurd (let z : ⊥ = omega (arith, h) in z)
 five_is (a ∷ b ∷ []) h = absurd (let z : ⊥ = omega (arith, h) in z)
@@ -70,26 +60,26 @@ number : {cs : List ℕ} {ps hs : List Float} {es : List ℕ} {t : Table} (n : �
 number n k H = k ∙ (slices H).plane_count
 
 -- the outcome where none was found, by the test for room
-by_room : (cs : List ℕ) (hs row : List Float) (m : FoundHyperplane) → m ≡ NoHyperplane → (b : Bool) → ltb (get_or cs 3 0) 64 ≡ b → plane_outcome cs hs row (hyperplane_number m) ≡ hyperplane_by cs hs row b
+by_room : (cs : List ℕ) (hs row : List Float) (m : Option HyperplaneId) → m ≡ None → (b : Bool) → ltb (get_or cs 3 0) 64 ≡ b → plane_outcome cs hs row (hyperplane_number m) ≡ hyperplane_by cs hs row b
 unfolding plane_outcome
-by_room cs hs row m e b t = ap (λ (x : FoundHyperplane). plane_outcome cs hs row (hyperplane_number x)) e ∙ ap (hyperplane_by cs hs row) t
+by_room cs hs row m e b t = ap (λ (x : Option HyperplaneId). plane_outcome cs hs row (hyperplane_number x)) e ∙ ap (hyperplane_by cs hs row) t
 
-module _ {cs : List ℕ} {hs : List Float} {row : List Float} {m : FoundHyperplane} where
-  pub shared_old : (k : HyperplaneId) → m ≡ AtHyperplane k → HyperplaneShared cs hs row m (hyperplane.At k) cs hs
+module _ {cs : List ℕ} {hs : List Float} {row : List Float} {m : Option HyperplaneId} where
+  pub shared_old : (k : HyperplaneId) → m ≡ Some k → HyperplaneShared cs hs row m (Ok k) cs hs
   unfolding plane_outcome
   shared_old k e = record {
-    words = sym (ap (λ (x : FoundHyperplane). plane_outcome cs hs row (hyperplane_number x)) e);
-    of = λ ps es t g H w l. went k.0 t (ap (λ (x : FoundHyperplane). share_plane desk g (hyperplane_number x) t) e) refl H;
+    words = sym (ap (λ (x : Option HyperplaneId). plane_outcome cs hs row (hyperplane_number x)) e);
+    of = λ ps es t g H w l. went k.0 t (ap (λ (x : Option HyperplaneId). share_plane desk g (hyperplane_number x) t) e) refl H;
   }
 
-  module _ (n : ℕ) (k : n ≡ get_or cs 3 0) (e : m ≡ NoHyperplane) where
-    pub shared_full : 64 ≤ n → HyperplaneShared cs hs row m (hyperplane.Refused 10) cs hs
+  module _ (n : ℕ) (k : n ≡ get_or cs 3 0) (e : m ≡ None) where
+    pub shared_full : 64 ≤ n → HyperplaneShared cs hs row m (Err HyperplanesFull) cs hs
     shared_full h = record {
       words = sym (by_room cs hs row m e false (le-ltb (get_or cs 3 0) 64 (subst (λ (i : ℕ). 64 ≤ i) k h)));
       of = λ ps es t g H w l.
-          stopped 10 t
-          (ap (λ (x : FoundHyperplane). share_plane desk g (hyperplane_number x) t) e
-          ∙ ap (λ (b : Bool). if b then done (length t.planes) (with_plane g t) else refused 10) (le-ltb (length t.planes) 64 (subst (λ (i : ℕ). 64 ≤ i) (number n k H) h)))
+          stopped HyperplanesFull t
+          (ap (λ (x : Option HyperplaneId). share_plane desk g (hyperplane_number x) t) e
+          ∙ ap (λ (b : Bool). if b then done (length t.planes) (with_plane g t) else refused HyperplanesFull) (le-ltb (length t.planes) 64 (subst (λ (i : ℕ). 64 ≤ i) (number n k H) h)))
           refl (extends_refl t) H;
     }
 
@@ -109,8 +99,8 @@ module _ {cs : List ℕ} {hs : List Float} {row : List Float} {m : FoundHyperpla
             fits = fitted t H.fits g u z;
           } in
           went n (with_plane g t)
-          (ap (λ (x : FoundHyperplane). share_plane desk g (hyperplane_number x) t) e
-          ∙ ap (λ (b : Bool). if b then done (length t.planes) (with_plane g t) else refused 10) (lt-ltb (length t.planes) 64 u)
+          (ap (λ (x : Option HyperplaneId). share_plane desk g (hyperplane_number x) t) e
+          ∙ ap (λ (b : Bool). if b then done (length t.planes) (with_plane g t) else refused HyperplanesFull) (lt-ltb (length t.planes) 64 u)
           ∙ ap (λ (j : ℕ). done j (with_plane g t)) (sym i)) refl H');
     }
       where
@@ -146,7 +136,7 @@ plane_is d l h k g w s =
     (λ i. divider_of d (record { normal = sym (four_is h.normal k) i; distance = h.distance }))
     ∙ ap (λ (row : List Float). divider_of d (hyperplane_of row)) w ∙ row_back d l g s
 
-pub hyperplane_added : {cs : List ℕ} {hs : List Float} {h : Hyperplane} {row : List Float} {m : FoundHyperplane} {r : PlacedHyperplane} {cs' : List ℕ} {hs' : List Float} (d k n : ℕ)
+pub hyperplane_added : {cs : List ℕ} {hs : List Float} {h : Hyperplane} {row : List Float} {m : Option HyperplaneId} {r : Reply HyperplaneId} {cs' : List ℕ} {hs' : List Float} (d k n : ℕ)
     → d ≡ get_or cs 0 0 → k ≡ primordials d → n ≡ get_or cs 3 0 → length h.normal ≡ 4 → row ≡ row_of h
     → hyperplane_number m ≡ find_from k (λ g. plane_matches g (divider_of d h)) (drop k (planes_in d n hs)) → HyperplaneShared cs hs row m r cs' hs' → HyperplaneAdded cs hs h r cs' hs'
 unfolding add_plane hyperplane_outcome
@@ -161,5 +151,5 @@ hyperplane_added {cs} {hs} {h} {row} {m} {r} {cs'} {hs'} d k n hd hk hn long hr 
       let o : hyperplane_number m ≡ find_from P (λ x. plane_matches x g) (drop P t.planes) =
       f ∙ (λ a. find_from (p a) (λ x. plane_matches x (divider_of (j a) h)) (drop (p a) (planes_in (j a) (i a) (H.planes a))))
       ∙ ap₂ (λ (y : Plane) (xs : List Plane). find_from P (λ x. plane_matches x y) (drop P xs)) (plane_is t.dimension (le_test t.dimension 4 G.high) h long g w s) (planes_back t G) in
-      subst (λ (x : Option ℕ). Came hyperplane_at hyperplane.Refused (Holds desk cs' ps hs' es) t (share_plane desk g x t) r) o (S.of ps es t g H (hr ∙ w) (ap length hr)));
+      subst (λ (x : Option ℕ). Came hyperplane_at Err (Holds desk cs' ps hs' es) t (share_plane desk g x t) r) o (S.of ps es t g H (hr ∙ w) (ap length hr)));
 }

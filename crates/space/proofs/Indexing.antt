@@ -4,7 +4,6 @@ use Prim.Native.Nat.{ℕ, zero, suc, ◌+◌, ◌*◌, ◌-◌, ◌%◌, ◌≤�
 use mathlib.Core.Bool.{Bool, true, false}
 use mathlib.Core.Logic.{◌⊎◌, inl, inr}
 use mathlib.Core.List.{List, ◌++◌}
-use mathlib.Core.Option.{Option, some}
 use mathlib.Core.Path.{◌≡◌, refl, sym, ap, ap₂, ◌∙◌, subst}
 use native.Mathlib.Nat.{le_trans}
 use native.Mathlib.Omega.{arith}
@@ -17,6 +16,18 @@ use Rattle.rules.proofs.Laws.{refute, eq_test, unlike_eq}
 use Rattle.rules.proofs.Selves.{alike_eq}
 use Rattle.space.specs.Chains.{keys, spread, index_words, stored_row, key_of, number_of, Last, Indexed, new_start}
 use Rattle.space.proofs.RowWords.{row_from, row_start}
+use Rattle.std.specs.Prelude.{Option, Some, None}
+use Rattle.rules.specs.declared.ElementId.{ElementId}
+use Rattle.space.specs.Found.{element_number}
+
+-- what was met as a number of the index: one more than its row's, or 0
+abbrev pub link_of : Option ElementId → ℕ
+link_of None = 0
+link_of (Some e) = suc e.0
+
+pub link_named : (p : Option ElementId) → element_number p ≡ number_of (link_of p)
+link_named None = refl
+link_named (Some e) = refl
 
 -- ---- the search
 
@@ -215,10 +226,6 @@ module _ (es row : List ℕ) (n : ℕ) (fit : n * 36 + 36 ≤ length es) (r : le
 
 pub index_count : (es : List ℕ) (m n : ℕ) (ix : List ℕ) → m ≡ n → Indexed es m ix → Indexed es n ix
 index_count es m n ix e I = subst (λ (k : ℕ). Indexed es k ix) e I
-
-pub number_less : (x : ℕ) → (x ≡ 0 → ⊥) → some (x - 1) ≡ number_of x
-number_less zero h = absurd (h refl)
-number_less (suc x) h = ap some (let q : suc x - 1 ≡ x = omega arith in q)
 
 pub key_words : (words : List ℕ) (at : ℕ) → (get_or words (at + 4) 0 * spread + get_or words (at + 5) 0) % keys ≡ key_of (take 36 (drop at words))
 unfolding key_of

@@ -17,7 +17,6 @@ pub mod Webs
 pub mod Meetings
 pub mod FewEdges
 pub mod TwiceMet
-pub mod Across
 pub mod EndsCounted
 pub mod PathsJoined
 pub mod Rings

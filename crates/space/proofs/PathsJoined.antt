@@ -12,7 +12,9 @@ use lib.Seq.{get_or-set_same, get_or-set_other}
 use borrow.Author.Tests.{lt-ltb, le-ltb}
 use Rattle.rules.specs.Lists.{occurrences, member}
 use Rattle.rules.proofs.Laws.{eq_test, test_eq, not_eq, unlike_eq, or_left, or_right, eqb_self}
-use Rattle.space.specs.Closed.{EndsLow, Unmet, Stamped, PathsReady, PathsJoined, EndsJoined, stamp_room, first_end, second_end, raw_ends, far_end, join_code, join_words, path_code, path_words, joining, joined}
+use Rattle.space.specs.Closed.{EndsLow, Unmet, Stamped, PathsReady, PathsJoined, EndsJoined, stamp_room, first_end, second_end, raw_ends, far_end, join_code, join_words, path_code, path_words, words_after, joining, joined}
+use Rattle.space.specs.declared.closed.Joined.{Joined}
+use Rattle.space.specs.declared.closed.Joined.TheVariants.{Met, Closes, Thrice}
 use Rattle.space.proofs.Sums.{sum_zeros}
 use Rattle.space.proofs.Meetings.{times_cons, ends_on, spare, spares, more_is, spares_more}
 use Rattle.space.proofs.Webs.{Same, yes, no, same?, Web, web_none, more, linking, hanging, met_once, join, x_once, y_once, at_a, at_b, at_other, at_x_lem, at_y, elsewhere, root_along, both_rooted}
@@ -28,10 +30,10 @@ module _ {s : ℕ} {es paths : List ℕ} {e a b : ℕ} (p : a ≡ first_end es e
     stamped = S;
   }
 
-  pub edge_joined : {r : ℕ} {paths' : List ℕ} → PathsJoined s paths a b r paths' → EndsJoined s es paths e r paths'
+  pub edge_joined : {r : Joined} {paths' : List ℕ} → PathsJoined s paths a b r paths' → EndsJoined s es paths e r paths'
   unfolding joining joined
-  edge_joined J =
-      record { code = J.code ∙ (λ i. path_code s paths (p i) (q i)); words = λ l. J.words l ∙ (λ i. path_words s paths (p i) (q i)); kept = J.kept; most = J.most }
+  edge_joined {r} J =
+      record { code = J.code ∙ (λ i. path_code s paths (p i) (q i)); words = J.words ∙ (λ i. words_after r paths (path_words s paths (p i) (q i))); most = J.most }
 
 -- ---- the word of a corner
 
@@ -135,11 +137,11 @@ module _ (es edges : List ℕ) (s : ℕ) (paths : List ℕ) (twice k : ℕ) (P :
     apart q = let p = E.apart in let w : ⊥ = omega (arith, p, q) in w
 
     -- what the answer tells
-    pub data Told : ℕ → Type 0 where
-      third : (v : ℕ) → member v (v₁ ∷ v₂ ∷ []) ≡ true → 1 < P.times v → Told 4
-      closes : P.times v₁ < 2 → P.times v₂ < 2 → P.far v₁ ≡ v₂ → Told 3
+    pub data Told : Joined → Type 0 where
+      third : (v : ℕ) → member v (v₁ ∷ v₂ ∷ []) ≡ true → 1 < P.times v → Told Thrice
+      closes : P.times v₁ < 2 → P.times v₂ < 2 → P.far v₁ ≡ v₂ → Told Closes
       joins : P.times v₁ < 2 → P.times v₂ < 2 → (P.far v₁ ≡ v₂ → ⊥)
-          → Told (cond (eqb (P.far v₁) v₁) 0 1 + cond (eqb (P.far v₂) v₂) 0 1)
+          → Told (Met (cond (eqb (P.far v₁) v₁) 0 1 + cond (eqb (P.far v₂) v₂) 0 1))
 
     pub told : Told (joining s es paths e)
     unfolding joining
@@ -152,35 +154,31 @@ module _ (es edges : List ℕ) (s : ℕ) (paths : List ℕ) (twice k : ℕ) (P :
         second_in = or_right (eqb v₂ v₁) _ (or_left (eqb v₂ v₂) _ (eqb_self v₂))
 
         on : (x y : ℕ) → x ≡ P.far v₁ → y ≡ P.far v₂ → P.times v₁ < 2 → P.times v₂ < 2 → (c : Bool) → eqb x v₂ ≡ c
-            → Told (cond c 3 (cond (eqb x v₁) 0 1 + cond (eqb y v₂) 0 1))
+            → Told (cond c Closes (Met (cond (eqb x v₁) 0 1 + cond (eqb y v₂) 0 1)))
         on x y p q oa ob true h = closes oa ob (sym p ∙ eq_test x v₂ h)
         on x y p q oa ob false h =
-            subst (λ (n : ℕ). Told n) (ap₂ (λ (u v : ℕ). cond (eqb u v₁) 0 1 + cond (eqb v v₂) 0 1) (sym p) (sym q))
+            subst (λ (n : ℕ). Told (Met n)) (ap₂ (λ (u v : ℕ). cond (eqb u v₁) 0 1 + cond (eqb v v₂) 0 1) (sym p) (sym q))
             (joins oa ob (λ r. unlike_eq x v₂ h (p ∙ r)))
 
         go : (x y : ℕ) → far_end s paths v₁ ≡ x → far_end s paths v₂ ≡ y → Same x 512 → Same y 512 → Told (join_code v₁ v₂ x y)
         go x y p q (yes f) g =
-            subst (λ (c : Bool). Told (cond c 4 (cond (eqb y 512) 4 (cond (eqb x v₂) 3 (cond (eqb x v₁) 0 1 + cond (eqb y v₂) 0 1))))) (sym (test_eq x 512 f))
+            subst (λ (c : Bool). Told (cond c Thrice (cond (eqb y 512) Thrice (cond (eqb x v₂) Closes (Met (cond (eqb x v₁) 0 1 + cond (eqb y v₂) 0 1)))))) (sym (test_eq x 512 f))
             (third v₁ first_in (is_shut v₁ la (p ∙ f)))
         go x y p q (no f) (yes g) =
-            subst (λ (c : Bool). Told (cond c 4 (cond (eqb y 512) 4 (cond (eqb x v₂) 3 (cond (eqb x v₁) 0 1 + cond (eqb y v₂) 0 1))))) (sym (not_eq x 512 f))
-            (subst (λ (c : Bool). Told (cond c 4 (cond (eqb x v₂) 3 (cond (eqb x v₁) 0 1 + cond (eqb y v₂) 0 1)))) (sym (test_eq y 512 g))
+            subst (λ (c : Bool). Told (cond c Thrice (cond (eqb y 512) Thrice (cond (eqb x v₂) Closes (Met (cond (eqb x v₁) 0 1 + cond (eqb y v₂) 0 1)))))) (sym (not_eq x 512 f))
+            (subst (λ (c : Bool). Told (cond c Thrice (cond (eqb x v₂) Closes (Met (cond (eqb x v₁) 0 1 + cond (eqb y v₂) 0 1))))) (sym (test_eq y 512 g))
             (third v₂ second_in (is_shut v₂ lb (q ∙ g))))
         go x y p q (no f) (no g) =
             let oa = is_open v₁ la (λ r. f (sym p ∙ r)) in
             let ob = is_open v₂ lb (λ r. g (sym q ∙ r)) in
-            subst (λ (c : Bool). Told (cond c 4 (cond (eqb y 512) 4 (cond (eqb x v₂) 3 (cond (eqb x v₁) 0 1 + cond (eqb y v₂) 0 1))))) (sym (not_eq x 512 f))
-            (subst (λ (c : Bool). Told (cond c 4 (cond (eqb x v₂) 3 (cond (eqb x v₁) 0 1 + cond (eqb y v₂) 0 1)))) (sym (not_eq y 512 g))
+            subst (λ (c : Bool). Told (cond c Thrice (cond (eqb y 512) Thrice (cond (eqb x v₂) Closes (Met (cond (eqb x v₁) 0 1 + cond (eqb y v₂) 0 1)))))) (sym (not_eq x 512 f))
+            (subst (λ (c : Bool). Told (cond c Thrice (cond (eqb x v₂) Closes (Met (cond (eqb x v₁) 0 1 + cond (eqb y v₂) 0 1))))) (sym (not_eq y 512 g))
             (on x y (sym p ∙ far_read v₁ la oa) (sym q ∙ far_read v₂ lb ob) oa ob (eqb x v₂) refl))
 
     -- ---- what is counted after it
 
     abbrev pub times' : ℕ → ℕ
     times' = more v₂ (more v₁ P.times)
-
-    pub fewer : (t : Bool) → cond t 0 1 ≤ 1
-    fewer true = omega arith
-    fewer false = omega arith
 
     half : (v : ℕ) → P.times v < 2 → 2 * cond (eqb (P.far v) v) 0 1 + spare (suc (P.times v)) ≡ spare (P.times v) + 1
     half v o = go (P.times v) refl
@@ -363,10 +361,15 @@ module _ (es edges : List ℕ) (s : ℕ) (paths : List ℕ) (twice k : ℕ) (P :
           })
 
     -- by what the call answers
-    pub paths_go : (r : ℕ) (after : List ℕ) → r ≡ joining s es paths e → r < 3 → after ≡ joined s es paths e → Paths es edges s after (twice + r) (k + 1)
-    paths_go r after q small h = go r (subst (λ (n : ℕ). Told n) (sym q) told) small
+    pub paths_go : (r : ℕ) (after : List ℕ) → Met r ≡ joining s es paths e → after ≡ joined s es paths e → Paths es edges s after (twice + r) (k + 1)
+    paths_go r after q h = subst Goes (sym q) (go (joining s es paths e) told)
       where
-        go : (n : ℕ) → Told n → n < 3 → Paths es edges s after (twice + n) (k + 1)
-        go n (third v m c) b = absurd (let w : ⊥ = omega (arith, b) in w)
-        go n (closes oa ob f) b = absurd (let w : ⊥ = omega (arith, b) in w)
-        go n (joins oa ob f) b = next oa ob f after h
+        Goes : Joined → Type 0
+        Goes (Met n) = Paths es edges s after (twice + n) (k + 1)
+        Goes Closes = Unit {0}
+        Goes Thrice = Unit {0}
+
+        go : (j : Joined) → Told j → Goes j
+        go j (third v m c) = tt
+        go j (closes oa ob f) = tt
+        go j (joins oa ob f) = next oa ob f after h

@@ -16,10 +16,12 @@ use Rattle.rules.proofs.Laws.{eq_test, test_eq, not_eq, and_true, and_left, and_
 use Rattle.rules.proofs.Reach.{some_at, at_some, some_of_lem, any_at}
 use Rattle.rules.proofs.RingWalked.{rule_ring, ring_rule}
 use Rattle.space.specs.Closed.{EndsLow, first_end, second_end, raw_ends, as_edges, ring_raw, joining}
+use Rattle.space.specs.declared.closed.Joined.{Joined}
+use Rattle.space.specs.declared.closed.Joined.TheVariants.{Met, Closes, Thrice}
 use Rattle.space.proofs.Sums.{sum_to, sum_zeros, zeros_sum}
 use Rattle.space.proofs.TwiceMet.{boundary_as}
 use Rattle.space.proofs.Webs.{Same, yes, no, same?, OneOf, this, that, more, met_once}
-use Rattle.space.proofs.PathsJoined.{Paths, Told, third, closes, joins, told, balanced, whole', fewer}
+use Rattle.space.proofs.PathsJoined.{Paths, Told, third, closes, joins, told, balanced, whole'}
 use Rattle.space.proofs.Meetings.{met_in, in_met, End, end_case, first_end_lem, second_end_lem, ends_in, ends_later, spare, spare_none, spares}
 
 -- ---- the face
@@ -334,29 +336,41 @@ module _ (es edges : List ℕ) (up : rises edges ≡ true) (fine : (j : ℕ) →
 
       -- ---- by what the call answers
 
-      pub answers_thrice : (r : ℕ) → r ≡ joining s es paths e → r ≡ 4 → ring_raw es edges ≡ false
-      answers_thrice r q four = go r (subst (λ (n : ℕ). Told es edges s paths twice k P e l is E n) (sym q) (told es edges s paths twice k P e l is E)) four
+      pub answers_thrice : Thrice ≡ joining s es paths e → ring_raw es edges ≡ false
+      answers_thrice q = subst Says (sym q) (go (joining s es paths e) (told es edges s paths twice k P e l is E))
         where
-          go : (n : ℕ) → Told es edges s paths twice k P e l is E n → n ≡ 4 → ring_raw es edges ≡ false
-          go n (third v m o) z = thrice v m o
-          go n (closes oa ob f) z = absurd (let w : ⊥ = omega (arith, z) in w)
-          go n (joins oa ob f) z =
-              absurd (let x = fewer es edges s paths twice k P e l is E (eqb (P.far a) a) in let y = fewer es edges s paths twice k P e l is E (eqb (P.far b) b) in let w : ⊥ = omega (arith, x, y, z) in w)
+          Says : Joined → Type 0
+          Says Thrice = ring_raw es edges ≡ false
+          Says Closes = Unit {0}
+          Says (Met n) = Unit {0}
 
-      pub answers_early : (r : ℕ) → r ≡ joining s es paths e → r ≡ 3 → k + 1 < length edges → ring_raw es edges ≡ false
-      answers_early r q three more_left = go r (subst (λ (n : ℕ). Told es edges s paths twice k P e l is E n) (sym q) (told es edges s paths twice k P e l is E)) three
-        where
-          go : (n : ℕ) → Told es edges s paths twice k P e l is E n → n ≡ 3 → ring_raw es edges ≡ false
-          go n (third v m o) z = absurd (let w : ⊥ = omega (arith, z) in w)
-          go n (closes oa ob f) z = refute (ring_raw es edges) (λ h. apart_too oa ob f h more_left)
-          go n (joins oa ob f) z =
-              absurd (let x = fewer es edges s paths twice k P e l is E (eqb (P.far a) a) in let y = fewer es edges s paths twice k P e l is E (eqb (P.far b) b) in let w : ⊥ = omega (arith, x, y, z) in w)
+          go : (j : Joined) → Told es edges s paths twice k P e l is E j → Says j
+          go j (third v m o) = thrice v m o
+          go j (closes oa ob f) = tt
+          go j (joins oa ob f) = tt
 
-      pub answers_last : (r : ℕ) → r ≡ joining s es paths e → r ≡ 3 → k + 1 ≡ length edges → eqb (twice + 2) (length edges) ≡ ring_raw es edges
-      answers_last r q three last = go r (subst (λ (n : ℕ). Told es edges s paths twice k P e l is E n) (sym q) (told es edges s paths twice k P e l is E)) three
+      pub answers_early : Closes ≡ joining s es paths e → k + 1 < length edges → ring_raw es edges ≡ false
+      answers_early q more_left = subst Says (sym q) (go (joining s es paths e) (told es edges s paths twice k P e l is E))
         where
-          go : (n : ℕ) → Told es edges s paths twice k P e l is E n → n ≡ 3 → eqb (twice + 2) (length edges) ≡ ring_raw es edges
-          go n (third v m o) z = absurd (let w : ⊥ = omega (arith, z) in w)
-          go n (closes oa ob f) z = last_tells oa ob f last
-          go n (joins oa ob f) z =
-              absurd (let x = fewer es edges s paths twice k P e l is E (eqb (P.far a) a) in let y = fewer es edges s paths twice k P e l is E (eqb (P.far b) b) in let w : ⊥ = omega (arith, x, y, z) in w)
+          Says : Joined → Type 0
+          Says Thrice = Unit {0}
+          Says Closes = ring_raw es edges ≡ false
+          Says (Met n) = Unit {0}
+
+          go : (j : Joined) → Told es edges s paths twice k P e l is E j → Says j
+          go j (third v m o) = tt
+          go j (closes oa ob f) = refute (ring_raw es edges) (λ h. apart_too oa ob f h more_left)
+          go j (joins oa ob f) = tt
+
+      pub answers_last : Closes ≡ joining s es paths e → k + 1 ≡ length edges → eqb (twice + 2) (length edges) ≡ ring_raw es edges
+      answers_last q last = subst Says (sym q) (go (joining s es paths e) (told es edges s paths twice k P e l is E))
+        where
+          Says : Joined → Type 0
+          Says Thrice = Unit {0}
+          Says Closes = eqb (twice + 2) (length edges) ≡ ring_raw es edges
+          Says (Met n) = Unit {0}
+
+          go : (j : Joined) → Told es edges s paths twice k P e l is E j → Says j
+          go j (third v m o) = tt
+          go j (closes oa ob f) = last_tells oa ob f last
+          go j (joins oa ob f) = tt

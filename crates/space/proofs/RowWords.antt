@@ -1,8 +1,9 @@
 -- Rows word by word, for the loops over them: a run of stores, a comparison of two rows, and the search for a row.
 use Prim.Native.Nat.{ℕ, ◌+◌, ◌≤◌, ◌<◌}
 use mathlib.Core.Bool.{Bool, true, false, ◌&&◌}
-use mathlib.Core.List.{List, ◌++◌, map, [], ◌∷◌}
-use mathlib.Core.Option.{Option}
+use mathlib.Core.List.{List, ◌++◌, map, [], ◌∷◌, append_assoc}
+use borrow.Rule.Slice.PartMut.{put_mid}
+use Rattle.std.proofs.Common.{drop-drop}
 use mathlib.Core.Path.{◌≡◌, ◌∙◌, ap, ap₂, sym, refl}
 use native.Mathlib.Nat.{le_of_lt, le_of_eq, le_trans}
 use native.Mathlib.Numerals.{add-one}
@@ -16,6 +17,7 @@ use Rattle.rules.proofs.Indexed.{alike_go, alike_no, alike_end, sought_from, sou
 use Rattle.rules.proofs.Laws.{refute, unlike_eq}
 use Rattle.rules.proofs.Selves.{alike_eq}
 use Rattle.space.proofs.NoBits.{no_bits, no_difference}
+use Rattle.std.specs.Prelude.{Option}
 
 module _ {A : Type 0} where
   -- a run of stores is a copy
@@ -31,6 +33,13 @@ module _ {A : Type 0} where
       ∙ paste-suc l at s j z h k
       ∙ ap (paste l at s) (sym (add-one j))
       ∙ sym (sets_paste l at s (j + 1) (let q : at + (j + 1) ≤ length l = omega arith in q) (let q : j + 1 ≤ length s = omega arith in q))
+
+  -- a part with a list of its length in its place
+  pub part_stored : (l part s : List A) (at n : ℕ) → at + length s ≤ length l → n ≡ length s → part ≡ s → put_mid at n l part ≡ sets l at s
+  part_stored l part s at n h m e =
+      ap (put_mid at n l) e
+      ∙ ap (λ (xs : List A). take at l ++ (s ++ xs)) (drop-drop n at l ∙ ap (λ (j : ℕ). drop j l) (let q : at + n ≡ at + length s = omega (arith, m) in q))
+      ∙ sym (sets-eq s l at h ∙ append_assoc (take at l) s (drop (at + length s) l))
 
   pub sets_all : (l : List A) (at : ℕ) (s : List A) (n : ℕ) → length s ≡ n → sets l at (take n s) ≡ sets l at s
   sets_all l at s n e = ap (sets l at) (take_all n s (le_of_eq e))

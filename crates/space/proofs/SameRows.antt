@@ -1,9 +1,8 @@
 -- Two rows are alike, word by word, exactly where their elements are equal; so the search for an equal row is the search for an equal element.
-use Rattle.std.specs.Prelude.{if◌then◌else◌}
+use Rattle.std.specs.Prelude.{if◌then◌else◌, Option, Some}
 use Prim.Native.Nat.{◌-◌, ℕ, suc, ◌*◌}
 use mathlib.Core.Bool.{true, Bool}
 use mathlib.Core.List.{map, List, [], ◌∷◌}
-use mathlib.Core.Option.{Option, some}
 use mathlib.Core.Path.{◌≡◌, refl, ap, sym, subst, ◌∙◌, ap₂}
 use lib.Dec.{eqb}
 use lib.ListN.{length, length-map, replicate}
@@ -27,7 +26,7 @@ module _ (L : Limits) (U : Readable L) where
   find_map : (e : Element) (n : ℕ) (xs : List Element) → fitting L e ≡ true → all (fitting L) xs ≡ true → find_from n (alike eqb (element_words L e)) (map (element_words L) xs) ≡ find_from n (same_element e) xs
   find_map e n [] p q = refl
   find_map e n (x ∷ xs) p q =
-      ap₂ (λ (b : Bool) (r : Option ℕ). if b then some n else r) (words_same e x p (and_left (fitting L x) (all (fitting L) xs) q)) (find_map e (suc n) xs p (and_right (fitting L x) (all (fitting L) xs) q))
+      ap₂ (λ (b : Bool) (r : Option ℕ). if b then Some n else r) (words_same e x p (and_left (fitting L x) (all (fitting L) xs) q)) (find_map e (suc n) xs p (and_right (fitting L x) (all (fitting L) xs) q))
 
   pub find_rows : (t : Table) → Fits L t → (e : Element) → fitting L e ≡ true → find (alike eqb (element_words L e)) (rows (element_count t) (element_width L) (elements_of L t)) ≡ find (same_element e) t.elements
   unfolding elements_of

@@ -1,14 +1,13 @@
 -- Test 7 as the code makes it, and that it is the model's test over a table that the memory holds.
 use Prim.Native.Nat.{ℕ, suc, zero, ◌<◌, ◌≤◌}
 use mathlib.Core.Bool.{cond, Bool, true, false, false≢true}
-use mathlib.Core.Option.{none}
 use mathlib.Core.List.{List, ◌∷◌, [], ◌++◌}
 use mathlib.Core.Path.{◌≡◌, sym, ap, ap₂, ◌∙◌, refl, subst}
-use native.Mathlib.Nat.{zero-add, le_trans}
+use native.Mathlib.Nat.{zero-add, le_trans, le_of_eq}
 use native.Mathlib.Omega.{arith}
 use lib.Dec.{eqb, leb, lit≤}
-use lib.ListN.{length, get_or, take}
-use lib.Seq.{get_or-take, length-take-le}
+use lib.ListN.{length, get_or}
+use lib.Seq.{take_all}
 use borrow.Author.Tests.{lt-leb}
 use Rattle.rules.specs.Held.{Fits, elements_of}
 use Rattle.rules.specs.Limits.{desk}
@@ -23,55 +22,35 @@ use Rattle.rules.proofs.RingWalked.{rule_ring, ring_rule, ring_along}
 use Rattle.space.specs.Closed.{Low, LowEnds, EndsLow, EdgeReady, FaceReady, first_end, second_end, raw_ends, as_edges, EachEdge, Edges, Untwinned, few, met_twice, ring_raw, closed_raw}
 use Rattle.space.proofs.FewEdges.{few_ring}
 use Rattle.space.proofs.Room.{list_of, list_word_lem}
+use Rattle.std.specs.Prelude.{None}
 
 -- ---- the edges of a boundary
 
-module _ (list : List ℕ) (n : ℕ) (fit : n ≤ length list) where
-  abbrev edges : List ℕ
-  edges = take n list
+pub edges_up : {es list : List ℕ} → LowEnds es list (length list) → rises list ≡ true
+edges_up {es} {list} E = ap rises (sym (take_all (length list) list (le_of_eq refl))) ∙ E.rising
 
-  pub edges_long : length edges ≡ n
-  edges_long = length-take-le n list fit
-
-  -- the edge that is read is an entry, a place, and so are its ends
-  module _ (k x : ℕ) (h : k < n) (p : x ≡ get_or list k 0) where
-    edge_at : x ≡ get_or edges k 0
-    edge_at = p ∙ sym (get_or-take n list k 0 h)
-
-    edge_low : Low list n → x < 512
-    edge_low L = subst (λ (y : ℕ). y < 512) (sym p) (L.at k h)
-
-    ends_low : (es : List ℕ) → LowEnds es list n → EndsLow es x
-    ends_low es E = subst (λ (y : ℕ). EndsLow es y) (sym p) (E.each k h)
-
-  pub edges_fine : (es : List ℕ) → Low list n → LowEnds es list n → (j : ℕ) → j < length edges → (get_or edges j 0 < 512) × EndsLow es (get_or edges j 0)
-  edges_fine es L E j h =
-      let l = edges_long in
-      let i : j < n = omega (arith, l, h) in
-      (edge_low j (get_or edges j 0) i (get_or-take n list j 0 i) L, ends_low j (get_or edges j 0) i (get_or-take n list j 0 i) es E)
+pub edges_fine : (es list : List ℕ) → Low list (length list) → LowEnds es list (length list) → (j : ℕ) → j < length list → (get_or list j 0 < 512) × EndsLow es (get_or list j 0)
+edges_fine es list L E j h = (L.at j h, E.each j h)
 
 -- ---- the edge of a face that is taken up
 
 -- the face as it was asked for, and x as edge k of it
-pub record TakenUp (es list : List ℕ) (n k x : ℕ) : Type 0 where
-  pub ready : FaceReady es list n
-  pub more : k < n
+pub record TakenUp (es list : List ℕ) (k x : ℕ) : Type 0 where
+  pub ready : FaceReady es list
+  pub more : k < length list
   pub read : x ≡ get_or list k 0
 
-module _ {es list : List ℕ} {n k x : ℕ} (T : TakenUp es list n k x) where
-  pub taken_there : k < length (take n list)
-  taken_there = let l = edges_long list n T.ready.long in let h = T.more in omega (arith, l, h)
-
-  pub taken_here : x ≡ get_or (take n list) k 0
-  taken_here = edge_at list n T.ready.long k x T.more T.read
+module _ {es list : List ℕ} {k x : ℕ} (T : TakenUp es list k x) where
+  fine : (get_or list k 0 < 512) × EndsLow es (get_or list k 0)
+  fine = edges_fine es list T.ready.low T.ready.ends k T.more
 
   pub taken_ends : EndsLow es x
-  taken_ends = ends_low list n T.ready.long k x T.more T.read es T.ready.ends
+  taken_ends = subst (λ (y : ℕ). EndsLow es y) (sym T.read) fine.1
 
   pub taken_ready : EdgeReady es x 1
   taken_ready = record {
     elements = T.ready.elements;
-    room = edge_low list n T.ready.long k x T.more T.read T.ready.low;
+    room = subst (λ (y : ℕ). y < 512) (sym T.read) fine.0;
     ends = taken_ends;
     stamp = omega arith;
   }
@@ -81,8 +60,8 @@ module _ {es list : List ℕ} {n k x : ℕ} (T : TakenUp es list n k x) where
 pub boundary_as : (es : List ℕ) (x : ℕ) → x < 512 → boundary (as_edges es) x ≡ first_end es x ∷ second_end es x ∷ []
 unfolding as_edges
 boundary_as es x l =
-    ap boundary_of (getD_up (λ y. polytope 1 (first_end es y ∷ second_end es y ∷ []) none false) (corner 0) 0 512 x l
-    ∙ ap (λ (y : ℕ). polytope 1 (first_end es y ∷ second_end es y ∷ []) none false) (zero-add x))
+    ap boundary_of (getD_up (λ y. polytope 1 (first_end es y ∷ second_end es y ∷ []) None false) (corner 0) 0 512 x l
+    ∙ ap (λ (y : ℕ). polytope 1 (first_end es y ∷ second_end es y ∷ []) None false) (zero-add x))
 
 -- ---- the model's test
 

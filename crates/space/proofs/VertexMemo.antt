@@ -1,9 +1,8 @@
 -- Sharing a vertex is the step of the rules; and its search, over the points that are read back, is theirs.
-use Rattle.std.specs.Prelude.{if◌then◌else◌}
+use Rattle.std.specs.Prelude.{if◌then◌else◌, Option, Some, None, Err}
 use Prim.Native.Nat.{ℕ, ◌+◌, suc, ◌≤◌, ◌<◌, ◌*◌, zero}
 use mathlib.Core.Bool.{Bool, true, false}
 use mathlib.Core.List.{List, [], ◌∷◌}
-use mathlib.Core.Option.{Option}
 use mathlib.Core.Path.{◌≡◌, refl, ◌∙◌, ap, subst, sym, ap₂}
 use native.Mathlib.Nat.{le_trans, le_of_eq}
 use native.Mathlib.Omega.{arith}
@@ -20,8 +19,6 @@ use Rattle.rules.specs.Memory.{element_row}
 use Rattle.rules.specs.Sound.{sound_point}
 use Rattle.rules.specs.Table.{Table, corner}
 use Rattle.rules.specs.declared.VertexId.{VertexId}
-use Rattle.hypermath.specs.declared.FoundVertex.{FoundVertex}
-use Rattle.hypermath.specs.declared.FoundVertex.TheVariants.{None as NoVertex, At as AtVertex}
 use Rattle.hypermath.specs.Answers.{vertex_number, points_in}
 use Rattle.rules.proofs.Extends.{extends_refl, extends_trans, grown_point}
 use Rattle.rules.proofs.Good.{Good, sound_good}
@@ -29,7 +26,6 @@ use Rattle.rules.proofs.Growing.{find_bound}
 use Rattle.rules.proofs.Laws.{le_test, eq_test, and_left}
 use Rattle.rules.proofs.RoundTrip.{point_long, point_back}
 use Rattle.rules.proofs.Rows.{read_rows}
-use Rattle.space.specs.declared.rows.Placed.{Placed}
 use Rattle.space.specs.Found.{RowAdded, row_outcome, placed_at}
 use Rattle.space.specs.Numbers.{row_width}
 use Rattle.space.specs.Shared.{four, with_points, new_vertex, vertex_by, share_outcome, vertex_outcome, VertexShared, VertexInRoom, VertexAdded}
@@ -37,8 +33,11 @@ use Rattle.space.proofs.Laid.{length_padded}
 use Rattle.space.proofs.Room.{point_counted, point_words_stored, point_fitted}
 use Rattle.space.proofs.RowAdds.{readable_desk}
 use borrow.Author.Tests.{le-ltb, lt-ltb}
-use Rattle.space.specs.declared.rows.Placed.TheVariants as placed
 use Rattle.space.proofs.Slices.{slices}
+use Rattle.rules.specs.declared.Refusal.TheVariants.{VerticesFull}
+use Rattle.rules.specs.Refusals.{Reply}
+use Rattle.rules.specs.declared.ElementId.{ElementId}
+use Rattle.rules.specs.declared.Refusal.TheVariants.{VerticesFull}
 
 number : {cs : List ℕ} {ps hs : List Float} {es : List ℕ} {t : Table} (n : ℕ) → n ≡ get_or cs 2 0 → Holds desk cs ps hs es t → n ≡ length t.points
 number n k H = k ∙ (slices H).point_count
@@ -54,42 +53,35 @@ four_is (a ∷ b ∷ c ∷ []) h = absurd (let z : ⊥ = omega (arith, h) in z)
 four_is (a ∷ b ∷ c ∷ d ∷ []) h = refl
 four_is (a ∷ b ∷ c ∷ d ∷ e ∷ r) h = absurd (let z : ⊥ = omega (arith, h) in z)
 
-pub four_stores : (l : List Float) (at : ℕ) (a b c d : Float) → set (set (set (set l at a) (at + 1) b) (at + 2) c) (at + 3) d ≡ sets l at (a ∷ b ∷ c ∷ d ∷ [])
-four_stores l at a b c d =
-    let e₁ : at + 1 ≡ suc at = omega arith in
-    let e₂ : at + 2 ≡ suc (suc at) = omega arith in
-    let e₃ : at + 3 ≡ suc (suc (suc at)) = omega arith in
-    λ i. set (set (set (set l at a) (e₁ i) b) (e₂ i) c) (e₃ i) d
-
 pub corner_is : (v : ℕ) → set (set (set (replicate 36 0) 2 65535) 3 1) 4 v ≡ element_words desk (corner v)
 unfolding element_row
 corner_is v = refl
 
 -- the outcome where none was found, by the test for room
-by_room : (cs : List ℕ) (ps : List Float) (es : List ℕ) (p : List Float) (m : FoundVertex) → m ≡ NoVertex → (b : Bool) → ltb (get_or cs 2 0) 256 ≡ b → share_outcome cs ps es p (vertex_number m) ≡ vertex_by cs ps es p b
+by_room : (cs : List ℕ) (ps : List Float) (es : List ℕ) (p : List Float) (m : Option VertexId) → m ≡ None → (b : Bool) → ltb (get_or cs 2 0) 256 ≡ b → share_outcome cs ps es p (vertex_number m) ≡ vertex_by cs ps es p b
 unfolding share_outcome
-by_room cs ps es p m e b t = ap (λ (x : FoundVertex). share_outcome cs ps es p (vertex_number x)) e ∙ ap (vertex_by cs ps es p) t
+by_room cs ps es p m e b t = ap (λ (x : Option VertexId). share_outcome cs ps es p (vertex_number x)) e ∙ ap (vertex_by cs ps es p) t
 
-module _ {cs : List ℕ} {ps : List Float} {es : List ℕ} {p : List Float} {m : FoundVertex} where
-  pub shared_old : {row : List ℕ} {r : Placed} {cs' es' : List ℕ} (v : VertexId) → m ≡ AtVertex v → row ≡ element_words desk (corner v.0) → RowAdded cs es row r cs' es' → VertexShared cs ps es p m r cs' ps es'
+module _ {cs : List ℕ} {ps : List Float} {es : List ℕ} {p : List Float} {m : Option VertexId} where
+  pub shared_old : {row : List ℕ} {r : Reply ElementId} {cs' es' : List ℕ} (v : VertexId) → m ≡ Some v → row ≡ element_words desk (corner v.0) → RowAdded cs es row r cs' es' → VertexShared cs ps es p m r cs' ps es'
   unfolding share_outcome
   shared_old {r = r} {cs' = cs'} {es' = es'} v e w A = record {
-    words = ap (with_points ps) (A.words ∙ ap (row_outcome cs es) w) ∙ sym (ap (λ (x : FoundVertex). share_outcome cs ps es p (vertex_number x)) e);
-    of = λ hs t q H f l. subst (λ (x : FoundVertex). Came placed_at placed.Refused (Holds desk cs' ps hs es') t (share_vertex desk q (vertex_number x) t) r) (sym e) (A.of ps hs t (corner v.0) H w refl);
+    words = ap (with_points ps) (A.words ∙ ap (row_outcome cs es) w) ∙ sym (ap (λ (x : Option VertexId). share_outcome cs ps es p (vertex_number x)) e);
+    of = λ hs t q H f l. subst (λ (x : Option VertexId). Came placed_at Err (Holds desk cs' ps hs es') t (share_vertex desk q (vertex_number x) t) r) (sym e) (A.of ps hs t (corner v.0) H w refl);
   }
 
-  module _ (n : ℕ) (k : n ≡ get_or cs 2 0) (e : m ≡ NoVertex) where
-    pub shared_full : 256 ≤ n → VertexShared cs ps es p m (placed.Refused 8) cs ps es
+  module _ (n : ℕ) (k : n ≡ get_or cs 2 0) (e : m ≡ None) where
+    pub shared_full : 256 ≤ n → VertexShared cs ps es p m (Err VerticesFull) cs ps es
     shared_full h = record {
       words = sym (by_room cs ps es p m e false (le-ltb (get_or cs 2 0) 256 (subst (λ (i : ℕ). 256 ≤ i) k h)));
       of = λ hs t q H f l.
-          stopped 8 t
-          (ap (λ (x : FoundVertex). share_vertex desk q (vertex_number x) t) e
-          ∙ ap (λ (b : Bool). if b then add_element desk (corner (length t.points)) (with_point q t) else refused 8) (le-ltb (length t.points) 256 (subst (λ (i : ℕ). 256 ≤ i) (number n k H) h)))
+          stopped VerticesFull t
+          (ap (λ (x : Option VertexId). share_vertex desk q (vertex_number x) t) e
+          ∙ ap (λ (b : Bool). if b then add_element desk (corner (length t.points)) (with_point q t) else refused VerticesFull) (le-ltb (length t.points) 256 (subst (λ (i : ℕ). 256 ≤ i) (number n k H) h)))
           refl (extends_refl t) H;
     }
 
-    pub shared_new : {row : List ℕ} {r : Placed} {cs' es' : List ℕ} {ps' : List Float} → n < 256 → ps' ≡ sets ps (n * 4) (four p) → row ≡ element_words desk (corner n)
+    pub shared_new : {row : List ℕ} {r : Reply ElementId} {cs' es' : List ℕ} {ps' : List Float} → n < 256 → ps' ≡ sets ps (n * 4) (four p) → row ≡ element_words desk (corner n)
         → RowAdded (set cs 2 (n + 1)) es row r cs' es' → VertexShared cs ps es p m r cs' ps' es'
     unfolding elements_of planes_of
     shared_new {row} {r} {cs'} {es'} {ps'} h s w A = record {
@@ -104,15 +96,15 @@ module _ {cs : List ℕ} {ps : List Float} {es : List ℕ} {p : List Float} {m :
             elements = H.elements;
             fits = point_fitted desk t H.fits q u l;
           } in
-          go hs t q (ap (λ (x : FoundVertex). share_vertex desk q (vertex_number x) t) e
-          ∙ ap (λ (b : Bool). if b then add_element desk (corner (length t.points)) (with_point q t) else refused 8) (lt-ltb (length t.points) 256 u)
+          go hs t q (ap (λ (x : Option VertexId). share_vertex desk q (vertex_number x) t) e
+          ∙ ap (λ (b : Bool). if b then add_element desk (corner (length t.points)) (with_point q t) else refused VerticesFull) (lt-ltb (length t.points) 256 u)
           ∙ ap (λ (j : ℕ). add_element desk (corner j) (with_point q t)) (sym i))
           (A.of ps' hs (with_point q t) (corner n) H' w refl));
     }
       where
         go : (hs : List Float) (t : Table) (q : List Float) → share_vertex desk q (vertex_number m) t ≡ add_element desk (corner n) (with_point q t)
-            → Came placed_at placed.Refused (Holds desk cs' ps' hs es') (with_point q t) (add_element desk (corner n) (with_point q t)) r
-            → Came placed_at placed.Refused (Holds desk cs' ps' hs es') t (share_vertex desk q (vertex_number m) t) r
+            → Came placed_at Err (Holds desk cs' ps' hs es') (with_point q t) (add_element desk (corner n) (with_point q t)) r
+            → Came placed_at Err (Holds desk cs' ps' hs es') t (share_vertex desk q (vertex_number m) t) r
         go hs t q o (went a v z b N) = went a v (o ∙ z) b N
         go hs t q o (stopped j v z b y N) = stopped j v (o ∙ z) b (extends_trans (grown_point q t) y) N
 
@@ -128,14 +120,14 @@ length_rows zero w l = refl
 length_rows (suc n) w l = ap suc (length_rows n w (drop w l))
 
 -- what is found among n vertices is numbered below n
-pub found_in_room : (m : FoundVertex) (d n : ℕ) (p ps : List Float) → vertex_number m ≡ find (λ q. point_matches q (take d p)) (points_in d n ps) → n ≤ 256 → VertexInRoom m
-found_in_room NoVertex d n p ps e h = tt
-found_in_room (AtVertex v) d n p ps e h =
+pub found_in_room : (m : Option VertexId) (d n : ℕ) (p ps : List Float) → vertex_number m ≡ find (λ q. point_matches q (take d p)) (points_in d n ps) → n ≤ 256 → VertexInRoom m
+found_in_room None d n p ps e h = tt
+found_in_room (Some v) d n p ps e h =
     let b = find_bound (λ q. point_matches q (take d p)) 0 v.0 (points_in d n ps) (sym e) in
     let k = length-map (rows n 4 ps) (take d) ∙ length_rows n 4 ps in
     let q : v.0 < 256 = omega (arith, b, k, h) in q
 
-pub in_room_lem : (m : FoundVertex) (v : VertexId) → m ≡ AtVertex v → VertexInRoom m → v.0 < 256
+pub in_room_lem : (m : Option VertexId) (v : VertexId) → m ≡ Some v → VertexInRoom m → v.0 < 256
 in_room_lem m v e h = subst VertexInRoom e h
 
 points_back : (t : Table) → Good desk t → points_in t.dimension (length t.points) (points_of desk t) ≡ t.points
@@ -150,7 +142,7 @@ point_short t g q s =
     let d = t.dimension in
     le_trans (le_of_eq (eq_test (length q) d (and_left (eqb (length q) d) (all (within farthest) q) s))) (le_test d 4 g.high)
 
-pub vertex_added : {cs : List ℕ} {ps : List Float} {es : List ℕ} {p : List Float} {m : FoundVertex} {r : Placed} {cs' : List ℕ} {ps' : List Float} {es' : List ℕ} (d n : ℕ) → d ≡ get_or cs 0 0 → n ≡ get_or cs 2 0
+pub vertex_added : {cs : List ℕ} {ps : List Float} {es : List ℕ} {p : List Float} {m : Option VertexId} {r : Reply ElementId} {cs' : List ℕ} {ps' : List Float} {es' : List ℕ} (d n : ℕ) → d ≡ get_or cs 0 0 → n ≡ get_or cs 2 0
     → vertex_number m ≡ find (λ q. point_matches q (take d p)) (points_in d n ps) → VertexShared cs ps es p m r cs' ps' es' → VertexAdded cs ps es p r cs' ps' es'
 unfolding add_vertex vertex_outcome
 vertex_added {cs} {ps} {es} {p} {m} {r} {cs'} {ps'} {es'} d n hd hn f S = record {
@@ -162,5 +154,5 @@ vertex_added {cs} {ps} {es} {p} {m} {r} {cs'} {ps'} {es'} d n hd hn f S = record
       let o : vertex_number m ≡ find (λ x. point_matches x q) t.points =
       f ∙ (λ i. find (λ x. point_matches x (take (j i) (e i))) (points_in (j i) (k i) (H.points i)))
       ∙ ap₂ (λ (y : List Float) (xs : List (List Float)). find (λ x. point_matches x y) xs) (point_back desk readable_desk t.dimension q s) (points_back t g) in
-      subst (λ (x : Option ℕ). Came placed_at placed.Refused (Holds desk cs' ps' hs es') t (share_vertex desk q x t) r) o (S.of hs t q H e (point_short t g q s)));
+      subst (λ (x : Option ℕ). Came placed_at Err (Holds desk cs' ps' hs es') t (share_vertex desk q x t) r) o (S.of hs t q H e (point_short t g q s)));
 }

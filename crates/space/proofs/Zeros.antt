@@ -1,13 +1,14 @@
--- Zeros written one by one, and the memory given back.
-use Prim.Native.Nat.{ℕ, zero, suc, ◌+◌, ◌-◌, ◌*◌, ◌≤◌, ◌<◌}
+-- Zeros over a part of a slice, and the memory given back.
+use Prim.Native.Nat.{ℕ, ◌+◌, ◌-◌, ◌*◌, ◌≤◌}
 use mathlib.Core.Path.{◌≡◌, refl, sym, ap, ap₂, ◌∙◌}
-use mathlib.Core.List.{List, ◌∷◌, ◌++◌}
-use native.Mathlib.Nat.{le_of_eq, le_of_lt}
-use native.Mathlib.Numerals.{add-one}
+use mathlib.Core.List.{List, ◌++◌}
+use native.Mathlib.Nat.{le_of_eq}
 use native.Mathlib.Omega.{arith}
-use lib.ListN.{length, get_or, take, drop, set, replicate, length-replicate, get_or-replicate}
-use lib.Seq.{sets, sets-eq, take_all, paste, paste-suc}
+use lib.ListN.{length, get_or, take, drop, set, replicate, length-replicate}
+use lib.Seq.{sets, sets-eq, take_all, paste}
 use lib.Ieee.{Float}
+use borrow.Rule.Slice.PartMut.{put_mid, mid_of, mid_len}
+use Rattle.std.proofs.lemmas.Slice.{put_mid-paste}
 use Rattle.rules.specs.Limits.{desk}
 use Rattle.rules.specs.Table.{element_count}
 use Rattle.rules.specs.Floats.{plus_zero}
@@ -15,6 +16,7 @@ use Rattle.space.proofs.Room.{elements_restored, points_restored, planes_restore
 use Rattle.space.proofs.Slices.{slices}
 use Rattle.space.specs.Restored.{zeros_from, Restored}
 
+-- what stands after a part of a slice is filled
 module _ {A : Type 0} (z : A) (l : List A) (at : ℕ) where
   zeros : (j : ℕ) → at + j ≤ length l → sets l at (replicate j z) ≡ paste l at (replicate j z) j
   zeros j h =
@@ -22,22 +24,11 @@ module _ {A : Type 0} (z : A) (l : List A) (at : ℕ) where
       sets-eq (replicate j z) l at (let q : at + length (replicate j z) ≤ length l = omega (arith, e, h) in q)
       ∙ ap₂ (λ (r : List A) (n : ℕ). take at l ++ r ++ drop (at + n) l) (sym (take_all j (replicate j z) (le_of_eq e))) e
 
-  take_replicate : (j n : ℕ) → j ≤ n → take j (replicate n z) ≡ replicate j z
-  take_replicate zero n h = refl
-  take_replicate (suc j) zero h = absurd (let q : ⊥ = omega arith in q)
-  take_replicate (suc j) (suc n) h = ap (λ (r : List A). z ∷ r) (take_replicate j n (let q : j ≤ n = omega arith in q))
-
-  pub zeros_more : (j : ℕ) → at + j < length l → set (sets l at (replicate j z)) (at + j) z ≡ sets l at (replicate (j + 1) z)
-  zeros_more j h =
-      let s = replicate (suc j) z in
-      let n = length-replicate (suc j) z in
-      let front = take_all j (replicate j z) (le_of_eq (length-replicate j z)) ∙ sym (take_replicate j (suc j) (let q : j ≤ suc j = omega arith in q)) in
-      ap (λ (r : List A). set r (at + j) z) (zeros j (le_of_lt h) ∙ ap (λ (r : List A). take at l ++ r ++ drop (at + j) l) front)
-      ∙ ap (set (paste l at s j) (at + j)) (sym (get_or-replicate (suc j) j z z (let q : j < suc j = omega arith in q)))
-      ∙ paste-suc l at s j z h (let q : j < length s = omega (arith, n) in q)
-      ∙ ap (λ (k : ℕ). paste l at s k) (sym (add-one j))
-      ∙ ap (λ (k : ℕ). paste l at (replicate k z) (j + 1)) (sym (add-one j))
-      ∙ sym (zeros (j + 1) (let q : at + (j + 1) ≤ length l = omega arith in q))
+  pub filled : (e : ℕ) (ys : List A) → at ≤ e → e ≤ length l → ys ≡ replicate (length (mid_of at (e - at) l)) z → put_mid at (e - at) l ys ≡ sets l at (replicate (e - at) z)
+  filled e ys h g f =
+      let k = e - at in
+      put_mid-paste at k l ys (replicate k z) k (f ∙ ap (λ (m : ℕ). replicate m z) (mid_len at e l g)) refl (sym (length-replicate k z))
+      ∙ sym (zeros k (let q : at + (e - at) ≤ length l = omega arith in q))
 
 pub restored : {cs : List ℕ} {ps hs : List Float} {es : List ℕ} (e v h ne nv nh : ℕ) {ps' hs' : List Float} {es' : List ℕ}
     → ne ≡ get_or cs 1 0 → nv ≡ get_or cs 2 0 → nh ≡ get_or cs 3 0

@@ -1,6 +1,5 @@
 -- Chains of rows with one key: the index leads from a key to the last row that has it, and from a row to the one before it. Definitions only.
-use Rattle.std.specs.Prelude.{ℕ, zero, suc, ◌+◌, ◌*◌, ◌-◌, ◌%◌, ◌≤◌, ◌<◌, List, ◌≡◌, length, get_or, take, drop, set}
-use Rattle.std.proofs.Math.Option.{Option, none, some}
+use Rattle.std.specs.Prelude.{ℕ, zero, suc, ◌+◌, ◌*◌, ◌-◌, ◌%◌, ◌≤◌, ◌<◌, List, ◌≡◌, length, get_or, take, drop, set, Option, Some, None}
 use Rattle.rules.specs.Limits.{desk}
 use Rattle.space.specs.Numbers.{row_width}
 
@@ -25,8 +24,8 @@ key_of row = (get_or row 4 0 * spread + get_or row 5 0) % keys
 
 -- the row that a number of the index names: one less than it, or none
 abbrev pub number_of : ℕ → Option ℕ
-number_of zero = none
-number_of (suc i) = some i
+number_of zero = None
+number_of (suc i) = Some i
 
 -- x names the last of the first m rows with key k, or none where none of them has it
 pub record Last (es : List ℕ) (m k x : ℕ) : Type 0 where

@@ -1,11 +1,12 @@
 -- Test 7 over the words of the lent memory. Definitions only.
-use Rattle.std.specs.Prelude.{ℕ, zero, suc, ◌+◌, ◌*◌, ◌-◌, ◌<◌, ◌≤◌, ◌≡◌, Bool, true, false, cond, List, [], ◌∷◌, map, eqb, ltb, leb, length, get_or, set, take}
-use Rattle.std.proofs.Math.Option.{none}
+use Rattle.std.specs.Prelude.{ℕ, zero, suc, ◌+◌, ◌*◌, ◌-◌, ◌<◌, ◌≤◌, ◌≡◌, Bool, true, false, cond, List, [], ◌∷◌, map, eqb, ltb, leb, length, get_or, set, take, None}
 use Rattle.rules.specs.Lists.{all, up_to, rises, member, occurrences}
 use Rattle.rules.specs.Table.{Table, polytope, element_count, boundary}
 use Rattle.rules.specs.Limits.{desk}
 use Rattle.rules.specs.Walk.{one_ring}
 use Rattle.space.specs.Numbers.{row_width, element_slice}
+use Rattle.space.specs.declared.closed.Joined.{Joined}
+use Rattle.space.specs.declared.closed.Joined.TheVariants.{Met, Closes, Thrice}
 
 -- the first n entries of a list are numbers within the room, whether in use or not
 pub record Low (list : List ℕ) (n : ℕ) : Type 0 where
@@ -35,7 +36,7 @@ raw_ends es (x ∷ xs) = first_end es x ∷ second_end es x ∷ raw_ends es xs
 
 -- every row of the memory read as an edge: all that test 7 of a face looks at
 unfoldable pub as_edges : List ℕ → Table
-as_edges es = record { dimension = 0; points = []; elements = map (λ x. polytope 1 (first_end es x ∷ second_end es x ∷ []) none false) (up_to desk.elements); planes = [] }
+as_edges es = record { dimension = 0; points = []; elements = map (λ x. polytope 1 (first_end es x ∷ second_end es x ∷ []) None false) (up_to desk.elements); planes = [] }
 
 -- no two of the edges share both ends
 abbrev pub Untwinned : Table → List ℕ → Type 0
@@ -113,23 +114,35 @@ pub record Stamped (s : ℕ) (paths : List ℕ) : Type 0 where
 abbrev pub far_end : ℕ → List ℕ → ℕ → ℕ
 far_end s paths v = cond (ltb (get_or paths v 0) s) v (get_or paths v 0 - s)
 
--- an edge from a to b joins their paths, whose other ends are x and y: how many of the two were met before; 3 where it closes a path, 4 where one is met for the third time
-abbrev pub join_code : ℕ → ℕ → ℕ → ℕ → ℕ
-join_code a b x y = cond (eqb x inside) 4 (cond (eqb y inside) 4 (cond (eqb x b) 3 (cond (eqb x a) 0 1 + cond (eqb y b) 0 1)))
+-- an edge from a to b joins their paths, whose other ends are x and y: how many of the two were met before; or it closes a path, or one is met for the third time
+abbrev pub join_code : ℕ → ℕ → ℕ → ℕ → Joined
+join_code a b x y = cond (eqb x inside) Thrice (cond (eqb y inside) Thrice (cond (eqb x b) Closes (Met (cond (eqb x a) 0 1 + cond (eqb y b) 0 1))))
+
+-- how many of its ends were met before, where it joins paths
+abbrev pub met_before : Joined → ℕ
+met_before (Met n) = n
+met_before Closes = 0
+met_before Thrice = 0
+
+-- of the words before it and those where it joins paths, the words after it
+abbrev pub words_after : Joined → List ℕ → List ℕ → List ℕ
+words_after (Met n) before joining = joining
+words_after Closes before joining = before
+words_after Thrice before joining = before
 
 -- the words after it
 abbrev pub join_words : ℕ → List ℕ → ℕ → ℕ → ℕ → ℕ → List ℕ
 join_words s paths a b x y = set (set (set (set paths a (s + inside)) b (s + inside)) x (s + y)) y (s + x)
 
 -- both as the paths have it
-abbrev pub path_code : ℕ → List ℕ → ℕ → ℕ → ℕ
+abbrev pub path_code : ℕ → List ℕ → ℕ → ℕ → Joined
 path_code s paths a b = join_code a b (far_end s paths a) (far_end s paths b)
 
 abbrev pub path_words : ℕ → List ℕ → ℕ → ℕ → List ℕ
 path_words s paths a b = join_words s paths a b (far_end s paths a) (far_end s paths b)
 
 -- and for edge e of the memory
-unfoldable pub joining : ℕ → List ℕ → List ℕ → ℕ → ℕ
+unfoldable pub joining : ℕ → List ℕ → List ℕ → ℕ → Joined
 joining s es paths e = path_code s paths (first_end es e) (second_end es e)
 
 unfoldable pub joined : ℕ → List ℕ → List ℕ → ℕ → List ℕ
@@ -141,6 +154,11 @@ joined s es paths e = path_words s paths (first_end es e) (second_end es e)
 abbrev pub stamp_room : ℕ
 stamp_room = 1000000
 
+-- a word is put at corner v, where words lie below top
+pub record PutReady (top v word : ℕ) : Type 0 where
+  pub room : v < desk.elements
+  pub bound : word < top
+
 -- corner v is met under a stamp
 pub record MeetReady (v s : ℕ) : Type 0 where
   pub room : v < desk.elements
@@ -150,6 +168,18 @@ pub record MeetReady (v s : ℕ) : Type 0 where
 pub record CornerMet (s : ℕ) (met : List ℕ) (v reply : ℕ) (met' : List ℕ) : Type 0 where
   pub count : reply ≡ is_second s met v
   pub words : met' ≡ meeting s met v
+
+-- corners a and b are met under a stamp, one after the other
+pub record BothReady (a b s : ℕ) : Type 0 where
+  pub first : a < desk.elements
+  pub second : b < desk.elements
+  pub stamp : s < stamp_room
+
+-- how many of them for the second time, and their words
+pub record BothMet (s : ℕ) (met : List ℕ) (a b reply : ℕ) (met' : List ℕ) : Type 0 where
+  pub count : reply ≡ is_second s met a + is_second s (meeting s met a) b
+  pub words : met' ≡ meeting s (meeting s met a) b
+  pub most : reply ≤ 2
 
 -- the path that ends in corner v is followed
 pub record PathReady (s : ℕ) (paths : List ℕ) (v : ℕ) : Type 0 where
@@ -177,36 +207,32 @@ pub record PathsReady (a b s : ℕ) (paths : List ℕ) : Type 0 where
   pub stamped : Stamped s paths
 
 -- it joins paths; nothing is written where it joins none
-pub record PathsJoined (s : ℕ) (paths : List ℕ) (a b reply : ℕ) (paths' : List ℕ) : Type 0 where
+pub record PathsJoined (s : ℕ) (paths : List ℕ) (a b : ℕ) (reply : Joined) (paths' : List ℕ) : Type 0 where
   pub code : reply ≡ path_code s paths a b
-  pub words : reply < 3 → paths' ≡ path_words s paths a b
-  pub kept : 3 ≤ reply → paths' ≡ paths
-  pub most : reply ≤ 4
+  pub words : paths' ≡ words_after reply paths (path_words s paths a b)
+  pub most : met_before reply ≤ 2
 
 -- and the same of edge e of the memory
 pub record JoinEndsReady (es : List ℕ) (e s : ℕ) (paths : List ℕ) : Type 0 where
   pub edge : EdgeReady es e s
   pub stamped : Stamped s paths
 
-pub record EndsJoined (s : ℕ) (es paths : List ℕ) (e reply : ℕ) (paths' : List ℕ) : Type 0 where
+pub record EndsJoined (s : ℕ) (es paths : List ℕ) (e : ℕ) (reply : Joined) (paths' : List ℕ) : Type 0 where
   pub code : reply ≡ joining s es paths e
-  pub words : reply < 3 → paths' ≡ joined s es paths e
-  pub kept : 3 ≤ reply → paths' ≡ paths
-  pub most : reply ≤ 4
+  pub words : paths' ≡ words_after reply paths (joined s es paths e)
+  pub most : met_before reply ≤ 2
 
--- the first n numbers of a list are the edges of a face
-pub record FaceReady (es list : List ℕ) (n : ℕ) : Type 0 where
+-- the numbers of a list are the edges of a face
+pub record FaceReady (es list : List ℕ) : Type 0 where
   pub elements : length es ≡ element_slice
-  pub long : n ≤ length list
-  pub size : n ≤ suc desk.boundary
-  pub low : Low list n
-  pub ends : LowEnds es list n
+  pub size : length list ≤ suc desk.boundary
+  pub low : Low list (length list)
+  pub ends : LowEnds es list (length list)
 
 -- and the boundary of an element of any rank
-pub record BoundaryReady (cs es : List ℕ) (r : ℕ) (list : List ℕ) (n : ℕ) : Type 0 where
+pub record BoundaryReady (cs es : List ℕ) (r : ℕ) (list : List ℕ) : Type 0 where
   pub counts : length cs ≡ 4
   pub elements : length es ≡ element_slice
-  pub long : n ≤ length list
-  pub size : n ≤ suc desk.boundary
-  pub low : Low list n
-  pub ends : r ≡ 2 → LowEnds es list n
+  pub size : length list ≤ suc desk.boundary
+  pub low : Low list (length list)
+  pub ends : r ≡ 2 → LowEnds es list (length list)

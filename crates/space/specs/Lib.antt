@@ -2,6 +2,7 @@
 pub mod Chains
 pub mod Closed
 pub mod Found
+pub mod Lent
 pub mod Numbers
 pub mod Ready
 pub mod Restored

@@ -1,12 +1,12 @@
 -- What a function asks of its caller: one record for each that asks more than one thing. Definitions only.
 -- A slice's field is its length; `room` says that no more entries are in use than there is room for.
-use Rattle.std.specs.Prelude.{ℕ, ◌+◌, ◌≤◌, ◌<◌, ◌≡◌, List, length, get_or, Float}
+use Rattle.std.specs.Prelude.{ℕ, ◌+◌, ◌≤◌, ◌<◌, ◌≡◌, List, length, get_or, Float, Option}
 use Rattle.rules.specs.Limits.{desk}
-use Rattle.hypermath.specs.declared.FoundVertex.{FoundVertex}
 use Rattle.space.specs.Numbers.{row_width, point_slice, plane_slice, element_slice}
 use Rattle.space.specs.Chains.{keys, Indexed}
 use Rattle.space.specs.Closed.{Low, LowEnds}
 use Rattle.space.specs.Shared.{VertexInRoom}
+use Rattle.rules.specs.declared.VertexId.{VertexId}
 
 -- ---- rows
 
@@ -26,10 +26,9 @@ pub record PutRowReady (es : List ℕ) (at : ℕ) (w : List ℕ) : Type 0 where
   pub place : at + row_width ≤ length es
   pub row : length w ≡ row_width
 
--- a row made, whose boundary is the first n numbers of a set's words
-pub record PolytopeRowReady (set : List ℕ) (n r : ℕ) : Type 0 where
-  pub words : length set ≡ desk.boundary + 2
-  pub size : n ≤ desk.boundary
+-- a row made, with a list as its boundary
+pub record PolytopeRowReady (list : List ℕ) (r : ℕ) : Type 0 where
+  pub size : length list ≤ desk.boundary
   pub rank : r < 65536
 
 -- a row of the elements compared with one of some words
@@ -74,7 +73,7 @@ pub record PointReady (ps : List Float) (v : ℕ) : Type 0 where
   pub room : v < desk.vertices
 
 -- a vertex shared, once it is searched for
-pub record ShareReady (cs : List ℕ) (ps : List Float) (es ix : List ℕ) (m : FoundVertex) : Type 0 where
+pub record ShareReady (cs : List ℕ) (ps : List Float) (es ix : List ℕ) (m : Option VertexId) : Type 0 where
   pub counts : length cs ≡ 4
   pub points : length ps ≡ point_slice
   pub elements : length es ≡ element_slice
@@ -107,16 +106,15 @@ pub record HyperplaneReady (cs : List ℕ) (hs : List Float) : Type 0 where
 
 -- ---- polytopes
 
--- a polytope added, whose boundary is the first n numbers of a set's words
-pub record PolytopeReady (cs es ix : List ℕ) (r : ℕ) (set : List ℕ) (n : ℕ) : Type 0 where
+-- a polytope added, with a list as its boundary
+pub record PolytopeReady (cs es ix : List ℕ) (r : ℕ) (list : List ℕ) : Type 0 where
   pub counts : length cs ≡ 4
   pub elements : length es ≡ element_slice
   pub room : get_or cs 1 0 ≤ desk.elements
-  pub words : length set ≡ desk.boundary + 2
-  pub size : n ≤ desk.boundary + 1
+  pub size : length list ≤ desk.boundary + 1
   pub rank : r < 65536
-  pub low : Low set n
-  pub edges : r ≡ 2 → LowEnds es set n
+  pub low : Low list (length list)
+  pub edges : r ≡ 2 → LowEnds es list (length list)
   pub index : Indexed es (get_or cs 1 0) ix
 
 -- ---- all memory

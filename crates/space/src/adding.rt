@@ -2,10 +2,10 @@
 ghost use Rattle.space.specs.Found.{RowIndexed, RowAppended};
 ghost use Rattle.space.specs.Ready.{AppendReady, AddRowReady};
 
-use crate::chains::{FoundElement, find_row, join, key_of};
-use crate::rows::{Placed, put_row};
+use crate::chains::{find_row, join, key_of};
+use crate::rows::put_row;
 use crate::words::{ELEMENTS, WIDTH, wide};
-use rules::ElementId;
+use rules::{ElementId, Refusal, Reply};
 
 // The row stored behind the last, and at the start of its chain.
 fn append_row(counts: &mut [u16], elements: &mut [u16], index: &mut [u16], row: &[u16], n: usize)
@@ -19,20 +19,22 @@ fn append_row(counts: &mut [u16], elements: &mut [u16], index: &mut [u16], row: 
 }
 
 // The element of an equal row, which is there already; or the row appended (9).
-pub fn add_row(counts: &mut [u16], elements: &mut [u16], index: &mut [u16], row: &[u16]) -> Placed
+pub fn add_row(
+    counts: &mut [u16],
+    elements: &mut [u16],
+    index: &mut [u16],
+    row: &[u16],
+) -> Reply<ElementId>
     requires { AddRowReady counts.old elements.old index.old row.now }
     ensures { RowIndexed counts.old elements.old row.now result counts.new elements.new index.new }
 {
     let n = wide(counts[1]);
-    let found = find_row(elements, n, row, 0, index);
-    match found {
-        FoundElement::At(i) => Placed::At(i),
-        FoundElement::None => {
-            if ELEMENTS <= n {
-                return Placed::Refused(9);
-            }
-            append_row(counts, elements, index, row, n);
-            Placed::At(ElementId(n))
-        }
+    if let Some(i) = find_row(elements, n, row, 0, index) {
+        return Ok(i);
     }
+    if ELEMENTS <= n {
+        return Err(Refusal::ElementsFull);
+    }
+    append_row(counts, elements, index, row, n);
+    Ok(ElementId(n))
 }

@@ -2,7 +2,7 @@
 // Numbers in it are one more than a row's, so that 0 is the end of a chain. It is no part of the table: it lasts for one call.
 ghost use Rattle.std.specs.Prelude.{◌+◌, ◌≤◌, ◌≡◌, eqb, length, take, drop};
 ghost use Rattle.rules.specs.Lists.{alike, find, rows};
-ghost use Rattle.space.specs.Chains.{key_of, keys, number_of, new_start};
+ghost use Rattle.space.specs.Chains.{key_of, keys, new_start};
 ghost use Rattle.space.specs.Found.{element_number};
 ghost use Rattle.space.specs.Numbers.{row_width, NumberBelow};
 ghost use Rattle.space.specs.Ready.{SearchReady, SameRowReady, JoinReady};
@@ -18,13 +18,6 @@ const SPREAD: usize = 91;
 
 // The words of the index.
 pub const INDEX: usize = KEYS + ELEMENTS;
-
-// The lowest element whose row is the given one, or none.
-#[derive(Clone, Copy)]
-pub enum FoundElement {
-    None,
-    At(ElementId),
-}
 
 // The row's first two boundary numbers, mixed: equal rows share it. A remainder, so that any words are a place in the index.
 pub fn key_of(words: &[u16], at: usize) -> usize
@@ -53,37 +46,27 @@ pub fn same_row(elements: &[u16], at: usize, words: &[u16], from: usize) -> bool
     differ == 0
 }
 
-// Along the chain of the row's key down to its end: the last row met that is equal is the lowest.
-fn last_met(elements: &[u16], n: usize, words: &[u16], from: usize, index: &[u16]) -> usize
-    requires { SearchReady elements.now n words.now from index.now }
-    ensures { number_of result ≡ find (alike eqb (take row_width (drop from words.now))) (rows n row_width elements.now) }
-{
-    let mut met = 0usize;
-    let mut x = wide(index[key_of(words, from)]);
-    while 0 < x {
-        if same_row(elements, (x - 1) * WIDTH, words, from) {
-            met = x;
-        }
-        x = wide(index[KEYS + (x - 1)]);
-    }
-    met
-}
-
+// The lowest element whose row is the given one, or none: along the chain of its key down to the end the last equal row met is the lowest.
 pub fn find_row(
     elements: &[u16],
     n: usize,
     words: &[u16],
     from: usize,
     index: &[u16],
-) -> FoundElement
+) -> Option<ElementId>
     requires { SearchReady elements.now n words.now from index.now }
     ensures { element_number result ≡ find (alike eqb (take row_width (drop from words.now))) (rows n row_width elements.now) }
 {
-    let met = last_met(elements, n, words, from, index);
-    if met == 0 {
-        return FoundElement::None;
+    let mut met = None;
+    let mut x = wide(index[key_of(words, from)]);
+    // an index is no list to go over: each number leads to the next
+    while 0 < x {
+        if same_row(elements, (x - 1) * WIDTH, words, from) {
+            met = Some(ElementId(x - 1));
+        }
+        x = wide(index[KEYS + (x - 1)]);
     }
-    FoundElement::At(ElementId(met - 1))
+    met
 }
 
 // Row n is the new start of its key's chain.

@@ -4,7 +4,9 @@
 mod adding;
 pub mod chains;
 pub mod closed;
+pub mod corner_words;
 pub mod memo;
+pub mod memory;
 pub mod restore;
 pub mod rows;
 pub mod words;

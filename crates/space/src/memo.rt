@@ -1,5 +1,5 @@
 // What is found again, and what is new: a vertex with its element, a hyperplane, and a polytope.
-ghost use Rattle.std.specs.Prelude.{◌+◌, ◌<◌, ◌≤◌, ◌≡◌, length, take};
+ghost use Rattle.std.specs.Prelude.{◌+◌, ◌<◌, ◌≤◌, ◌≡◌, length};
 ghost use Rattle.std.proofs.lemmas.List.Edits.{sets};
 ghost use Rattle.rules.specs.Limits.{desk};
 ghost use Rattle.rules.specs.Memory.{plane_width};
@@ -11,26 +11,9 @@ ghost use Rattle.space.specs.Shared.{stored_point, four, SharedIndexed, VertexIn
 
 use crate::adding::add_row;
 use crate::closed::is_closed;
-use crate::rows::{Placed, polytope_row};
-use crate::words::{
-    AXES, BOUNDARY, HYPERPLANES, NO_PLANE, PLANE_WIDTH, SET, VERTICES, WIDTH, wide,
-};
-use hypermath::{FoundHyperplane, FoundVertex};
-use rules::{ElementOrNone, Hyperplane, HyperplaneId, VertexId};
-
-// What adding a hyperplane gives.
-#[derive(Clone, Copy)]
-pub enum PlacedHyperplane {
-    Refused(u8),
-    At(HyperplaneId),
-}
-
-// What adding a polytope gives.
-#[derive(Clone, Copy)]
-pub enum Added {
-    Refused(u8),
-    Made(ElementOrNone),
-}
+use crate::rows::polytope_row;
+use crate::words::{AXES, BOUNDARY, HYPERPLANES, NO_PLANE, PLANE_WIDTH, VERTICES, WIDTH, wide};
+use rules::{ElementId, Hyperplane, HyperplaneId, Refusal, Reply, VertexId};
 
 pub fn read_point(points: &[f64], v: VertexId) -> [f64; AXES]
     requires { PointReady points.now v.0 }
@@ -56,10 +39,7 @@ pub fn put_point(points: &mut [f64], at: usize, p: [f64; AXES])
     requires { at + desk.dimensions ≤ length points.old }
     ensures { points.new ≡ sets points.old at (four p) }
 {
-    points[at] = p[0];
-    points[at + 1] = p[1];
-    points[at + 2] = p[2];
-    points[at + 3] = p[3];
+    points[at..at + AXES].copy_from_slice(&p);
 }
 
 // The element of a vertex that was found, or a new vertex (8) and its element (9).
@@ -69,20 +49,20 @@ fn share_vertex(
     elements: &mut [u16],
     index: &mut [u16],
     p: [f64; AXES],
-    m: FoundVertex,
-) -> Placed
+    m: Option<VertexId>,
+) -> Reply<ElementId>
     requires { ShareReady counts.old points.old elements.old index.old m }
     ensures { SharedIndexed counts.old points.old elements.old p m result counts.new points.new elements.new index.new }
 {
     match m {
-        FoundVertex::At(v) => {
+        Some(v) => {
             let row = corner_row(v);
             add_row(counts, elements, index, &row)
         }
-        FoundVertex::None => {
+        None => {
             let n = wide(counts[2]);
             if VERTICES <= n {
-                return Placed::Refused(8);
+                return Err(Refusal::VerticesFull);
             }
             put_point(points, n * AXES, p);
             counts[2] = (n + 1) as u16;
@@ -99,7 +79,7 @@ pub fn add_vertex(
     elements: &mut [u16],
     index: &mut [u16],
     p: [f64; AXES],
-) -> Placed
+) -> Reply<ElementId>
     requires { VertexReady counts.old points.old elements.old index.old }
     ensures { VertexIndexed counts.old points.old elements.old p result counts.new points.new elements.new index.new }
 {
@@ -136,11 +116,7 @@ pub fn put_hyperplane(planes: &mut [f64], at: usize, p: [f64; PLANE_WIDTH])
     requires { at + plane_width desk ≤ length planes.old }
     ensures { planes.new ≡ sets planes.old at (five p) }
 {
-    planes[at] = p[0];
-    planes[at + 1] = p[1];
-    planes[at + 2] = p[2];
-    planes[at + 3] = p[3];
-    planes[at + 4] = p[4];
+    planes[at..at + PLANE_WIDTH].copy_from_slice(&p);
 }
 
 // The hyperplane that was found, or a new one (10).
@@ -148,27 +124,25 @@ fn share_hyperplane(
     counts: &mut [u16],
     planes: &mut [f64],
     row: [f64; PLANE_WIDTH],
-    m: FoundHyperplane,
-) -> PlacedHyperplane
+    m: Option<HyperplaneId>,
+) -> Reply<HyperplaneId>
     requires { ShareHyperplaneReady counts.old planes.old }
     ensures { HyperplaneShared counts.old planes.old row m result counts.new planes.new }
 {
-    match m {
-        FoundHyperplane::At(k) => PlacedHyperplane::At(k),
-        FoundHyperplane::None => {
-            let n = wide(counts[3]);
-            if HYPERPLANES <= n {
-                return PlacedHyperplane::Refused(10);
-            }
-            put_hyperplane(planes, n * PLANE_WIDTH, row);
-            counts[3] = (n + 1) as u16;
-            PlacedHyperplane::At(HyperplaneId(n))
-        }
+    if let Some(k) = m {
+        return Ok(k);
     }
+    let n = wide(counts[3]);
+    if HYPERPLANES <= n {
+        return Err(Refusal::HyperplanesFull);
+    }
+    put_hyperplane(planes, n * PLANE_WIDTH, row);
+    counts[3] = (n + 1) as u16;
+    Ok(HyperplaneId(n))
 }
 
 // The lowest hyperplane that matches, or a new one; the cube's own are never matched.
-pub fn add_hyperplane(counts: &mut [u16], planes: &mut [f64], h: Hyperplane) -> PlacedHyperplane
+pub fn add_hyperplane(counts: &mut [u16], planes: &mut [f64], h: Hyperplane) -> Reply<HyperplaneId>
     requires { HyperplaneReady counts.old planes.old }
     ensures { HyperplaneAdded counts.old planes.old h result counts.new planes.new }
 {
@@ -186,27 +160,24 @@ pub fn add_polytope(
     elements: &mut [u16],
     index: &mut [u16],
     rank: usize,
-    list: &[u16; SET],
-    n: usize,
+    list: &[u16],
     plane: u16,
     mark: bool,
-) -> Added
-    requires { PolytopeReady counts.old elements.old index.old rank list.now n }
-    ensures { PolytopeIndexed counts.old elements.old rank (take n list.now) plane mark result counts.new elements.new index.new }
+) -> Reply<Option<ElementId>>
+    requires { PolytopeReady counts.old elements.old index.old rank list.now }
+    ensures { PolytopeIndexed counts.old elements.old rank list.now plane mark result counts.new elements.new index.new }
 {
+    let n = list.len();
     if n <= rank {
-        return Added::Made(ElementOrNone::None);
+        return Ok(None);
     }
     if BOUNDARY < n {
-        return Added::Refused(11);
+        return Err(Refusal::BoundaryFull);
     }
-    if !is_closed(counts, elements, rank, list, n) {
-        return Added::Refused(7);
+    if !is_closed(counts, elements, rank, list) {
+        return Err(Refusal::NotClosed);
     }
-    let row = polytope_row(rank, list, n, plane, mark);
-    let placed = add_row(counts, elements, index, &row);
-    match placed {
-        Placed::Refused(no) => Added::Refused(no),
-        Placed::At(e) => Added::Made(ElementOrNone::Some(e)),
-    }
+    let row = polytope_row(rank, list, plane, mark);
+    let e = add_row(counts, elements, index, &row)?;
+    Ok(Some(e))
 }

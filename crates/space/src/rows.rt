@@ -1,5 +1,5 @@
 // Rows of elements in the lent memory: read, written, and made.
-ghost use Rattle.std.specs.Prelude.{◌+◌, ◌*◌, cond, ◌≡◌, eqb, get_or, take};
+ghost use Rattle.std.specs.Prelude.{◌+◌, ◌*◌, ◌≡◌, eqb, get_or};
 ghost use Rattle.std.proofs.lemmas.List.Edits.{sets};
 ghost use Rattle.rules.specs.Limits.{desk};
 ghost use Rattle.rules.specs.Table.{polytope};
@@ -8,15 +8,8 @@ ghost use Rattle.rules.specs.Held.{element_words};
 ghost use Rattle.space.specs.Numbers.{row_width};
 ghost use Rattle.space.specs.Ready.{ElementReady, BoundaryAtReady, PutRowReady, PolytopeRowReady};
 
-use crate::words::{SET, WIDTH, wide};
+use crate::words::{WIDTH, wide};
 use rules::ElementId;
-
-// What adding an element gives.
-#[derive(Clone, Copy)]
-pub enum Placed {
-    Refused(u8),
-    At(ElementId),
-}
 
 pub fn rank_of(elements: &[u16], e: ElementId) -> usize
     requires { ElementReady elements.now e.0 }
@@ -64,35 +57,20 @@ pub fn put_row(elements: &mut [u16], at: usize, row: &[u16])
     requires { PutRowReady elements.old at row.now }
     ensures { elements.new ≡ sets elements.old at row.now }
 {
-    for j in 0..WIDTH {
-        elements[at + j] = row[j];
-    }
+    elements[at..at + WIDTH].copy_from_slice(row);
 }
 
-fn bit(mark: bool) -> u16
-    ensures { result ≡ cond mark 1 0 }
+// A boundary has place in a row: rule 8 refuses a longer one before.
+pub fn polytope_row(rank: usize, list: &[u16], plane: u16, mark: bool) -> [u16; WIDTH]
+    requires { PolytopeRowReady list.now rank }
+    ensures { result ≡ element_words desk (polytope rank list.now (plane_named plane) mark) }
 {
-    if mark { 1 } else { 0 }
-}
-
-// The boundary is the front of a set's words, which have place for one more than a row: rule 8 refuses a full set before.
-pub fn polytope_row(
-    rank: usize,
-    list: &[u16; SET],
-    n: usize,
-    plane: u16,
-    mark: bool,
-) -> [u16; WIDTH]
-    requires { PolytopeRowReady list.now n rank }
-    ensures { result ≡ element_words desk (polytope rank (take n list.now) (plane_named plane) mark) }
-{
+    let n = list.len();
     let mut row = [0u16; WIDTH];
     row[0] = rank as u16;
-    row[1] = bit(mark);
+    row[1] = u16::from(mark);
     row[2] = plane;
     row[3] = n as u16;
-    for j in 0..n {
-        row[4 + j] = list[j];
-    }
+    row[4..4 + n].copy_from_slice(list);
     row
 }

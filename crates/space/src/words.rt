@@ -2,8 +2,10 @@
 ghost use Rattle.std.specs.Prelude.{◌≡◌};
 ghost use Rattle.rules.specs.Limits.{desk};
 ghost use Rattle.rules.specs.Memory.{right_size};
-ghost use Rattle.rules.specs.Held.{memory_of};
 ghost use Rattle.space.specs.Numbers.{NumberBelow};
+ghost use Rattle.space.specs.Lent.{lent};
+
+use crate::memory::Memory;
 
 // Room for so many vertices, elements and hyperplanes.
 pub const VERTICES: usize = 256;
@@ -15,10 +17,8 @@ pub const HYPERPLANES: usize = 64;
 // And for so many numbers in a boundary.
 pub const BOUNDARY: usize = 32;
 
-// The words of a set of numbers: places for one more than a boundary, so that rule 8 can refuse, and behind them how many are in use.
-pub const SET: usize = 34;
-
-pub const SIZE: usize = 33;
+// The places of a set of numbers: one more than a boundary has, so that rule 8 can refuse.
+pub const SET: usize = 33;
 
 // The dimension, and how many elements, vertices and hyperplanes are in use.
 pub const COUNTS: usize = 4;
@@ -41,25 +41,25 @@ pub const ELEMENT_WORDS: usize = 18432;
 // What an element that names no hyperplane has in its place.
 pub const NO_PLANE: u16 = 65535;
 
-// A word as a number to count and index with.
+// A word as a number to count and index with; a function of its own, whose contract gives proofs the bound of a word.
 pub fn wide(x: u16) -> usize
     ensures { NumberBelow result x 65536 }
 {
-    x as usize
+    usize::from(x)
 }
 
 // Whether the four slices are the room of a table.
-pub fn right_size(counts: &[u16], points: &[f64], planes: &[f64], elements: &[u16]) -> bool
-    ensures { result ≡ right_size desk (memory_of counts.now points.now planes.now elements.now) }
+pub fn right_size(memory: Memory) -> bool
+    ensures { result ≡ right_size desk (lent memory.entry) }
 {
-    if counts.len() != COUNTS {
-        return false;
-    }
-    if points.len() != POINT_FLOATS {
-        return false;
-    }
-    if planes.len() != PLANE_FLOATS {
-        return false;
-    }
-    elements.len() == ELEMENT_WORDS
+    let Memory {
+        counts,
+        points,
+        planes,
+        elements,
+    } = memory;
+    counts.len() == COUNTS
+        && points.len() == POINT_FLOATS
+        && planes.len() == PLANE_FLOATS
+        && elements.len() == ELEMENT_WORDS
 }

@@ -1,135 +1,75 @@
-// A loop for each table of cases, and what is done and printed for each.
-ghost use Rattle.std.specs.Prelude.{◌+◌, ◌≤◌, length};
-
-use crate::{memory, print};
+// The cases of each table, and what is done and printed for each.
+use crate::memory::{Lengths, Memory, Run};
+use crate::table::Base;
+use crate::word::sum;
 use hypermath::patterns::float_of;
+use rules::Reply;
 use std::io;
 
-// How many words a case has: its name, what memory holds, the lengths lent, and a cube's dimension and radius.
-const SOUND_WIDTH: usize = 3;
-
-const CUBE_WIDTH: usize = 5;
-
-pub fn all(
-    rt: &HostRuntime,
-    sound: &[u64],
-    cubes: &[u64],
-    runs: &[u64],
-    names: &[u8],
-    counts: &mut [u16],
-    points: &mut [f64],
-    planes: &mut [f64],
-    elements: &mut [u16],
-) -> io::Result<()> {
-    sound_cases(rt, sound, runs, names, counts, points, planes, elements)?;
-    cube_cases(rt, cubes, runs, names, counts, points, planes, elements)
+pub trait Case {
+    // The case's line, after what is done for it in the memory.
+    fn print(&self, rt: &HostRuntime, memory: &mut Memory) -> io::Result<()>;
 }
 
-fn sound_cases(
-    rt: &HostRuntime,
-    words: &[u64],
-    runs: &[u64],
-    names: &[u8],
-    counts: &mut [u16],
-    points: &mut [f64],
-    planes: &mut [f64],
-    elements: &mut [u16],
-) -> io::Result<()> {
-    for i in 0..words.len() / SOUND_WIDTH {
-        sound_case(
-            rt,
-            words,
-            i * SOUND_WIDTH,
-            runs,
-            names,
-            counts,
-            points,
-            planes,
-            elements,
-        )?;
+pub fn print_all<C: Case>(rt: &HostRuntime, cases: &[C], memory: &mut Memory) -> io::Result<()> {
+    for case in cases {
+        case.print(rt, memory)?;
     }
     Ok(())
 }
 
-fn cube_cases(
-    rt: &HostRuntime,
-    words: &[u64],
-    runs: &[u64],
-    names: &[u8],
-    counts: &mut [u16],
-    points: &mut [f64],
-    planes: &mut [f64],
-    elements: &mut [u16],
-) -> io::Result<()> {
-    for i in 0..words.len() / CUBE_WIDTH {
-        cube_case(
-            rt,
-            words,
-            i * CUBE_WIDTH,
-            runs,
-            names,
-            counts,
-            points,
-            planes,
-            elements,
-        )?;
+// The number of a reply.
+fn number(reply: Reply<()>) -> u8 {
+    match reply {
+        Ok(()) => 0,
+        Err(refusal) => u8::from(refusal),
     }
-    Ok(())
 }
 
-// A memory: whether it is sound.
-fn sound_case(
-    rt: &HostRuntime,
-    words: &[u64],
-    at: usize,
-    runs: &[u64],
-    names: &[u8],
-    counts: &mut [u16],
-    points: &mut [f64],
-    planes: &mut [f64],
-    elements: &mut [u16],
-) -> io::Result<()>
-    requires { at + 3 ≤ length words.now }
-{
-    let held = words[at + 1];
-    let lengths = words[at + 2];
-    print::name(rt, b"sound ", names, words[at])?;
-    memory::prepare(held, runs, counts, points, planes, elements);
-    print::reply(
-        rt,
-        memory::soundness_of(lengths, counts, points, planes, elements),
-    )?;
-    print::line_end(rt)
+// What memory holds, and the lengths lent.
+pub struct SoundCase {
+    pub name: &'static str,
+    pub base: Base,
+    pub runs: &'static [Run],
+    pub lengths: Lengths,
 }
 
-// A cube put over a memory: the reply, whether what is there then is sound, and a sum of each slice.
-fn cube_case(
-    rt: &HostRuntime,
-    words: &[u64],
-    at: usize,
-    runs: &[u64],
-    names: &[u8],
-    counts: &mut [u16],
-    points: &mut [f64],
-    planes: &mut [f64],
-    elements: &mut [u16],
-) -> io::Result<()>
-    requires { at + 5 ≤ length words.now }
-{
-    let held = words[at + 1];
-    let lengths = words[at + 2];
-    let dimension = words[at + 3];
-    let radius = float_of(words[at + 4]);
-    print::name(rt, b"cube ", names, words[at])?;
-    memory::prepare(held, runs, counts, points, planes, elements);
-    print::reply(
-        rt,
-        memory::put_cube(lengths, dimension, radius, counts, points, planes, elements),
-    )?;
-    print::reply(
-        rt,
-        memory::soundness_of(lengths, counts, points, planes, elements),
-    )?;
-    print::sums(rt, counts, points, planes, elements)?;
-    print::line_end(rt)
+impl Case for SoundCase {
+    // Whether it is sound.
+    fn print(&self, rt: &HostRuntime, memory: &mut Memory) -> io::Result<()> {
+        memory.hold(self.base.held());
+        memory.put_all(self.runs);
+        println!(rt;
+            "sound {} {}",
+            self.name,
+            number(memory.soundness(self.lengths))
+        )
+    }
+}
+
+// What memory holds, the lengths lent, and the pattern of a radius.
+pub struct CubeCase {
+    pub name: &'static str,
+    pub base: Base,
+    pub lengths: Lengths,
+    pub dimension: u64,
+    pub radius: u64,
+}
+
+impl Case for CubeCase {
+    // A cube put over the memory: the reply, whether what is there then is sound, and a sum of each slice.
+    fn print(&self, rt: &HostRuntime, memory: &mut Memory) -> io::Result<()> {
+        memory.hold(self.base.held());
+        let reply = memory.put_cube(self.lengths, self.dimension, float_of(self.radius));
+        println!(rt;
+            "cube {} {} {} {:08x} {:08x} {:08x} {:08x}",
+            self.name,
+            number(reply),
+            number(memory.soundness(self.lengths)),
+            sum(&memory.counts),
+            sum(&memory.points),
+            sum(&memory.planes),
+            sum(&memory.elements)
+        )
+    }
 }

@@ -4,26 +4,21 @@
 
 mod cases;
 mod memory;
-mod print;
-mod read;
 mod table;
+mod word;
 
+use memory::Memory;
 use std::io;
-// Each slice has one word more than its room, so that one too long can be lent.
+
 fn main(rt: HostRuntime) -> io::Result<()> {
-    let mut counts = [0u16; 5];
-    let mut points = [0.0; 1025];
-    let mut planes = [0.0; 321];
-    let mut elements = [0u16; 18433];
-    cases::all(
-        &rt,
-        &table::SOUND_CASES,
-        &table::CUBE_CASES,
-        &table::RUNS,
-        &table::NAMES,
-        &mut counts,
-        &mut points,
-        &mut planes,
-        &mut elements,
-    )
+    let mut memory = Memory::new();
+    cases::print_all(&rt, &table::NUMBERS, &mut memory)?;
+    cases::print_all(&rt, &table::CORNERS, &mut memory)?;
+    cases::print_all(&rt, &table::BOUNDARIES, &mut memory)?;
+    cases::print_all(&rt, &table::HYPERPLANES, &mut memory)?;
+    cases::print_all(&rt, &table::UNUSED, &mut memory)?;
+    cases::print_all(&rt, &table::SEVERAL, &mut memory)?;
+    cases::print_all(&rt, &table::SOUND, &mut memory)?;
+    cases::print_all(&rt, &table::LENGTHS, &mut memory)?;
+    cases::print_all(&rt, &table::CUBES, &mut memory)
 }

@@ -19,12 +19,14 @@ use Rattle.space.proofs.Lent.{memory_sound_table}
 use Rattle.space.proofs.Room.{rank_word}
 use Rattle.space.proofs.RowAdds.{readable_desk}
 use Rattle.space.proofs.Slices.{slices}
-use Rattle.soundness.specs.Asked.{refusal}
+use Rattle.soundness.specs.Asked.{roots_asked}
 use Rattle.soundness.proofs.AskedOnce as once
 use Rattle.soundness.proofs.AskedOnce.{table, goes_on}
+use Rattle.rules.specs.Refusals.{Reply}
+use Rattle.std.specs.Prelude.{Ok}
 
 -- n is what the code found
-module _ (cs : List ℕ) (ps hs : List Float) (es : List ℕ) (root n : ℕ) (e : n ≡ refusal (memory_of cs ps hs es) (root ∷ [])) (z : n ≡ 0) where
+module _ (cs : List ℕ) (ps hs : List Float) (es : List ℕ) (root : ℕ) (n : Reply (Unit {0})) (e : n ≡ roots_asked (memory_of cs ps hs es) (root ∷ [])) (z : n ≡ Ok tt) where
   abbrev m : Memory
   m = memory_of cs ps hs es
 

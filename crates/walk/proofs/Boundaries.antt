@@ -1,7 +1,7 @@
 -- The boundary that a row holds is the element's, in a sound table that the memory holds; and what a loop over it leaves:
 -- from i on, the number at i and then those from i + 1 on.
 use Prim.Native.Nat.{ℕ, suc, ◌+◌, ◌*◌, ◌≤◌, ◌<◌}
-use mathlib.Core.Path.{◌≡◌, sym, ap, ◌∙◌, subst}
+use mathlib.Core.Path.{◌≡◌, refl, sym, ap, ◌∙◌, subst}
 use mathlib.Core.List.{List, [], ◌∷◌}
 use native.Mathlib.Nat.{le_trans, le_of_eq}
 use native.Mathlib.Numerals.{add-one}
@@ -49,6 +49,18 @@ module _ (es : List ℕ) (e n : ℕ) (B : BoundaryFits es e) (q : n ≡ get_or e
 
   pub number_low : (i x : ℕ) → i < n → x ≡ get_or es (e * 36 + (4 + i)) 0 → x < 512
   number_low i x h f = le_trans (le_of_eq (ap suc f)) (B.low i (le_trans h (le_of_eq q)))
+
+-- the numbers that are lent of it
+module _ (es : List ℕ) (e : ℕ) (B : BoundaryFits es e) (bs : List ℕ) (s : bs ≡ row_boundary es e) where
+  pub row_long : length bs ≡ get_or es (e * 36 + 3) 0
+  row_long = ap length s ∙ row_size es e (get_or es (e * 36 + 3) 0) B refl
+
+  pub number_at : (i x : ℕ) → i < length bs → x ≡ get_or bs i 0 → x ≡ get_or es (e * 36 + (4 + i)) 0
+  unfolding row_boundary
+  number_at i x h f =
+      f ∙ ap (λ (l : List ℕ). get_or l i 0) s
+      ∙ get_or-take (get_or es (e * 36 + 3) 0) (drop (e * 36 + 4) es) i 0 (le_trans h (le_of_eq row_long)) ∙ get_or-drop (e * 36 + 4) es i 0
+      ∙ ap (λ (k : ℕ). get_or es k 0) (let z : e * 36 + 4 + i ≡ e * 36 + (4 + i) = omega arith in z)
 
 -- ---- the element's own
 

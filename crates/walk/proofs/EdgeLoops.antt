@@ -1,26 +1,45 @@
 -- What is read of one edge, and the searches over the edges of a face: what is left to search gives what the whole gives.
-use Rattle.std.specs.Prelude.{if◌then◌else◌}
-use Prim.Native.Nat.{ℕ, ◌+◌, ◌*◌, ◌≤◌, ◌<◌}
+use Rattle.std.specs.Prelude.{if◌then◌else◌, cond}
+use Rattle.std.specs.Ordering.{is_lt, nat_cmp}
+use Rattle.std.proofs.Common.{Less, Equal, Greater}
+use Prim.Native.Nat.{ℕ, suc, ◌+◌, ◌*◌, ◌≤◌, ◌<◌}
 use mathlib.Core.Path.{◌≡◌, refl, sym, ap, ◌∙◌, subst}
 use mathlib.Core.Bool.{Bool, true, false, not, ◌&&◌, ◌||◌}
 use mathlib.Core.List.{List, [], ◌∷◌}
 use borrow.Author.Tests.{lt-ltb, le-ltb}
+use native.Mathlib.Nat.{le_of_suc-le-suc}
 use lib.Dec.{eqb, ltb}
 use lib.ListN.{get_or, drop}
 use Rattle.rules.specs.Lists.{keep}
 use Rattle.rules.specs.Held.{AllOf}
-use Rattle.rules.proofs.Laws.{if_true, if_false, either, test_eq, not_eq}
+use Rattle.rules.specs.declared.ElementId.{ElementId}
+use Rattle.rules.proofs.Laws.{if_true, if_false, either, test_eq, not_eq, le_test, not_le}
 use Rattle.walk.specs.Boundaries.{row_boundary, BoundaryFits}
 use Rattle.walk.specs.Walks.{low_end, high_end, has_end, end_across, edge_beside, lower, lowest_end, no_edge, lower_way, first_way, EdgeFits, FaceFits}
 use Rattle.walk.proofs.Boundaries.{row_on, row_end}
 
 -- ---- one edge
 
-pub lower_is : (a b : ℕ) → b < a → b ≡ lower a b
-lower_is a b h = sym (if_true (ltb b a) b a (lt-ltb b a h))
+less_is : (a b : ℕ) → is_lt (nat_cmp a b) ≡ ltb a b
+less_is a b = go (ltb a b) (eqb a b)
+  where
+    go : (x y : Bool) → is_lt (cond x Less (cond y Equal Greater)) ≡ x
+    go true y = refl
+    go false true = refl
+    go false false = refl
 
-pub not_lower : (a b : ℕ) → a ≤ b → a ≡ lower a b
-not_lower a b h = sym (if_false (ltb b a) b a (le-ltb b a h))
+pub is_less : (a b : ℕ) → is_lt (nat_cmp a b) ≡ true → a < b
+is_less a b h = le_test (suc a) b (sym (less_is a b) ∙ h)
+
+pub not_less : (a b : ℕ) → is_lt (nat_cmp a b) ≡ false → b ≤ a
+not_less a b h = le_of_suc-le-suc (not_le (suc a) b (sym (less_is a b) ∙ h))
+
+pub min_lower : (a b : ElementId) {r : ElementId} → r ≡ cond (is_lt (nat_cmp b.0 a.0)) b a → r.0 ≡ lower a.0 b.0
+min_lower a b e = ap (λ (x : ElementId). x.0) e ∙ go (is_lt (nat_cmp b.0 a.0)) ∙ ap (λ (c : Bool). if c then b.0 else a.0) (less_is b.0 a.0)
+  where
+    go : (c : Bool) → (cond c b a).0 ≡ (if c then b.0 else a.0)
+    go true = refl
+    go false = refl
 
 module _ (es : List ℕ) (v x a : ℕ) (f : a ≡ low_end es x) where
   pub first_end_lem : v ≡ a → true ≡ has_end es v x
@@ -35,13 +54,6 @@ module _ (es : List ℕ) (v x a : ℕ) (f : a ≡ low_end es x) where
 
   pub across_first : (a ≡ v → ⊥) → a ≡ end_across es v x
   across_first h = f ∙ sym (if_false (eqb (low_end es x) v) (high_end es x) (low_end es x) (not_eq (low_end es x) v (λ k. h (f ∙ k))))
-
-module _ (e x : ℕ) (b : Bool) where
-  pub itself : x ≡ e → false ≡ (not (eqb x e) && b)
-  itself h = sym (ap (λ (c : Bool). not c && b) (test_eq x e h))
-
-  pub another : (c : Bool) → (x ≡ e → ⊥) → c ≡ b → c ≡ (not (eqb x e) && b)
-  another c h g = g ∙ sym (ap (λ (d : Bool). not d && b) (not_eq x e h))
 
 -- ---- searches over a face's edges
 

@@ -13,17 +13,20 @@ use Rattle.rules.specs.Table.{Table, is_primordial, element, element_count, rank
 use Rattle.rules.specs.Held.{Holds, AllOf, Ranked, memory_of}
 use Rattle.rules.specs.Questions.{no_answer, answer, primordial_facet}
 use Rattle.rules.specs.Replies.{facet_answer, primordial_facet_reply}
-use Rattle.rules.specs.declared.FacetReply.TheVariants.{Refused, Has}
 use Rattle.rules.proofs.Good.{Good}
 use Rattle.rules.proofs.Laws.{if_true, if_false, test_eq, not_eq, le_test, mark_back}
 use Rattle.space.proofs.Room.{mark_word}
-use Rattle.soundness.specs.Asked.{refusal}
+use Rattle.soundness.specs.Asked.{roots_asked}
 use Rattle.soundness.proofs.AskedOnce as once
 use Rattle.soundness.proofs.AskedOnce.{table}
 use Rattle.walk.specs.Boundaries.{row_boundary, BoundaryFits}
 use Rattle.walk.specs.Facets.{row_primordial}
 use Rattle.walk.proofs.Asking as ask
 use Rattle.walk.proofs.Boundaries.{row_on, row_end, bounds, boundary_fits, boundary_is}
+use Rattle.rules.specs.declared.Refusal.TheVariants.{Rank}
+use Rattle.std.specs.Prelude.{Ok, Err}
+use Rattle.rules.specs.Refusals.{Reply}
+use Rattle.rules.specs.declared.Refusal.{Refusal}
 
 -- ---- a search for one of which p holds
 
@@ -52,15 +55,15 @@ marks_are {es = es} {t} q H (x ∷ xs) h =
     || marks_are q H xs h.1 i)
 
 -- n is what the code found
-module _ (root : ℕ) (cs : List ℕ) (ps hs : List Float) (es : List ℕ) (n : ℕ) (e : n ≡ refusal (memory_of cs ps hs es) (root ∷ [])) where
+module _ (root : ℕ) (cs : List ℕ) (ps hs : List Float) (es : List ℕ) (n : Reply (Unit {0})) (e : n ≡ roots_asked (memory_of cs ps hs es) (root ∷ [])) where
   abbrev t : Table
   t = table cs ps hs es
 
-  pub refused : (n ≡ 0 → ⊥) → Refused n ≡ primordial_facet_reply desk (memory_of cs ps hs es) root
+  pub refused : (x : Refusal) → n ≡ Err x → Err x ≡ primordial_facet_reply desk (memory_of cs ps hs es) root
   unfolding primordial_facet_reply
-  refused z = ap facet_answer (once.refused cs ps hs es (root ∷ []) n e (primordial_facet t root) z)
+  refused x z = ap facet_answer (once.refused cs ps hs es (root ∷ []) n e (primordial_facet t root) x z)
 
-  module _ (z : n ≡ 0) where
+  module _ (z : n ≡ Ok tt) where
     H : Holds desk cs ps hs es t
     H = ask.holds cs ps hs es root n e z
 
@@ -81,10 +84,10 @@ module _ (root : ℕ) (cs : List ℕ) (ps hs : List Float) (es : List ℕ) (n : 
       dimension_is : d ≡ t.dimension
       dimension_is = ed ∙ ask.dimension_is cs ps hs es root n e z
 
-      pub another_rank : (r ≡ d → ⊥) → Refused 6 ≡ primordial_facet_reply desk (memory_of cs ps hs es) root
+      pub another_rank : (r ≡ d → ⊥) → Err Rank ≡ primordial_facet_reply desk (memory_of cs ps hs es) root
       unfolding primordial_facet
       another_rank w =
-          ap facet_answer (sym (if_false (eqb (rank t root) t.dimension) (answer (any (λ b. is_primordial (element t b)) (boundary t root))) (no_answer 6)
+          ap facet_answer (sym (if_false (eqb (rank t root) t.dimension) (answer (any (λ b. is_primordial (element t b)) (boundary t root))) (no_answer Rank)
           (not_eq (rank t root) t.dimension (λ y. w (rank_is ∙ y ∙ sym dimension_is))))) ∙ goes
 
       module _ (w : r ≡ d) where
@@ -97,10 +100,10 @@ module _ (root : ℕ) (cs : List ℕ) (ps hs : List Float) (es : List ℕ) (n : 
         pub facets_fit : BoundaryFits es root
         facets_fit = boundary_fits H g root (rank t root - 1) used full
 
-        pub has : (b : Bool) → b ≡ any (row_primordial es) (row_boundary es root) → Has b ≡ primordial_facet_reply desk (memory_of cs ps hs es) root
+        pub has : (b : Bool) → b ≡ any (row_primordial es) (row_boundary es root) → Ok b ≡ primordial_facet_reply desk (memory_of cs ps hs es) root
         unfolding primordial_facet
         has b h =
-            ap Has (h ∙ ap (any (row_primordial es)) (boundary_is H g root (rank t root - 1) used full)
+            ap Ok (h ∙ ap (any (row_primordial es)) (boundary_is H g root (rank t root - 1) used full)
             ∙ marks_are (suc (rank t root - 1)) H (boundary t root) (bounds H g root (rank t root - 1) used full))
-            ∙ ap facet_answer (sym (if_true (eqb (rank t root) t.dimension) (answer (any (λ b. is_primordial (element t b)) (boundary t root))) (no_answer 6)
+            ∙ ap facet_answer (sym (if_true (eqb (rank t root) t.dimension) (answer (any (λ b. is_primordial (element t b)) (boundary t root))) (no_answer Rank)
             (test_eq (rank t root) t.dimension (sym rank_is ∙ w ∙ dimension_is)))) ∙ goes

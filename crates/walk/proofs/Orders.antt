@@ -1,5 +1,5 @@
 -- The reply of the edges in order: of the numbers that the code wrote, and then of the memory, by what was asked.
-use Rattle.std.specs.Prelude.{if◌then◌else◌}
+use Rattle.std.specs.Prelude.{if◌then◌else◌, Ok, Err}
 use Prim.Native.Nat.{ℕ, zero, suc, ◌+◌, ◌*◌, ◌≤◌, ◌<◌}
 use mathlib.Core.Path.{◌≡◌, refl, sym, ap, ap₂, ◌∙◌, subst}
 use mathlib.Core.Bool.{Bool, true, not}
@@ -17,14 +17,12 @@ use Rattle.rules.specs.Held.{Holds, AllOf, memory_of}
 use Rattle.rules.specs.Walk.{walk, first_edge, start_of, around}
 use Rattle.rules.specs.Questions.{Asked, no_answer, answer, pairs, edges_in_order}
 use Rattle.rules.specs.Replies.{listed, in_numbers, edges_in_order_reply}
-use Rattle.rules.specs.declared.ListReply.{ListReply}
-use Rattle.rules.specs.declared.ListReply.TheVariants.{Refused, Listed}
 use Rattle.rules.proofs.WalkSteps.{rising, all_steps}
 use Rattle.rules.proofs.FaceEdges.{start_first, takes_all}
 use Rattle.rules.proofs.Good.{Good, sound_good}
 use Rattle.rules.proofs.Laws.{if_true, if_false, test_eq, not_eq, test_le, test_above}
 use Rattle.rules.proofs.WalkRound.{taken}
-use Rattle.soundness.specs.Asked.{refusal}
+use Rattle.soundness.specs.Asked.{roots_asked}
 use Rattle.soundness.proofs.AskedOnce as once
 use Rattle.soundness.proofs.AskedOnce.{table}
 use Rattle.walk.specs.Boundaries.{row_boundary, BoundaryFits}
@@ -34,6 +32,9 @@ use Rattle.walk.proofs.Boundaries.{row_size, bounds, boundary_fits, boundary_is}
 use Rattle.walk.proofs.Faces.{CornerAt, Met, EdgeAt, edges_at, none_met}
 use Rattle.walk.proofs.Starts.{start_corner, start_is}
 use Rattle.walk.proofs.Walking.{first_is, first_met, walk_is}
+use Rattle.rules.specs.Refusals.{Reply}
+use Rattle.rules.specs.declared.Refusal.TheVariants.{NotClosed, Rank, RoomShort}
+use Rattle.rules.specs.declared.Refusal.{Refusal}
 
 -- ---- 12, or the list written
 
@@ -58,17 +59,17 @@ module _ (es : List ℕ) (f n : ℕ) (room : List ℕ) (B : BoundaryFits es f) (
   size_is = two_each (length xs) es xs (lowest_end es no_edge xs) (first_way es (lowest_end es no_edge xs) xs) ∙ ap (λ (k : ℕ). 2 * k) (row_size es f n B q)
 
   -- the choice between the list and 12
-  abbrev choice : Bool → ListReply × List ℕ
-  choice c = if c then (Listed (length numbers), numbers ++ drop (length numbers) room) else (Refused 12, room)
+  abbrev choice : Bool → Reply ℕ × List ℕ
+  choice c = if c then (Ok (length numbers), numbers ++ drop (length numbers) room) else (Err RoomShort, room)
 
-  pub no_room : length room < 2 * n → (Refused 12, room) ≡ listed (answer numbers) room
+  pub no_room : length room < 2 * n → (Err RoomShort, room) ≡ listed (answer numbers) room
   no_room l = ap choice (sym (test_above (length numbers) (length room) (le_trans l (le_of_eq (sym size_is)))))
 
-  pub list_done : (out : List ℕ) → 2 * n ≤ length room → out ≡ sets room 0 numbers → (Listed (2 * n), out) ≡ listed (answer numbers) room
+  pub list_done : (out : List ℕ) → 2 * n ≤ length room → out ≡ sets room 0 numbers → (Ok (2 * n), out) ≡ listed (answer numbers) room
   list_done out l e =
       let fit : length numbers ≤ length room = le_trans (le_of_eq size_is) l in
       let all_in = sets-eq numbers room 0 (le_trans (le_of_eq (zero-add (length numbers))) fit) in
-      (λ i. (Listed (sym size_is i), (e ∙ all_in ∙ ap (λ (k : ℕ). numbers ++ drop k room) (zero-add (length numbers))) i))
+      (λ i. (Ok (sym size_is i), (e ∙ all_in ∙ ap (λ (k : ℕ). numbers ++ drop k room) (zero-add (length numbers))) i))
       ∙ ap choice (sym (test_le (length numbers) (length room) fit))
 
 -- the walk from the lowest corner by the first edge is the whole
@@ -134,7 +135,7 @@ module _ {cs : List ℕ} {ps hs : List Float} {es : List ℕ} {t : Table} (H : H
   pub order_is : in_numbers (edges_in_order t f) ≡ answer (words_in_order es (row_boundary es f))
   unfolding edges_in_order words_in_order
   order_is =
-      ap in_numbers (if_false (not (eqb (rank t f) 2)) (no_answer 6) _ (ap not (test_eq (rank t f) 2 q)) ∙ if_true _ _ (no_answer 7) (takes_all desk t s f u q))
+      ap in_numbers (if_false (not (eqb (rank t f) 2)) (no_answer Rank) _ (ap not (test_eq (rank t f) 2 q)) ∙ if_true _ _ (no_answer NotClosed) (takes_all desk t s f u q))
       ∙ ap₂ (λ (v : ℕ) (ss : List (ℕ × ℕ)). in_numbers (answer (pairs t v ss))) lowest_is around_is
       ∙ ap answer (walk_is t es (boundary t f) edges none (length (boundary t f)) begin begin first
       (first_met t es (boundary t f) edges none H.fits.element_room (rising desk t s f u q) begin) start_at
@@ -144,18 +145,18 @@ module _ {cs : List ℕ} {ps hs : List Float} {es : List ℕ} {t : Table} (H : H
 -- ---- what was asked, and then the walk
 
 -- n is what the code found
-module _ (root : ℕ) (cs : List ℕ) (ps hs : List Float) (es room : List ℕ) (n : ℕ) (e : n ≡ refusal (memory_of cs ps hs es) (root ∷ [])) where
+module _ (root : ℕ) (cs : List ℕ) (ps hs : List Float) (es room : List ℕ) (n : Reply (Unit {0})) (e : n ≡ roots_asked (memory_of cs ps hs es) (root ∷ [])) where
   abbrev t : Table
   t = table cs ps hs es
 
-  abbrev reply : ListReply × List ℕ
+  abbrev reply : Reply ℕ × List ℕ
   reply = edges_in_order_reply desk (memory_of cs ps hs es) root room
 
-  pub refused : (n ≡ 0 → ⊥) → (Refused n, room) ≡ reply
+  pub refused : (x : Refusal) → n ≡ Err x → (Err x, room) ≡ reply
   unfolding edges_in_order_reply
-  refused z = ap (λ (a : Asked (List ℕ)). listed a room) (once.refused cs ps hs es (root ∷ []) n e (in_numbers (edges_in_order t root)) z)
+  refused x z = ap (λ (a : Asked (List ℕ)). listed a room) (once.refused cs ps hs es (root ∷ []) n e (in_numbers (edges_in_order t root)) x z)
 
-  module _ (z : n ≡ 0) where
+  module _ (z : n ≡ Ok tt) where
     goes : listed (in_numbers (edges_in_order t root)) room ≡ reply
     unfolding edges_in_order_reply
     goes = ap (λ (a : Asked (List ℕ)). listed a room) (once.question_is cs ps hs es (root ∷ []) n e z (in_numbers (edges_in_order t root)))
@@ -164,16 +165,16 @@ module _ (root : ℕ) (cs : List ℕ) (ps hs : List Float) (es room : List ℕ) 
       rank_is : r ≡ rank t root
       rank_is = ask.rank_is cs ps hs es root n e z r er
 
-      pub no_face : (r ≡ 2 → ⊥) → (Refused 6, room) ≡ reply
+      pub no_face : (r ≡ 2 → ⊥) → (Err Rank, room) ≡ reply
       unfolding edges_in_order
       no_face w =
-          ap (λ (a : Asked (List (ℕ × ℕ))). listed (in_numbers a) room) (sym (if_true (not (eqb (rank t root) 2)) (no_answer 6) _ (ap not (not_eq (rank t root) 2 (λ y. w (rank_is ∙ y)))))) ∙ goes
+          ap (λ (a : Asked (List (ℕ × ℕ))). listed (in_numbers a) room) (sym (if_true (not (eqb (rank t root) 2)) (no_answer Rank) _ (ap not (not_eq (rank t root) 2 (λ y. w (rank_is ∙ y)))))) ∙ goes
 
       module _ (w : r ≡ 2) where
         pub face_asked : FaceFits es root
         face_asked = face_fits (ask.holds cs ps hs es root n e z) (ask.table_sound cs ps hs es root n e z) root (ask.in_use_lem cs ps hs es root n e z) (sym rank_is ∙ w)
 
-        pub face_replied : {x : ListReply × List ℕ} → x ≡ listed (answer (words_in_order es (row_boundary es root))) room → x ≡ reply
+        pub face_replied : {x : Reply ℕ × List ℕ} → x ≡ listed (answer (words_in_order es (row_boundary es root))) room → x ≡ reply
         face_replied h =
             h ∙ ap (λ (a : Asked (List ℕ)). listed a room)
             (sym (order_is (ask.holds cs ps hs es root n e z) (ask.table_sound cs ps hs es root n e z) root (ask.in_use_lem cs ps hs es root n e z) (sym rank_is ∙ w))) ∙ goes

@@ -2,13 +2,15 @@
 ghost use Rattle.std.specs.Prelude.{◌≡◌};
 ghost use Rattle.rules.specs.Limits.{desk};
 ghost use Rattle.rules.specs.Lists.{any};
-ghost use Rattle.rules.specs.Held.{memory_of};
 ghost use Rattle.rules.specs.Replies.{primordial_facet_reply};
+ghost use Rattle.space.specs.Lent.{lent};
 ghost use Rattle.walk.specs.Boundaries.{row_boundary, BoundaryFits};
 ghost use Rattle.walk.specs.Facets.{row_primordial};
 
-use rules::{ElementId, FacetReply};
-use soundness::asked::root_refusal;
+use crate::boundary;
+use rules::{ElementId, Refusal, Reply};
+use soundness::asked::root_asked;
+use space::memory::Memory;
 use space::rows;
 use space::words::wide;
 
@@ -17,32 +19,18 @@ fn any_primordial(elements: &[u16], e: ElementId) -> bool
     requires { BoundaryFits elements.now e.0 }
     ensures { result ≡ any (row_primordial elements.now) (row_boundary elements.now e.0) }
 {
-    let n = rows::size_of(elements, e);
-    for i in 0..n {
-        let b = ElementId(wide(rows::boundary_at(elements, e, i)));
-        if rows::is_primordial(elements, b) {
-            return true;
-        }
-    }
-    false
+    boundary(elements, e)
+        .iter()
+        .any(|&b| rows::is_primordial(elements, ElementId(wide(b))))
 }
 
 // 3, 4, and 6 unless the rank is the dimension.
-pub fn has_primordial_facet(
-    counts: &[u16],
-    points: &[f64],
-    planes: &[f64],
-    elements: &[u16],
-    root: ElementId,
-) -> FacetReply
-    ensures { result ≡ primordial_facet_reply desk (memory_of counts.now points.now planes.now elements.now) root.0 }
+pub fn has_primordial_facet(memory: Memory, root: ElementId) -> Reply<bool>
+    ensures { result ≡ primordial_facet_reply desk (lent memory.entry) root.0 }
 {
-    let no = root_refusal(counts, points, planes, elements, root);
-    if no != 0 {
-        return FacetReply::Refused(no);
+    root_asked(memory, root)?;
+    if rows::rank_of(memory.elements, root) != wide(memory.counts[0]) {
+        return Err(Refusal::Rank);
     }
-    if rows::rank_of(elements, root) != wide(counts[0]) {
-        return FacetReply::Refused(6);
-    }
-    FacetReply::Has(any_primordial(elements, root))
+    Ok(any_primordial(memory.elements, root))
 }

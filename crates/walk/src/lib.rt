@@ -6,21 +6,33 @@ pub mod facet;
 ghost use Rattle.std.specs.Prelude.{◌+◌, ◌*◌, ◌≡◌, not, ◌&&◌, eqb, get_or};
 ghost use Rattle.std.proofs.lemmas.List.Edits.{sets};
 ghost use Rattle.rules.specs.Limits.{desk};
-ghost use Rattle.rules.specs.Held.{memory_of};
 ghost use Rattle.rules.specs.Questions.{answer};
 ghost use Rattle.rules.specs.Replies.{listed, edges_in_order_reply};
+ghost use Rattle.space.specs.Lent.{lent};
 ghost use Rattle.space.specs.Ready.{ElementReady};
 ghost use Rattle.walk.specs.Boundaries.{row_boundary, BoundaryFits};
-ghost use Rattle.walk.specs.Walks as words;
 ghost use Rattle.walk.specs.Walks.{has_end, end_across, edge_beside, lowest_end, no_edge, first_way, numbers_round, words_in_order, EndReady, VertexOf, FaceFits, ListFits, WalkFits};
 
-use rules::{ElementId, ListReply, VertexId};
-use soundness::asked::root_refusal;
+use rules::{ElementId, Refusal, Reply, VertexId};
+use soundness::asked::root_asked;
+use space::memory::Memory;
 use space::rows;
-use space::words::wide;
+use space::words::{WIDTH, wide};
 
-// No element has this number.
+// How many words stand before a boundary: rank, mark, hyperplane, count.
+const HEAD: usize = 4;
+
+// No element has this number. A number and no Option: the walk that every answer cites is defined with it.
 const NO_EDGE: usize = 65535;
+
+// The numbers of an element's boundary.
+fn boundary(elements: &[u16], e: ElementId) -> &[u16]
+    requires { BoundaryFits elements.now e.0 }
+    ensures { result.now ≡ row_boundary elements.now e.0 }
+{
+    let at = e.0 * WIDTH + HEAD;
+    &elements[at..at + rows::size_of(elements, e)]
+}
 
 // One of an edge's two ends, which are vertex elements.
 fn end_at(elements: &[u16], e: ElementId, i: usize) -> ElementId
@@ -42,12 +54,7 @@ fn has_end(elements: &[u16], v: ElementId, e: ElementId) -> bool
     requires { ElementReady elements.now e.0 }
     ensures { result ≡ has_end elements.now v.0 e.0 }
 {
-    let a = end_at(elements, e, 0);
-    if v.0 == a.0 {
-        return true;
-    }
-    let b = end_at(elements, e, 1);
-    v.0 == b.0
+    v == end_at(elements, e, 0) || v == end_at(elements, e, 1)
 }
 
 fn end_across(elements: &[u16], v: ElementId, e: ElementId) -> ElementId
@@ -55,7 +62,7 @@ fn end_across(elements: &[u16], v: ElementId, e: ElementId) -> ElementId
     ensures { result.0 ≡ end_across elements.now v.0 e.0 }
 {
     let a = end_at(elements, e, 0);
-    if a.0 == v.0 {
+    if a == v {
         return end_at(elements, e, 1);
     }
     a
@@ -66,20 +73,16 @@ fn is_beside(elements: &[u16], e: ElementId, v: ElementId, x: ElementId) -> bool
     requires { ElementReady elements.now x.0 }
     ensures { result ≡ (not (eqb x.0 e.0) && has_end elements.now v.0 x.0) }
 {
-    if x.0 == e.0 {
-        return false;
-    }
-    has_end(elements, v, x)
+    x != e && has_end(elements, v, x)
 }
 
-// By number and not by the corner it leads to: two edges may share both ends.
+// By number and not by the corner it leads to: two edges may share both ends. Of a sound face there is one; the definition has 0 where there is none.
 fn edge_beside(elements: &[u16], f: ElementId, e: ElementId, v: ElementId) -> ElementId
     requires { BoundaryFits elements.now f.0 }
     ensures { result.0 ≡ edge_beside elements.now e.0 v.0 (row_boundary elements.now f.0) }
 {
-    let n = rows::size_of(elements, f);
-    for i in 0..n {
-        let x = ElementId(wide(rows::boundary_at(elements, f, i)));
+    for &number in boundary(elements, f) {
+        let x = ElementId(wide(number));
         if is_beside(elements, e, v, x) {
             return x;
         }
@@ -87,25 +90,15 @@ fn edge_beside(elements: &[u16], f: ElementId, e: ElementId, v: ElementId) -> El
     ElementId(0)
 }
 
-fn lower(a: ElementId, b: ElementId) -> ElementId
-    ensures { result.0 ≡ words.lower a.0 b.0 }
-{
-    if b.0 < a.0 {
-        return b;
-    }
-    a
-}
-
 // An edge's first end is its lower one.
 fn lowest_end(elements: &[u16], f: ElementId) -> ElementId
     requires { BoundaryFits elements.now f.0 }
     ensures { result.0 ≡ lowest_end elements.now no_edge (row_boundary elements.now f.0) }
 {
-    let n = rows::size_of(elements, f);
     let mut m = ElementId(NO_EDGE);
-    for i in 0..n {
-        let x = ElementId(wide(rows::boundary_at(elements, f, i)));
-        m = lower(m, end_at(elements, x, 0));
+    for &number in boundary(elements, f) {
+        let x = ElementId(wide(number));
+        m = m.min(end_at(elements, x, 0));
     }
     m
 }
@@ -118,7 +111,7 @@ fn first_way(elements: &[u16], f: ElementId, v: ElementId) -> ElementId
     let b = edge_beside(elements, f, a, v);
     let p = end_across(elements, v, a);
     let q = end_across(elements, v, b);
-    if q.0 < p.0 {
+    if q < p {
         return b;
     }
     a
@@ -132,6 +125,7 @@ fn walk_round(elements: &[u16], f: ElementId, start: ElementId, first: ElementId
     let n = rows::size_of(elements, f);
     let mut v = start;
     let mut e = first;
+    // The step is counted, since its two places in the list are twice its number.
     for k in 0..n {
         let w = end_across(elements, v, e);
         let from = vertex_of(elements, v);
@@ -154,35 +148,25 @@ pub fn walk_face(elements: &[u16], f: ElementId, list: &mut [u16])
 }
 
 // 12, and only then is the list written.
-pub fn face_in_order(elements: &[u16], f: ElementId, list: &mut [u16]) -> ListReply
+pub fn face_in_order(elements: &[u16], f: ElementId, list: &mut [u16]) -> Reply<usize>
     requires { FaceFits elements.now f.0 }
     ensures { (result, list.new) ≡ listed (answer (words_in_order elements.now (row_boundary elements.now f.0))) list.old }
 {
     let n = rows::size_of(elements, f);
     if list.len() < 2 * n {
-        return ListReply::Refused(12);
+        return Err(Refusal::RoomShort);
     }
     walk_face(elements, f, list);
-    ListReply::Listed(2 * n)
+    Ok(2 * n)
 }
 
 // 3, 4, 6, and 12 last.
-pub fn edges_in_order(
-    counts: &[u16],
-    points: &[f64],
-    planes: &[f64],
-    elements: &[u16],
-    root: ElementId,
-    list: &mut [u16],
-) -> ListReply
-    ensures { (result, list.new) ≡ edges_in_order_reply desk (memory_of counts.now points.now planes.now elements.now) root.0 list.old }
+pub fn edges_in_order(memory: Memory, root: ElementId, list: &mut [u16]) -> Reply<usize>
+    ensures { (result, list.new) ≡ edges_in_order_reply desk (lent memory.entry) root.0 list.old }
 {
-    let no = root_refusal(counts, points, planes, elements, root);
-    if no != 0 {
-        return ListReply::Refused(no);
+    root_asked(memory, root)?;
+    if rows::rank_of(memory.elements, root) != 2 {
+        return Err(Refusal::Rank);
     }
-    if rows::rank_of(elements, root) != 2 {
-        return ListReply::Refused(6);
-    }
-    face_in_order(elements, root, list)
+    face_in_order(memory.elements, root, list)
 }

@@ -4,6 +4,7 @@ use mathlib.Core.Path.{◌≡◌, refl, sym, ◌∙◌}
 use native.Mathlib.Omega.{arith}
 use mathlib.Core.Bool.{true, false}
 use lib.ListN.{length}
+use lib.Seq.{length-take-le}
 use Rattle.rules.specs.Cube.{digits, is_vertex, is_facet, chosen}
 use Rattle.cube.proofs.CubeEntries.{corner_room, facet_room, row_corner, row_polytope, facet_named, faces_few}
 use Rattle.cube.proofs.CubeRows.{power_low}
@@ -35,7 +36,7 @@ polytope_row-requires c =
     let few : c.faces_of-f.result.n ≤ 8 =
     faces_few c.args.d c.args.e.0 c.faces_of-f.result c.requires.in_cube.axes c.faces_of-f.ensures in
     let k = few in
-    record { words = search rules; size = omega (arith, k); rank = omega (arith, k) }
+    record { size = (let t = length-take-le c.faces_of-f.result.n c.faces_of-f.result.list (let q : length c.faces_of-f.result.list ≡ 33 = search rules in omega (arith, k, q)) in omega (arith, t, k)); rank = omega (arith, k) }
 
 pub returns-then-is_facet : goal.returns-then-is_facet
 returns-then-is_facet c =
@@ -53,7 +54,7 @@ polytope_row-requires-2 c =
     let few : c.faces_of-f.result.n ≤ 8 =
     faces_few c.args.d c.args.e.0 c.faces_of-f.result c.requires.in_cube.axes c.faces_of-f.ensures in
     let k = few in
-    record { words = search rules; size = omega (arith, k); rank = omega (arith, k) }
+    record { size = (let t = length-take-le c.faces_of-f.result.n c.faces_of-f.result.list (let q : length c.faces_of-f.result.list ≡ 33 = search rules in omega (arith, k, q)) in omega (arith, t, k)); rank = omega (arith, k) }
 
 pub returns : goal.returns
 returns c =

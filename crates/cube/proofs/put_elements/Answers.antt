@@ -1,5 +1,8 @@
 -- The invariant: the rows of the elements so far, and how many of those are corners and facets.
-use Prim.Native.Nat.{◌^◌}
+use Prim.Native.Nat.{ℕ, ◌+◌, ◌^◌, ◌≤◌}
+use mathlib.Core.Bool.{Bool, true, false}
+use mir.Val.{bool_byte}
+use Rattle.space.proofs.RowMade.{bit_is}
 use mathlib.Core.Path.{◌≡◌, refl, ap, ◌∙◌}
 use native.Mathlib.Omega.{arith}
 use Rattle.rules.specs.Cube.{is_vertex, is_facet}
@@ -7,6 +10,10 @@ use borrow.Author.Rules.{rules}
 use Rattle.cube.specs.Writing.{cube_elements}
 use Rattle.cube.proofs.CubeEntries.{elements_next, chosen_counted, chosen_few}
 use Rattle.cube.proofs.put_elements.Goals as goal
+
+bit_most : {n : ℕ} (b : Bool) → n ≡ bool_byte b → n ≤ 1
+bit_most {n} true e = omega (arith, e)
+bit_most {n} false e = omega (arith, e)
 
 pub loop-e-init : goal.loop-e-init
 loop-e-init c = record {
@@ -29,16 +36,16 @@ put_row-requires c = record { place = omega (arith, c.loop-e.invariant.long, c.l
 pub is_corner-requires : goal.is_corner-requires
 is_corner-requires c = record { axes = c.loop-e.invariant.axes; used = omega (arith, c.loop-e.invariant.all.power) }
 
-pub one_more_if-v-requires : goal.one_more_if-v-requires
-one_more_if-v-requires c = let k = chosen_few is_vertex c.args.d c.loop-e.e in
-    omega (arith, k, c.loop-e.invariant.vertices, c.loop-e.invariant.all.few)
+pub overflow_add-v : goal.overflow_add-v
+overflow_add-v c = let k = chosen_few is_vertex c.args.d c.loop-e.e in
+    let one : c.from-v.result ≤ 1 = bit_most c.is_corner.result c.from-v.ensures in omega (arith, k, one, c.loop-e.invariant.vertices, c.loop-e.invariant.all.few)
 
 pub is_facet-requires : goal.is_facet-requires
 is_facet-requires c = record { axes = c.loop-e.invariant.axes; used = omega (arith, c.loop-e.invariant.all.power) }
 
-pub one_more_if-h-requires : goal.one_more_if-h-requires
-one_more_if-h-requires c = let k = chosen_few is_facet c.args.d c.loop-e.e in
-    omega (arith, k, c.loop-e.invariant.hyperplanes, c.loop-e.invariant.all.few)
+pub overflow_add-h : goal.overflow_add-h
+overflow_add-h c = let k = chosen_few is_facet c.args.d c.loop-e.e in
+    let one : c.from-h.result ≤ 1 = bit_most c.is_facet.result c.from-h.ensures in omega (arith, k, one, c.loop-e.invariant.hyperplanes, c.loop-e.invariant.all.few)
 
 pub loop-e-preserved : goal.loop-e-preserved
 loop-e-preserved c = record {
@@ -47,8 +54,8 @@ loop-e-preserved c = record {
   all = c.loop-e.invariant.all;
   long = search rules;
   room = search rules;
-  vertices = c.one_more_if-v.ensures ∙ chosen_counted is_vertex c.args.d c.loop-e.e _ _ c.loop-e.invariant.vertices c.is_corner.ensures;
-  hyperplanes = c.one_more_if-h.ensures ∙ chosen_counted is_facet c.args.d c.loop-e.e _ _ c.loop-e.invariant.hyperplanes c.is_facet.ensures;
+  vertices = ap (λ (n : ℕ). c.loop-e.v + n) (c.from-v.ensures ∙ bit_is c.is_corner.result) ∙ chosen_counted is_vertex c.args.d c.loop-e.e _ _ c.loop-e.invariant.vertices c.is_corner.ensures;
+  hyperplanes = ap (λ (n : ℕ). c.loop-e.h + n) (c.from-h.ensures ∙ bit_is c.is_facet.result) ∙ chosen_counted is_facet c.args.d c.loop-e.e _ _ c.loop-e.invariant.hyperplanes c.is_facet.ensures;
   slice = c.put_row.ensures ∙ elements_next _ _ _ _ c.loop-e.invariant.axes (omega (arith, c.loop-e.invariant.all.few)) c.loop-e.invariant.slice c.cube_row-row.ensures;
 }
 

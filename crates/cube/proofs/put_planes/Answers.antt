@@ -1,5 +1,6 @@
 -- The room is cleared, and nothing is the first no elements.
-use mathlib.Core.Path.{refl, ◌∙◌}
+use lib.Ieee
+use mathlib.Core.Path.{◌∙◌}
 use Prim.Native.Nat.{◌^◌}
 use native.Mathlib.Omega.{arith}
 use Rattle.rules.specs.Floats.{plus_zero}
@@ -12,7 +13,8 @@ use borrow.Author.Rules.{rules}
 use Rattle.cube.proofs.put_planes.Goals as goal
 
 pub put_facets-requires : goal.put_facets-requires
-put_facets-requires c = record { room = record { axes = c.requires.axes; long = search rules }; clear = c.clear_floats.ensures ∙ cleared plus_zero (plane_row desk) c.args.planes.now _ 320 refl c.requires.long }
+unfolding lib.Ieee.of_bits
+put_facets-requires c = record { room = record { axes = c.requires.axes; long = search rules }; clear = c.fill.ensures.after (λ y q. q) ∙ cleared plus_zero (plane_row desk) _ 320 c.requires.long }
 
 pub overflow_cast-result : goal.overflow_cast-result
 overflow_cast-result c = let k = chosen_few is_facet c.args.d (3 ^ c.args.d) in

@@ -4,12 +4,13 @@ use native.Mathlib.Omega.{arith}
 use Rattle.cube.proofs.CubeReplies.{too_few, too_many, no_radius, no_room, cube_replied}
 use Rattle.space.proofs.Sizes.{size_known}
 use Rattle.cube.proofs.with_primordial_cube_radius.Goals as goal
+use Rattle.cube.proofs.with_primordial_cube_radius.Goals.{then-dimension-lt1-via-then-dimension-lt1, then-dimension-lt1-via-else-dimension-lt1+then-dimension-gt4}
 
 pub returns-then-dimension-lt1 : goal.returns-then-dimension-lt1
-returns-then-dimension-lt1 c = too_few _ _ _ _ _ _ c.if-dimension-lt1.true
-
-pub returns-then-dimension-gt4 : goal.returns-then-dimension-gt4
-returns-then-dimension-gt4 c = too_many _ _ _ _ _ _ c.if-dimension-gt4.true
+returns-then-dimension-lt1 c = elim c.then-dimension-lt1.branch [
+  | then-dimension-lt1-via-then-dimension-lt1 w ↦ too_few _ _ _ _ _ _ w.if-dimension-lt1.true
+  | then-dimension-lt1-via-else-dimension-lt1+then-dimension-gt4 w ↦ too_many _ _ _ _ _ _ w.if-dimension-gt4.true
+]
 
 pub returns-then-not-radius_fits : goal.returns-then-not-radius_fits
 returns-then-not-radius_fits c = no_radius _ _ _ _ _ _ (omega arith) (omega arith) (sym c.radius_fits.ensures ∙ c.if-not-radius_fits.true)

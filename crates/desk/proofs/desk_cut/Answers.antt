@@ -10,10 +10,10 @@ pub output_word-requires : goal.output_word-requires
 output_word-requires c =
     let asked : CutParams =
     cut_by (divider_with c.args.n0 c.args.n1 c.args.n2 c.args.n3 c.args.distance) c.fate-inside.result c.fate-outside.result in
-    names_low asked _ _ _ c.cut-reply.ensures _ _ c.in-Answered.is
+    names_low asked _ _ _ c.cut-reply.ensures _ c.in-Ok.is
 
-pub returns-in-Refused : goal.returns-in-Refused
-returns-in-Refused c = word_refused _ _ _ _ _ _ c.cut-reply.ensures c.fate-inside.ensures c.fate-outside.ensures _ c.in-Refused.is
+pub returns-in-Err : goal.returns-in-Err
+returns-in-Err c = word_refused _ _ _ _ _ _ c.cut-reply.ensures c.fate-inside.ensures c.fate-outside.ensures _ _ c.in-Err.is c.refused.ensures.value
 
-pub returns-in-Answered : goal.returns-in-Answered
-returns-in-Answered c = word_answered _ _ _ _ _ _ c.cut-reply.ensures c.fate-inside.ensures c.fate-outside.ensures _ _ _ c.in-Answered.is c.output_word.ensures
+pub returns-in-Ok : goal.returns-in-Ok
+returns-in-Ok c = word_answered _ _ _ _ _ _ c.cut-reply.ensures c.fate-inside.ensures c.fate-outside.ensures _ _ c.in-Ok.is c.output_word.ensures

@@ -10,8 +10,5 @@ bounds-counts-0 c = omega (arith, (slices c.requires.ready.fit.holds).counts)
 pub corner_point-p-requires : goal.corner_point-p-requires
 corner_point-p-requires c = point_asked c.requires.ready.fit
 
-pub note-requires : goal.note-requires
-note-requires c = c.requires.shaped
-
 pub returns : goal.returns
 returns c = corner_cut _ _ _ _ c.wide-d.ensures.value c.corner_point-p.ensures c.signed_distance-s.ensures c.side_of-test.ensures c.note.ensures c.corner_output.ensures

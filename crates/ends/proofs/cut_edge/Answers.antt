@@ -10,11 +10,8 @@ bounds-counts-0 c = omega (arith, (slices c.requires.ready.fit.holds).counts)
 pub read_ends-ends-requires : goal.read_ends-ends-requires
 read_ends-ends-requires c = ends_ready c.requires.ready
 
-pub note-requires : goal.note-requires
-note-requires c = c.requires.shaped
-
 pub gather_ends-requires : goal.gather_ends-requires
-gather_ends-requires c = ends_asked (ends_ready c.requires.ready) c.read_ends-ends.ensures c.note.ensures.shaped
+gather_ends-requires c = ends_asked (ends_ready c.requires.ready) c.read_ends-ends.ensures
 
 pub rule6-requires : goal.rule6-requires
 rule6-requires c = missed_ready _ _ _ _ _ c.wide-d.ensures.value c.read_ends-ends.ensures c.signed_distance-sa.ensures c.signed_distance-sb.ensures
@@ -34,7 +31,7 @@ returns-in-None c = missed_cut _ _ _ _ _ c.wide-d.ensures.value c.read_ends-ends
     c.edge_test-test.ensures c.note.ensures c.gather_ends.ensures
     c.in-None.is c.rule6.ensures
 
-pub returns-in-At : goal.returns-in-At
-returns-in-At c = crossing_cut _ _ _ _ _ c.wide-d.ensures.value c.read_ends-ends.ensures c.signed_distance-sa.ensures c.signed_distance-sb.ensures
+pub returns-in-Some : goal.returns-in-Some
+returns-in-Some c = crossing_cut _ _ _ _ _ c.wide-d.ensures.value c.read_ends-ends.ensures c.signed_distance-sa.ensures c.signed_distance-sb.ensures
     c.edge_test-test.ensures c.note.ensures c.gather_ends.ensures _ _
-    c.crossing_point-at.ensures c.in-At.is c.cut_crossed.ensures
+    c.crossing_point-at.ensures c.in-Some.is c.cut_crossed.ensures

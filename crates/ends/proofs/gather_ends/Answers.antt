@@ -3,9 +3,6 @@ use lib.Dec.{lit≤}
 use Rattle.ends.proofs.EndsGathered.{sized_more, end_room, ends_gathered}
 use Rattle.ends.proofs.gather_ends.Goals as goal
 
-pub clear-requires : goal.clear-requires
-clear-requires c = c.requires.shaped
-
 pub gather_in-requires : goal.gather_in-requires
 gather_in-requires c = record { sized = sized_more 0 31 (lit≤ tt) c.clear.ensures.nothing.sized; element = c.requires.first; answer = end_room _ c.args.sa c.requires.first c.end_output-first.ensures }
 

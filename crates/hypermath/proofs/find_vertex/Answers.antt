@@ -3,13 +3,13 @@ use Prim.Native.Nat.{ℕ}
 use mathlib.Core.Path.{◌≡◌, subst}
 use native.Mathlib.Omega.{arith}
 use mathlib.Core.List.{List}
-use mathlib.Core.Option.{Option}
 use lib.Ieee.{Float}
 use lib.ListN.{take}
 use Rattle.rules.specs.Floats.{point_matches}
 use Rattle.rules.specs.Lists.{find}
 use Rattle.hypermath.specs.Answers.{points_in}
 use Rattle.hypermath.proofs.find_vertex.Goals as goal
+use Rattle.std.specs.Prelude.{Option}
 
 for_dimension : (d e n : ℕ) (p points : List Float) (found : Option ℕ) → d ≡ e → found ≡ find (λ q. point_matches q (take d p)) (points_in d n points)
     → found ≡ find (λ q. point_matches q (take e p)) (points_in e n points)

@@ -1,31 +1,21 @@
--- The four tests of a lent normal, in their order; the code's constants are 1 - T and 1 + T.
-use mathlib.Core.Bool.{true, false}
-use mathlib.Core.Path.{refl, sym, ap, ◌∙◌}
+-- The tests of a lent normal, in their order; the code's constants are 1 - T and 1 + T.
+use mathlib.Core.Path.{sym, ◌∙◌}
 use lib.Ieee
-use lib.Ieee.{Float, binary64, add, sub, le}
-use Rattle.rules.specs.Floats.{one, tolerance}
-use Rattle.hypermath.proofs.Tests.{unit_is}
+use Rattle.hypermath.proofs.Tests.{unit_not, unit_then, unit_else, joined_then, joined_else}
 use Rattle.hypermath.proofs.is_unit.Goals as goal
+use Rattle.hypermath.proofs.is_unit.Goals.{then-squares, else-squares}
 
 pub returns-then-not-components_fit : goal.returns-then-not-components_fit
-returns-then-not-components_fit c = unit_is c.args.d c.args.normal false _ _ _ (sym c.components_fit.ensures ∙ c.if-not-components_fit.true) refl refl refl
+returns-then-not-components_fit c = unit_not c.args.d c.args.normal (sym c.components_fit.ensures ∙ c.if-not-components_fit.true)
 
-pub returns-then-not-squares : goal.returns-then-not-squares
+pub returns-then-squares-2 : goal.returns-then-squares-2
 unfolding lib.Ieee.of_bits lib.Ieee.sub lib.Ieee.add
-returns-then-not-squares c = let fits = sym c.components_fit.ensures ∙ c.if-not-components_fit.false in
-    let low = ap (le (sub binary64 one tolerance)) (sym c.dot-squares.ensures) in
-    unit_is c.args.d c.args.normal true false _ _ fits (low ∙ c.if-not-squares.true) refl refl
+returns-then-squares-2 c =
+    unit_then c.args.d c.args.normal c.dot-squares.result c.if-squares.value _ (sym c.components_fit.ensures ∙ c.if-not-components_fit.false) c.dot-squares.ensures
+    (elim c.if-squares.branch [ then-squares w ↦ joined_then _ _ _ w.if-squares.true w.value-is | else-squares w ↦ joined_else _ _ _ w.if-squares.false w.value-is ]) c.if-squares-2.true c.zero_past.ensures
 
-pub returns-then-not-squares-2 : goal.returns-then-not-squares-2
+pub returns-else-squares-2 : goal.returns-else-squares-2
 unfolding lib.Ieee.of_bits lib.Ieee.sub lib.Ieee.add
-returns-then-not-squares-2 c = let fits = sym c.components_fit.ensures ∙ c.if-not-components_fit.false in
-    let low = ap (le (sub binary64 one tolerance)) (sym c.dot-squares.ensures) in
-    let high = ap (λ (s : Float). le s (add binary64 one tolerance)) (sym c.dot-squares.ensures) in
-    unit_is c.args.d c.args.normal true true false _ fits (low ∙ c.if-not-squares.false) (high ∙ c.if-not-squares-2.true) refl
-
-pub returns : goal.returns
-unfolding lib.Ieee.of_bits lib.Ieee.sub lib.Ieee.add
-returns c = let fits = sym c.components_fit.ensures ∙ c.if-not-components_fit.false in
-    let low = ap (le (sub binary64 one tolerance)) (sym c.dot-squares.ensures) in
-    let high = ap (λ (s : Float). le s (add binary64 one tolerance)) (sym c.dot-squares.ensures) in
-    c.zero_past.ensures ∙ unit_is c.args.d c.args.normal true true true _ fits (low ∙ c.if-not-squares.false) (high ∙ c.if-not-squares-2.false) refl
+returns-else-squares-2 c =
+    unit_else c.args.d c.args.normal c.dot-squares.result c.if-squares.value (sym c.components_fit.ensures ∙ c.if-not-components_fit.false) c.dot-squares.ensures
+    (elim c.if-squares.branch [ then-squares w ↦ joined_then _ _ _ w.if-squares.true w.value-is | else-squares w ↦ joined_else _ _ _ w.if-squares.false w.value-is ]) c.if-squares-2.false

@@ -1,39 +1,21 @@
--- The invariant: the comparison is asked of what is left.
-use mathlib.Core.Path.{refl, sym, ap₂, ◌∙◌}
-use native.Mathlib.Omega.{arith}
-use native.Mathlib.Nat.{le_trans, le_of_eq}
-use lib.Ieee.{nan}
+-- The chain asks both points axis by axis.
+use mathlib.Core.Path.{ap₂, ◌∙◌}
+use Rattle.std.proofs.Common.{rules, tests}
+use Rattle.std.proofs.lemmas.Iterator.{YieldsList-from_slice, YieldsList-from_zip}
+use Rattle.std.proofs.lemmas.Iterator.Consumers.{YieldsList-at}
+use Rattle.std.proofs.lemmas.Iterator.Search.{all_from_yields_List}
+use lib.ListN.{take}
+use lib.Ieee.{Float}
 use Rattle.rules.specs.Lists.{alike}
 use Rattle.rules.specs.Floats.{matches, point_matches}
-use Rattle.rules.proofs.Indexed.{alike_front_go, alike_front_no, alike_front_end}
-use borrow.Author.Rules.{rules}
+use Rattle.hypermath.proofs.Chains.{alike_is}
 use Rattle.hypermath.proofs.points_match.Goals as goal
-
-pub loop-axis-init : goal.loop-axis-init
-loop-axis-init c = record { here = search rules; few = c.axes_of-n.ensures.few; earlier_long = search rules; later_long = search rules; left = refl }
-
-pub returns-then-not-coordinates_match : goal.returns-then-not-coordinates_match
-unfolding point_matches
-returns-then-not-coordinates_match c = let e-fits = le_trans c.loop-axis.invariant.few (le_of_eq (sym c.loop-axis.invariant.earlier_long)) in
-    let l-fits = le_trans c.loop-axis.invariant.few (le_of_eq (sym c.loop-axis.invariant.later_long)) in
-    alike_front_no matches nan _ _ _ e-fits l-fits c.loop-axis.axis c.loop-axis.invariant.left c.loop-axis-test.true (sym c.coordinates_match.ensures ∙ c.if-not-coordinates_match.true)
-    ∙ ap₂ (alike matches) (c.axes_of-n.ensures.front _ c.loop-axis.invariant.earlier_long) (c.axes_of-n.ensures.front _ c.loop-axis.invariant.later_long)
-
-pub loop-axis-preserved : goal.loop-axis-preserved
-loop-axis-preserved c = let e-fits = le_trans c.loop-axis.invariant.few (le_of_eq (sym c.loop-axis.invariant.earlier_long)) in
-    let l-fits = le_trans c.loop-axis.invariant.few (le_of_eq (sym c.loop-axis.invariant.later_long)) in
-    let like = sym c.coordinates_match.ensures ∙ c.if-not-coordinates_match.false in
-    record {
-      here = search rules;
-      few = search rules;
-      earlier_long = search rules;
-      later_long = search rules;
-      left = alike_front_go matches nan _ _ _ e-fits l-fits c.loop-axis.axis c.loop-axis.invariant.left c.loop-axis-test.true like;
-    }
 
 pub returns : goal.returns
 unfolding point_matches
-returns c = let e-fits = le_trans c.loop-axis.invariant.few (le_of_eq (sym c.loop-axis.invariant.earlier_long)) in
-    let l-fits = le_trans c.loop-axis.invariant.few (le_of_eq (sym c.loop-axis.invariant.later_long)) in
-    alike_front_end matches nan _ _ _ e-fits l-fits c.loop-axis.axis c.loop-axis.invariant.left (omega arith)
-    ∙ ap₂ (alike matches) (c.axes_of-n.ensures.front _ c.loop-axis.invariant.earlier_long) (c.axes_of-n.ensures.front _ c.loop-axis.invariant.later_long)
+returns c =
+    let road = YieldsList-from_zip {s = c.zip.result} (YieldsList-at c.zip.ensures.first (YieldsList-from_slice (take c.axes_of-n.result c.args.earlier) c.iter.ensures.rest))
+    (YieldsList-at c.zip.ensures.second (YieldsList-from_slice (take c.axes_of-n.result c.args.later) c.iter-2.ensures.rest)) in
+    let whole = all_from_yields_List (λ (x : Float × Float). matches x.0 x.1) c.all.new.self _ c.all.result c.all.ensures.ran road (λ x b q k. search (rules, tests)) in
+    whole ∙ alike_is matches (take c.axes_of-n.result c.args.earlier) (take c.axes_of-n.result c.args.later) (search rules)
+    ∙ ap₂ (alike matches) (c.axes_of-n.ensures.front c.args.earlier (search rules)) (c.axes_of-n.ensures.front c.args.later (search rules))

@@ -1,27 +1,20 @@
--- The invariant: all is asked of what is left.
-use mathlib.Core.Path.{refl, sym, ap, ◌∙◌}
+-- The chain asks all of the components past the dimension.
+use mathlib.Core.Path.{◌≡◌, ap, ◌∙◌}
+use Prim.Native.Nat.{◌-◌}
 use native.Mathlib.Omega.{arith}
-use native.Mathlib.Nat.{le_trans, le_of_eq}
-use lib.Ieee.{nan}
+use Rattle.std.proofs.Common.{rules, tests}
+use Rattle.std.proofs.lemmas.Iterator.{YieldsList-from_slice}
+use Rattle.std.proofs.lemmas.Iterator.Search.{all_from_yields_List}
+use lib.ListN.{take, drop, length, length-drop}
+use lib.Seq.{take_all}
 use Rattle.rules.specs.Lists.{all}
 use Rattle.rules.specs.Floats.{plus_zero, same_bits}
-use Rattle.rules.proofs.Indexed.{all_go, all_no, all_end}
-use borrow.Author.Rules.{rules}
+use Rattle.hypermath.proofs.Chains.{all_is}
 use Rattle.hypermath.proofs.zero_past.Goals as goal
 
-pub loop-axis-init : goal.loop-axis-init
-loop-axis-init c = record { here = c.axes_of-n.ensures.few; long = search rules; left = refl }
-
-pub returns-then-not-is_zero_bits : goal.returns-then-not-is_zero_bits
-returns-then-not-is_zero_bits c = let in_range = le_trans c.loop-axis-test.true (le_of_eq (sym c.loop-axis.invariant.long)) in
-    all_no (same_bits plus_zero) nan _ c.loop-axis.axis c.loop-axis.invariant.left in_range (sym c.is_zero_bits.ensures ∙ c.if-not-is_zero_bits.true)
-    ∙ ap (all (same_bits plus_zero)) (c.axes_of-n.ensures.rest _ c.loop-axis.invariant.long)
-
-pub loop-axis-preserved : goal.loop-axis-preserved
-loop-axis-preserved c = let in_range = le_trans c.loop-axis-test.true (le_of_eq (sym c.loop-axis.invariant.long)) in
-    let more = all_go (same_bits plus_zero) nan _ c.loop-axis.axis c.loop-axis.invariant.left in_range (sym c.is_zero_bits.ensures ∙ c.if-not-is_zero_bits.false) in
-    record { here = search rules; long = search rules; left = more }
-
 pub returns : goal.returns
-returns c = all_end (same_bits plus_zero) nan _ c.loop-axis.axis c.loop-axis.invariant.left (le_trans (le_of_eq c.loop-axis.invariant.long) (omega arith)) ∙ ap (all (same_bits plus_zero))
-    (c.axes_of-n.ensures.rest _ c.loop-axis.invariant.long)
+returns c =
+    let rest = take_all (4 - c.axes_of-n.result) (drop c.axes_of-n.result c.args.normal) (simp length-drop (let l : length c.args.normal ≡ 4 = search rules in omega arith)) in
+    let whole = all_from_yields_List (same_bits plus_zero) _ _ c.all.result c.all.ensures.ran
+    (YieldsList-from_slice (take (4 - c.axes_of-n.result) (drop c.axes_of-n.result c.args.normal)) c.iter.ensures.rest) (λ x b q k. search (rules, tests)) in
+    whole ∙ all_is (same_bits plus_zero) (take (4 - c.axes_of-n.result) (drop c.axes_of-n.result c.args.normal)) ∙ ap (all (same_bits plus_zero)) (rest ∙ c.axes_of-n.ensures.rest c.args.normal (search rules))

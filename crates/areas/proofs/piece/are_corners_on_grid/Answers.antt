@@ -1,22 +1,20 @@
--- All of what is left are on the grid exactly when all of the whole are.
-use Rattle.std.proofs.Common.{take, sym, ◌∙◌, subst, rules}
+-- Each test is the rule's own.
+use Rattle.std.proofs.Common.{◌<◌, take, sym, ◌∙◌, subst, le_trans, le_of_eq, length-take-le, get_or-take, rules, tests}
+use Rattle.std.proofs.lemmas.Iterator.{YieldsList-from_slice}
+use Rattle.std.proofs.lemmas.Iterator.Search.{all_from_yields_List}
+use Rattle.std.proofs.lemmas.Iterator.Adapters.{serves_from_places}
+use Rattle.std.proofs.lemmas.Grind.{get_or_default_zero}
+use Rattle.soundness.proofs.Every.{every}
 use Rattle.areas.specs.Words.{corner_on_grid, CornerFits}
-use Rattle.areas.proofs.Loops.{all_stop, all_go, all_end, in_front, front_long, front_end}
 use Rattle.areas.proofs.piece.are_corners_on_grid.Goals as goal
 
-pub is_corner_on_grid-requires : goal.is_corner_on_grid-requires
-is_corner_on_grid-requires c = subst (CornerFits _) (sym c.wide.ensures.value) (c.requires.each c.loop-i.i (search rules))
-
-pub returns-then-not-is_corner_on_grid : goal.returns-then-not-is_corner_on_grid
-returns-then-not-is_corner_on_grid c = all_stop (corner_on_grid c.args.points.now) (take c.args.n c.args.list.now) _ c.loop-i.i _ (in_front c.args.n c.args.list.now _ _ (search rules) c.wide.ensures.value)
-    (front_long c.args.n c.args.list.now _ c.requires.long (search rules)) c.loop-i.invariant.same (sym c.is_corner_on_grid.ensures ∙ c.if-not-is_corner_on_grid.true)
-
-pub loop-i-preserved : goal.loop-i-preserved
-loop-i-preserved c = record {
-  low = search rules;
-  same = all_go (corner_on_grid c.args.points.now) (take c.args.n c.args.list.now) _ c.loop-i.i _ (in_front c.args.n c.args.list.now _ _ (search rules) c.wide.ensures.value)
-      (front_long c.args.n c.args.list.now _ c.requires.long (search rules)) c.loop-i.invariant.same (sym c.is_corner_on_grid.ensures ∙ c.if-not-is_corner_on_grid.false);
-}
+pub all-requires-clause-callable : goal.all-requires-clause-callable
+all-requires-clause-callable c = serves_from_places (YieldsList-from_slice (take c.args.n c.args.list.now) cc) (λ x q k. search rules) (λ x k l e.
+    let few : k < c.args.n = le_trans l (le_of_eq (length-take-le c.args.n c.args.list.now c.requires.long)) in
+    let h : CornerFits c.args.points.now x.now = subst (CornerFits _) (sym (e ∙ get_or_default_zero _ _ _ l ∙ get_or-take c.args.n c.args.list.now k 0 few)) (c.requires.each k few) in
+    search (rules, h))
 
 pub returns : goal.returns
-returns c = all_end (corner_on_grid c.args.points.now) (take c.args.n c.args.list.now) _ c.loop-i.i (front_end c.args.n c.args.list.now _ c.requires.long (search rules)) c.loop-i.invariant.same
+returns c =
+    all_from_yields_List (corner_on_grid c.args.points.now) _ _ _ c.all.ensures.ran (YieldsList-from_slice (take c.args.n c.args.list.now) cc) (λ x b q k. search (rules, tests))
+    ∙ every (corner_on_grid c.args.points.now) (take c.args.n c.args.list.now)

@@ -3,7 +3,7 @@ use Prim.Native.Nat.{◌+◌, ◌<◌, ◌≤◌}
 use mathlib.Core.Path.{◌≡◌}
 use lib.ListN.{length, get_or}
 use Rattle.space.specs.Chains.{Indexed}
-use Rattle.gathered.specs.Sets.{Shaped, warning_in}
+use Rattle.gathered.specs.Sets.{warning_in}
 use Rattle.cut.specs.Known.{KnownStill}
 use Rattle.cut.proofs.Rounds.{Going}
 use Rattle.cut.proofs.elements.+cut_boundary_cut_element.Given as goal
@@ -23,6 +23,5 @@ invariant-cut_boundary-loop-i l =
       more : 1 < l.rank;
       going : Going l.rank more l.e.0 l.k l.initial.counts l.initial.points l.initial.elements l.initial.known (warning_in l.initial.room) l.i l.counts l.points l.elements l.known (warning_in l.room);
       indexed : Indexed l.elements (get_or l.counts 1 0) l.index;
-      shaped : Shaped l.room;
       still : KnownStill l.initial.known l.known;
     }

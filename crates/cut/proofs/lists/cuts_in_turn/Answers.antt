@@ -17,23 +17,23 @@ loop-i-init c = record {
 pub cut_at-made-requires : goal.cut_at-made-requires
 cut_at-made-requires c = running_ready c.loop-i.invariant.run c.loop-i-test.true
 
-pub shape_of-counts-in-Refused : goal.shape_of-counts-in-Refused
-shape_of-counts-in-Refused c = c.cut_at-made.auto.counts ∙ c.loop-i.invariant.counts_long
+pub shape_of-counts-in-Err : goal.shape_of-counts-in-Err
+shape_of-counts-in-Err c = c.cut_at-made.auto.counts ∙ c.loop-i.invariant.counts_long
 
-pub shape_of-points-in-Refused : goal.shape_of-points-in-Refused
-shape_of-points-in-Refused c = c.cut_at-made.auto.points ∙ c.loop-i.invariant.points_long
+pub shape_of-points-in-Err : goal.shape_of-points-in-Err
+shape_of-points-in-Err c = c.cut_at-made.auto.points ∙ c.loop-i.invariant.points_long
 
-pub shape_of-planes-in-Refused : goal.shape_of-planes-in-Refused
-shape_of-planes-in-Refused c = c.cut_at-made.auto.planes ∙ c.loop-i.invariant.planes_long
+pub shape_of-planes-in-Err : goal.shape_of-planes-in-Err
+shape_of-planes-in-Err c = c.cut_at-made.auto.planes ∙ c.loop-i.invariant.planes_long
 
-pub shape_of-elements-in-Refused : goal.shape_of-elements-in-Refused
-shape_of-elements-in-Refused c = c.cut_at-made.auto.elements ∙ c.loop-i.invariant.elements_long
+pub shape_of-elements-in-Err : goal.shape_of-elements-in-Err
+shape_of-elements-in-Err c = c.cut_at-made.auto.elements ∙ c.loop-i.invariant.elements_long
 
-pub shape_of-answers-in-Refused : goal.shape_of-answers-in-Refused
-shape_of-answers-in-Refused c = c.cut_at-made.auto.answers ∙ c.loop-i.invariant.answers_long
+pub shape_of-answers-in-Err : goal.shape_of-answers-in-Err
+shape_of-answers-in-Err c = c.cut_at-made.auto.answers ∙ c.loop-i.invariant.answers_long
 
-pub returns-in-Refused : goal.returns-in-Refused
-returns-in-Refused c = running_stopped c.loop-i.invariant.run c.loop-i-test.true c.cut_at-made.ensures _ c.in-Refused.is
+pub returns-in-Err : goal.returns-in-Err
+returns-in-Err c = running_stopped c.loop-i.invariant.run c.loop-i-test.true c.cut_at-made.ensures _ c.in-Err.is
 
 pub overflow_step-i : goal.overflow_step-i
 overflow_step-i c = let few = few_cuts _ c.loop-i.invariant.run.ready.fits in
@@ -41,7 +41,7 @@ overflow_step-i c = let few = few_cuts _ c.loop-i.invariant.run.ready.fits in
 
 pub loop-i-preserved : goal.loop-i-preserved
 loop-i-preserved c = record {
-  run = running_again c.loop-i.invariant.run c.loop-i-test.true c.cut_at-made.ensures c.in-Answered.is;
+  run = running_again c.loop-i.invariant.run c.loop-i-test.true c.cut_at-made.ensures c.in_default.is;
   counts_long = c.cut_at-made.auto.counts ∙ c.loop-i.invariant.counts_long;
   points_long = c.cut_at-made.auto.points ∙ c.loop-i.invariant.points_long;
   planes_long = c.cut_at-made.auto.planes ∙ c.loop-i.invariant.planes_long;

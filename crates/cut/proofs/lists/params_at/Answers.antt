@@ -3,4 +3,4 @@ use Rattle.cut.proofs.Listing.{params_are}
 use Rattle.cut.proofs.lists.params_at.Goals as goal
 
 pub returns : goal.returns
-returns c = params_are c.args.dividers.now c.args.kept.now c.args.i c.hyperplane_at-divider.ensures c.fate_of-inside.ensures c.fate_of-outside.ensures
+returns c = params_are c.args.dividers.now c.args.kept.now c.args.i c.hyperplane_at-divider.ensures c.from-inside.ensures c.from-outside.ensures

@@ -6,9 +6,6 @@ use Rattle.cut.proofs.Higher.{gather_row, gather_most, filling_start, known_low,
 use borrow.Author.Rules.{rules}
 use Rattle.cut.proofs.ranks.gather_known.Goals as goal
 
-pub clear-requires : goal.clear-requires
-clear-requires c = c.requires.shaped
-
 pub size_of-n-requires : goal.size_of-n-requires
 size_of-n-requires c = gather_row c.requires
 

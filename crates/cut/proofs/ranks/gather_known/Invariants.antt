@@ -3,10 +3,11 @@ use Prim.Native.Nat.{ℕ, ◌-◌, ◌≤◌}
 use mathlib.Core.Path.{◌≡◌}
 use mathlib.Core.List.{List}
 use Rattle.gathered.specs.Sets.{Sized, warning_in}
+use Rattle.gathered.specs.declared.sets.Room.{Room}
 use Rattle.cut.proofs.Higher.{Filling}
 use Rattle.cut.proofs.ranks.gather_known.Given as goal
 
-pub record Gathering (es ms : List ℕ) (s : List (List ℕ)) (e n i : ℕ) (r : List (List ℕ)) : Type 0 where
+pub record Gathering (es ms : List ℕ) (s : Room) (e n i : ℕ) (r : Room) : Type 0 where
   pub most : i ≤ n
   pub sized : Sized r i
   pub filling : Filling es ms e i r

@@ -12,14 +12,14 @@ bounds-counts-2 c = omega (arith, counts_ready c.requires)
 pub bounds-counts-3 : goal.bounds-counts-3
 bounds-counts-3 c = omega (arith, counts_ready c.requires)
 
-pub cut_named-reply-requires : goal.cut_named-reply-requires
-cut_named-reply-requires c = c.requires
+pub cut_named-requires : goal.cut_named-requires
+cut_named-requires c = c.requires
 
 pub restore-requires : goal.restore-requires
-restore-requires c = whole_asks c.cut_named-reply.ensures _ c.in-Refused.is c.requires
+restore-requires c = whole_asks c.cut_named.ensures _ c.in-Err.is c.requires
 
-pub returns-in-Refused : goal.returns-in-Refused
-returns-in-Refused c = whole_refused c.cut_named-reply.ensures _ c.in-Refused.is c.restore.ensures
+pub returns-in-Err : goal.returns-in-Err
+returns-in-Err c = whole_refused c.cut_named.ensures _ c.in-Err.is c.restore.ensures
 
-pub returns-in-Answered : goal.returns-in-Answered
-returns-in-Answered c = whole_done c.cut_named-reply.ensures _ _ c.in-Answered.is
+pub returns-in-Ok : goal.returns-in-Ok
+returns-in-Ok c = whole_done c.cut_named.ensures _ c.in-Ok.is

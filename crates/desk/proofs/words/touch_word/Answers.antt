@@ -3,17 +3,17 @@ use native.Mathlib.Omega.{arith}
 use Rattle.desk.proofs.TouchWords.{touched_low, word_touched}
 use Rattle.desk.proofs.words.touch_word.Goals as goal
 
-pub overflow_cast-result-in-Touched : goal.overflow_cast-result-in-Touched
-overflow_cast-result-in-Touched c = let l = touched_low _ _ c.in-Touched.is c.requires in
+pub overflow_cast-result : goal.overflow_cast-result
+overflow_cast-result c = let l = touched_low _ c.in-Ok.is c.requires in
     omega (arith, l)
 
-pub overflow_mul-result-in-Touched : goal.overflow_mul-result-in-Touched
-overflow_mul-result-in-Touched c = let l = touched_low _ _ c.in-Touched.is c.requires in
+pub overflow_mul-result-in-Ok : goal.overflow_mul-result-in-Ok
+overflow_mul-result-in-Ok c = let l = touched_low _ c.in-Ok.is c.requires in
     omega (arith, l)
 
 pub overflow_add-result : goal.overflow_add-result
-overflow_add-result c = let l = touched_low _ _ c.in-Touched.is c.requires in
-    omega (arith, l, c.touch_value-value.ensures.bound)
+overflow_add-result c = let l = touched_low _ c.in-Ok.is c.requires in
+    omega (arith, l, c.touch_value.ensures.bound)
 
-pub returns-in-Touched : goal.returns-in-Touched
-returns-in-Touched c = word_touched _ _ _ _ c.in-Touched.is c.touch_value-value.ensures.value
+pub returns-in-Ok : goal.returns-in-Ok
+returns-in-Ok c = word_touched _ _ _ c.in-Ok.is c.touch_value.ensures.value

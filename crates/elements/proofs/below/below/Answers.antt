@@ -1,6 +1,5 @@
 -- The pass has come down to what is left: what is not marked is passed over. At the end the marks are what is below the root.
 use native.Mathlib.Omega.{arith}
-use Rattle.elements.proofs.MarkLaws.{none_marked}
 use Rattle.elements.proofs.BelowLoops.{in_room_lem, going_start, going_next, going_end, used_below}
 use borrow.Author.Rules.{rules}
 use Rattle.elements.proofs.below.below.Goals as goal
@@ -11,7 +10,7 @@ loop-left-init c = let r = in_room_lem _ _ c.requires.lent _ c.requires.used in
       low = search rules;
       room = omega (arith, r);
       root = used_below _ _ _ (omega arith) c.requires;
-      going = going_start _ _ _ _ (search rules) (none_marked 8) r c.mark.ensures;
+      going = going_start _ _ _ _ (search rules) c.none-marks.ensures r c.mark.ensures;
     }
 
 pub onward-requires : goal.onward-requires

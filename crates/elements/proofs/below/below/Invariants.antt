@@ -13,7 +13,7 @@ pub record Down (es : List ℕ) (first : ℕ) (ws : List ℕ) (left : ℕ) : Typ
   pub going : Going es (first - 1) left ws
 
 abbrev pub invariant-loop-left : goal.invariant-loop-left
-invariant-loop-left l = Down l.elements l.initial.left l.words l.left
+invariant-loop-left l = Down l.elements l.initial.left l.marks.words l.left
 
 abbrev pub decreases-loop-left : goal.decreases-loop-left
 decreases-loop-left l = l.left

@@ -15,7 +15,7 @@ pub record Left (es : List ℕ) (e n : ℕ) (old new : List ℕ) (i : ℕ) : Typ
   pub marks : Marking es e n old new i
 
 abbrev pub invariant-loop-i : goal.invariant-loop-i
-invariant-loop-i l = Left l.elements l.e.0 l.n l.initial.words l.words l.i
+invariant-loop-i l = Left l.elements l.e.0 l.n l.initial.marks.words l.marks.words l.i
 
 abbrev pub decreases-loop-i : goal.decreases-loop-i
 decreases-loop-i l = l.n - l.i

@@ -1,36 +1,24 @@
--- Those that are left have the rank exactly when all do, until one does not.
-use Prim.Native.Nat.{ℕ, ◌*◌}
-use mathlib.Core.Path.{refl, sym, ap, ◌∙◌}
+-- Each test is the rule's own.
+use Prim.Native.Nat.{◌*◌, ◌<◌}
+use Rattle.std.proofs.Common.{ℕ, ◌≡◌, ◌∙◌, length, rules, tests}
+use Rattle.std.proofs.lemmas.Iterator.{YieldsList-from_slice}
+use Rattle.std.proofs.lemmas.Iterator.Search.{all_from_yields_List}
+use Rattle.std.proofs.lemmas.Iterator.Adapters.{serves_from_places}
+use Rattle.std.proofs.lemmas.Grind.{get_or_default_zero}
+use lib.Dec.{eqb}
 use lib.ListN.{get_or}
-use Rattle.rules.proofs.Indexed.{all_go, all_no, all_end}
-use Rattle.rules.proofs.Laws.{test_eq, not_eq}
+use Rattle.soundness.proofs.Every.{every}
 use Rattle.elements.proofs.BelowLoops.{lent_long}
 use Rattle.elements.proofs.CommonLoops.{roots_used_at, used_in_room}
-use borrow.Author.Rules.{rules}
-use Rattle.elements.proofs.common.all_of_rank.Invariants.{has_rank}
 use Rattle.elements.proofs.common.all_of_rank.Goals as goal
 
-pub loop-i-init : goal.loop-i-init
-loop-i-init c = record { low = search rules; size = search rules; used = c.requires; same = refl }
-
-pub rank_of-requires : goal.rank_of-requires
-rank_of-requires c = record {
-  elements = lent_long _ _ c.loop-i.invariant.used.lent;
-  room = used_in_room _ _ (roots_used_at _ _ c.loop-i.i _ c.loop-i.invariant.used (search rules) c.wide.ensures.value);
-}
-
-pub returns-then-rank_of-rank : goal.returns-then-rank_of-rank
-returns-then-rank_of-rank c = let word = c.rank_of.ensures ∙ ap (λ (e : ℕ). get_or c.args.elements.now (e * 36) 0) c.wide.ensures.value in
-    all_no (has_rank c.args.elements.now c.args.rank) 0 c.args.roots.now c.loop-i.i c.loop-i.invariant.same (search rules) (not_eq _ _ (λ q. c.if-rank_of-rank.true (word ∙ q)))
-
-pub loop-i-preserved : goal.loop-i-preserved
-loop-i-preserved c = let word = c.rank_of.ensures ∙ ap (λ (e : ℕ). get_or c.args.elements.now (e * 36) 0) c.wide.ensures.value in
-    record {
-      low = search rules;
-      size = search rules;
-      used = c.loop-i.invariant.used;
-      same = all_go (has_rank c.args.elements.now c.args.rank) 0 c.args.roots.now c.loop-i.i c.loop-i.invariant.same (search rules) (test_eq _ _ (sym word ∙ c.if-rank_of-rank.false));
-    }
+pub all-requires-clause-callable : goal.all-requires-clause-callable
+all-requires-clause-callable c = serves_from_places (YieldsList-from_slice c.args.roots.now cc) (λ x q k. search rules) (λ x k l e.
+    let low : x.now < 512 = used_in_room _ _ (roots_used_at _ _ k _ c.requires l (e ∙ get_or_default_zero _ _ _ l)) in
+    let long : length c.args.elements.now ≡ 18432 = lent_long _ _ c.requires.lent in
+    search (rules, low, long))
 
 pub returns : goal.returns
-returns c = all_end (has_rank c.args.elements.now c.args.rank) 0 c.args.roots.now c.loop-i.i c.loop-i.invariant.same (search rules)
+returns c =
+    all_from_yields_List (λ (e : ℕ). eqb (get_or c.args.elements.now (e * 36) 0) c.args.rank) _ _ _ c.all.ensures.ran (YieldsList-from_slice c.args.roots.now cc) (λ x b q k. search (rules, tests))
+    ∙ every (λ (e : ℕ). eqb (get_or c.args.elements.now (e * 36) 0) c.args.rank) c.args.roots.now

@@ -1,12 +1,11 @@
 -- The boundaries of the words that are left are to come.
 use native.Mathlib.Omega.{arith}
-use Rattle.elements.proofs.MarkLaws.{none_marked}
 use Rattle.elements.proofs.LevelLoops.{passed_start, word_ready, passed_next, passed_end}
 use borrow.Author.Rules.{rules}
 use Rattle.elements.proofs.levels.one_under.Goals as goal
 
 pub loop-w-init : goal.loop-w-init
-loop-w-init c = record { so_far = search rules; long = search rules; words = search rules; none_yet = none_marked 8; ready = c.requires; passed = passed_start _ _ _ }
+loop-w-init c = record { so_far = search rules; long = search rules; words = search rules; none_yet = c.none-marks.ensures; ready = c.requires; passed = passed_start _ _ _ }
 
 pub mark_under_word-requires : goal.mark_under_word-requires
 mark_under_word-requires c = word_ready _ _ _ (search rules) c.loop-w.invariant.ready

@@ -17,7 +17,7 @@ pub record Marked (es set none ws : List ℕ) (w : ℕ) : Type 0 where
   pub passed : Passed es set none ws w
 
 abbrev pub invariant-loop-w : goal.invariant-loop-w
-invariant-loop-w l = Marked l.elements l.set l.initial.words l.words l.w
+invariant-loop-w l = Marked l.elements l.s.words l.initial.marks.words l.marks.words l.w
 
 abbrev pub decreases-loop-w : goal.decreases-loop-w
 decreases-loop-w l = 8 - l.w

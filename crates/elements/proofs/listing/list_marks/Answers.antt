@@ -5,10 +5,10 @@ use Rattle.elements.proofs.ListLoops.{no_room, in_front}
 use Rattle.elements.proofs.listing.list_marks.Goals as goal
 
 pub returns-then-list-n : goal.returns-then-list-n
-returns-then-list-n c = no_room (marked_numbers c.args.s.words) _ _ c.size-n.ensures c.if-list-n.true
+returns-then-list-n c = no_room (marked_numbers c.args.s.now.words) _ _ c.size-n.ensures c.if-list-n.true
 
 pub list_all-requires : goal.list_all-requires
 list_all-requires c = omega (arith, c.size-n.ensures)
 
 pub returns : goal.returns
-returns c = in_front (marked_numbers c.args.s.words) c.args.list.now _ _ c.size-n.ensures (omega arith) c.list_all.ensures
+returns c = in_front (marked_numbers c.args.s.now.words) c.args.list.now _ _ c.size-n.ensures (omega arith) c.list_all.ensures

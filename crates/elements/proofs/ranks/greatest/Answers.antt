@@ -20,4 +20,4 @@ loop-i-preserved c = record {
 }
 
 pub returns : goal.returns
-returns c = descending_end _ _ _ _ c.loop-i.invariant.none (omega arith) _ c.no_marks.ensures
+returns c = descending_end _ _ _ _ c.loop-i.invariant.none (omega arith) _ c.none.ensures

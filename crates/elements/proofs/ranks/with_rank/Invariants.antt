@@ -12,7 +12,7 @@ pub record Down (es ws : List ℕ) (rank : ℕ) (out : List ℕ) (left : ℕ) : 
   pub ranking : Ranking es ws rank out left
 
 abbrev pub invariant-loop-left : goal.invariant-loop-left
-invariant-loop-left l = Down l.elements l.set l.rank l.words l.left
+invariant-loop-left l = Down l.elements l.s.words l.rank l.some.words l.left
 
 abbrev pub decreases-loop-left : goal.decreases-loop-left
 decreases-loop-left l = l.left

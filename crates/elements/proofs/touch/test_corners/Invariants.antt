@@ -12,7 +12,7 @@ pub record Told (d : ℕ) (h : Hyperplane) (ps : List Float) (es ws : List ℕ) 
   pub testing : AllTesting d h ps es ws s w
 
 abbrev pub invariant-loop-w : goal.invariant-loop-w
-invariant-loop-w l = Told l.d l.h l.points l.elements l.words l.s l.w
+invariant-loop-w l = Told l.d l.h l.points l.elements l.corners.words l.s l.w
 
 abbrev pub decreases-loop-w : goal.decreases-loop-w
 decreases-loop-w l = 8 - l.w

@@ -1,48 +1,17 @@
--- The hyperplanes that are left are sound exactly where all are, up to the first that is not.
-use Prim.Native.Nat.{ℕ, ◌<◌}
-use mathlib.Core.List.{List}
-use mathlib.Core.Path.{sym, ◌∙◌}
-use Rattle.rules.specs.Sound.{sound_plane}
-use Rattle.rules.specs.Files.{plane_in}
+-- All of them, by their numbers.
+use Rattle.std.proofs.Common.{◌∙◌, refl, get_or, arith}
+use Rattle.std.proofs.lemmas.Iterator.{YieldsList-from_range}
+use Rattle.std.proofs.lemmas.Iterator.Search.{all_from_yields_List}
 use borrow.Author.Rules.{rules}
-use Rattle.files.specs.declared.layout.Laid.{Laid}
-use Rattle.files.proofs.Standing.{no_plane_there, PlaneHere, plane_here}
-use Rattle.files.proofs.Judging.{Left, all_left, inside, left_on, left_no, left_none, hyperplanes_told, axes_fit, hyperplane_is}
+use Rattle.rules.specs.Sound.{sound_plane}
+use Rattle.files.specs.Judged.{PlaneJudged, no_plane_there}
+use Rattle.files.proofs.Judging.{by_numbers}
 use Rattle.files.proofs.judge.hyperplanes_sound.Goals as goal
 
--- the record of this turn
-here : (bytes : List ℕ) (laid : Laid) {at h : ℕ} (s : Left (plane_in laid.dimension) (sound_plane laid.dimension) bytes laid.planes_at laid.hyperplanes at h) → h < laid.hyperplanes
-    → PlaneHere laid.dimension bytes s.list s.end at h
-here bytes laid s h = plane_here laid.dimension bytes s.list s.end s.stands (inside (plane_in laid.dimension) (sound_plane laid.dimension) bytes s h)
-
-pub loop-h-init : goal.loop-h-init
-loop-h-init c = all_left (plane_in c.args.laid.dimension) (sound_plane c.args.laid.dimension) c.args.bytes.now _ _ c.args.laid.elements_at c.requires.table.planes c.requires.whole.plane_counted c.requires.whole.planes
-
-pub plane_at-plane-requires : goal.plane_at-plane-requires
-plane_at-plane-requires c = record { axes = axes_fit c.args.bytes.now c.args.laid c.requires; within = (here c.args.bytes.now c.args.laid c.loop-h.invariant (search rules)).within }
-
-pub returns-then-not-hyperplane_sound : goal.returns-then-not-hyperplane_sound
-returns-then-not-hyperplane_sound c = let s = c.loop-h.invariant in
-    let this = here c.args.bytes.now c.args.laid s (search rules) in
-    let tested = c.hyperplane_sound.ensures ∙ hyperplane_is c.args.laid.dimension c.args.bytes.now s.list s.end this _ c.plane_at-plane.ensures in
-    hyperplanes_told c.args.bytes.now c.args.laid s
-    (left_no (plane_in c.args.laid.dimension) (sound_plane c.args.laid.dimension) c.args.bytes.now s no_plane_there (search rules) (sym tested ∙ c.if-not-hyperplane_sound.true))
-
-pub overflow_add-at : goal.overflow_add-at
-overflow_add-at c = let w = (here c.args.bytes.now c.args.laid c.loop-h.invariant (search rules)).within in search rules
-
-pub overflow_mul-at : goal.overflow_mul-at
-overflow_mul-at c = let w = (here c.args.bytes.now c.args.laid c.loop-h.invariant (search rules)).within in search rules
-
-pub overflow_add-at-in-loop-h : goal.overflow_add-at-in-loop-h
-overflow_add-at-in-loop-h c = let w = (here c.args.bytes.now c.args.laid c.loop-h.invariant (search rules)).within in search rules
-
-pub loop-h-preserved : goal.loop-h-preserved
-loop-h-preserved c = let s = c.loop-h.invariant in
-    let this = here c.args.bytes.now c.args.laid s (search rules) in
-    let tested = c.hyperplane_sound.ensures ∙ hyperplane_is c.args.laid.dimension c.args.bytes.now s.list s.end this _ c.plane_at-plane.ensures in
-    left_on (plane_in c.args.laid.dimension) (sound_plane c.args.laid.dimension) c.args.bytes.now s _ no_plane_there (search rules) (sym tested ∙ c.if-not-hyperplane_sound.false) this.rest
-
 pub returns : goal.returns
-returns c = let s = c.loop-h.invariant in
-    hyperplanes_told c.args.bytes.now c.args.laid s (left_none (plane_in c.args.laid.dimension) (sound_plane c.args.laid.dimension) c.args.bytes.now s no_plane_there (search rules))
+returns c = record {
+  told = λ t w.
+      all_from_yields_List (λ v. sound_plane t.dimension (get_or t.planes v no_plane_there)) _ _ _ c.all.ensures.ran (YieldsList-from_range 0 c.args.laid.hyperplanes c.args.laid.hyperplanes refl (omega arith))
+      (λ x b q k. (search rules, (let j : PlaneJudged c.args.bytes.now c.args.laid x b = search rules in j.told t w)))
+      ∙ by_numbers (sound_plane t.dimension) no_plane_there t.planes c.args.laid.hyperplanes w.plane_counted;
+}

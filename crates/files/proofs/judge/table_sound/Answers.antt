@@ -21,20 +21,11 @@ returns-then-not-counts_fit c = counts_not _ _ c.counts_fit.ensures c.if-not-cou
 pub returns-then-not-widths_fit : goal.returns-then-not-widths_fit
 returns-then-not-widths_fit c = widths_not _ _ c.widths_fit.ensures c.if-not-widths_fit.true
 
-pub vertices_sound-requires : goal.vertices_sound-requires
-vertices_sound-requires c = fitting c.args.bytes.now c.args.laid c.requires.table c.requires.whole c.counts_fit.ensures c.if-not-counts_fit.false c.widths_fit.ensures c.if-not-widths_fit.false
-
 pub returns-then-not-vertices_sound : goal.returns-then-not-vertices_sound
 returns-then-not-vertices_sound c = vertices_not _ _ c.vertices_sound.ensures c.if-not-vertices_sound.true
 
-pub hyperplanes_sound-requires : goal.hyperplanes_sound-requires
-hyperplanes_sound-requires c = fitting c.args.bytes.now c.args.laid c.requires.table c.requires.whole c.counts_fit.ensures c.if-not-counts_fit.false c.widths_fit.ensures c.if-not-widths_fit.false
-
 pub returns-then-not-hyperplanes_sound : goal.returns-then-not-hyperplanes_sound
 returns-then-not-hyperplanes_sound c = hyperplanes_not _ _ c.hyperplanes_sound.ensures c.if-not-hyperplanes_sound.true
-
-pub rows_judged-requires : goal.rows_judged-requires
-rows_judged-requires c = fitting c.args.bytes.now c.args.laid c.requires.table c.requires.whole c.counts_fit.ensures c.if-not-counts_fit.false c.widths_fit.ensures c.if-not-widths_fit.false
 
 pub returns : goal.returns
 returns c = by_rows _ _ c.counts_fit.ensures c.widths_fit.ensures c.vertices_sound.ensures c.hyperplanes_sound.ensures

@@ -9,7 +9,6 @@ use Rattle.rules.specs.Bytes.{number_at}
 use Rattle.files.specs.Passed.{begins}
 use Rattle.files.proofs.Sizes.{begun_within}
 use Rattle.files.proofs.Passes.{no_element, Head, element_unfit, element_cut_off, element_ends}
-use borrow.Author.Rules.{rules}
 use Rattle.files.proofs.layout.element.Goals as goal
 
 -- a record that has begun has its first eight bytes
@@ -24,34 +23,19 @@ headed bytes at told so rank mark plane count = record { begun = sym told ∙ so
 pub returns-then-not-begins_with : goal.returns-then-not-begins_with
 returns-then-not-begins_with c = no_element c.args.bytes.now c.args.at (sym c.begins_with.ensures ∙ c.if-not-begins_with.true)
 
-pub one-rank-requires : goal.one-rank-requires
-one-rank-requires c = let w = within c.args.bytes.now c.args.at c.begins_with.ensures c.if-not-begins_with.false in search rules
-
-pub one-mark-requires : goal.one-mark-requires
-one-mark-requires c = let w = within c.args.bytes.now c.args.at c.begins_with.ensures c.if-not-begins_with.false in search rules
-
-pub two-plane-requires : goal.two-plane-requires
-two-plane-requires c = let w = within c.args.bytes.now c.args.at c.begins_with.ensures c.if-not-begins_with.false in search rules
-
-pub two-n-requires : goal.two-n-requires
-two-n-requires c = let w = within c.args.bytes.now c.args.at c.begins_with.ensures c.if-not-begins_with.false in search rules
-
 pub returns-then-not-head_fits : goal.returns-then-not-head_fits
-returns-then-not-head_fits c = let head = headed c.args.bytes.now c.args.at c.begins_with.ensures c.if-not-begins_with.false c.one-rank.ensures.value c.one-mark.ensures.value
-    c.two-plane.ensures.value c.two-n.ensures.value in
+returns-then-not-head_fits c = let head = headed c.args.bytes.now c.args.at c.begins_with.ensures c.if-not-begins_with.false c.number-rank.ensures.value c.number-mark.ensures.value
+    c.number-plane.ensures.value c.number-n.ensures.value in
     element_unfit _ _ _ _ _ _ head (sym c.head_fits.ensures ∙ c.if-not-head_fits.true)
-
-pub overflow_sub-bytes-2 : goal.overflow_sub-bytes-2
-overflow_sub-bytes-2 c = let w = within c.args.bytes.now c.args.at c.begins_with.ensures c.if-not-begins_with.false in search rules
 
 pub returns-then-bytes-at : goal.returns-then-bytes-at
 returns-then-bytes-at c = let w = within c.args.bytes.now c.args.at c.begins_with.ensures c.if-not-begins_with.false in
-    let head = headed c.args.bytes.now c.args.at c.begins_with.ensures c.if-not-begins_with.false c.one-rank.ensures.value c.one-mark.ensures.value
-    c.two-plane.ensures.value c.two-n.ensures.value in
+    let head = headed c.args.bytes.now c.args.at c.begins_with.ensures c.if-not-begins_with.false c.number-rank.ensures.value c.number-mark.ensures.value
+    c.number-plane.ensures.value c.number-n.ensures.value in
     element_cut_off _ _ _ _ _ _ head (omega arith)
 
 pub returns : goal.returns
 returns c = let w = within c.args.bytes.now c.args.at c.begins_with.ensures c.if-not-begins_with.false in
-    let head = headed c.args.bytes.now c.args.at c.begins_with.ensures c.if-not-begins_with.false c.one-rank.ensures.value c.one-mark.ensures.value
-    c.two-plane.ensures.value c.two-n.ensures.value in
+    let head = headed c.args.bytes.now c.args.at c.begins_with.ensures c.if-not-begins_with.false c.number-rank.ensures.value c.number-mark.ensures.value
+    c.number-plane.ensures.value c.number-n.ensures.value in
     element_ends _ _ _ _ _ _ head (sym c.head_fits.ensures ∙ c.if-not-head_fits.false) (omega arith)

@@ -1,20 +1,20 @@
--- As many as were passed stand together, up to where the next begins.
-use native.Mathlib.Omega.{arith}
-use Rattle.files.proofs.Passes.{one_broken, one_read, together_none, together_more, together_within, stopped, passed}
+-- Each step leaves one less: what the others tell is told of all of them.
+use Rattle.std.proofs.Common.{ℕ, suc, ◌+◌, ◌-◌, ◌<◌, ◌≡◌, subst, arith}
+use Rattle.std.specs.Prelude.{Option, Some, None}
 use borrow.Author.Rules.{rules}
+use Rattle.files.specs.Passed.{Repeats}
 use Rattle.files.proofs.layout.many_of.Goals as goal
 
-pub loop-i-init : goal.loop-i-init
-loop-i-init c = record { bound = omega arith; passed = together_none _ _ _ c.requires.within }
+module _ (step : ℕ → Option ℕ → Type 0) (at n i : ℕ) (h : i < n) where
+  one_less : (p : Option ℕ) → Repeats step at (suc (n - (i + 1))) p → Repeats step at (n - i) p
+  one_less p r = subst (λ (k : ℕ). Repeats step at k p) (let q : suc (n - (i + 1)) ≡ n - i = omega (arith, h) in q) r
 
-pub one_of-requires : goal.one_of-requires
-one_of-requires c = record { within = together_within _ _ _ _ _ c.loop-i.invariant.passed; dimension = c.requires.dimension }
+pub returns-in_err-end : goal.returns-in_err-end
+returns-in_err-end g c = c.loop-passed.invariant.rest _ (one_less _ c.loop-passed.end c.args.n c.loop-passed._passed (search rules) _ (None, c.in_err-end.ensures, c.from_residual.ensures))
 
-pub returns-in_default : goal.returns-in_default
-returns-in_default c = stopped _ _ _ _ _ _ c.loop-i.invariant.passed (one_broken _ _ _ _ c.one_of.ensures c.in_default.is) c.loop-i-test.true
-
-pub loop-i-preserved : goal.loop-i-preserved
-loop-i-preserved c = record { bound = search rules; passed = together_more _ _ _ _ _ _ c.loop-i.invariant.passed (one_read _ _ _ _ _ c.one_of.ensures c.in-At.is) }
-
-pub returns : goal.returns
-returns c = passed _ _ _ _ _ _ c.loop-i.invariant.passed (omega arith)
+pub loop-passed-preserved : goal.loop-passed-preserved
+loop-passed-preserved g c = record {
+  bound = search rules;
+  ready = c.requires.again c.loop-passed.end c.in_ok-end.end c.loop-passed.invariant.ready c.in_ok-end.ensures;
+  rest = λ p r. c.loop-passed.invariant.rest p (one_less _ c.loop-passed.end c.args.n c.loop-passed._passed (search rules) p (Some c.in_ok-end.end, c.in_ok-end.ensures, r));
+}

@@ -1,10 +1,12 @@
--- As many as were passed stand together, up to where the next begins.
+-- What the steps that are left tell, all of them told.
 use Prim.Native.Nat.{◌≤◌, ◌-◌}
-use Rattle.files.specs.Passed.{reader, Together}
+use Rattle.std.specs.Prelude.{ℕ, Option}
+use Rattle.files.specs.Passed.{Repeats}
 use Rattle.files.proofs.layout.many_of.Given as goal
 
-abbrev pub invariant-loop-i : goal.invariant-loop-i
-invariant-loop-i l = record { bound : l.i ≤ l.n; passed : Together (reader l.kind l.d) l.bytes l.at l.i l.end }
-
-abbrev pub decreases-loop-i : goal.decreases-loop-i
-decreases-loop-i l = l.n - l.i
+abbrev pub invariant-loop-passed : goal.invariant-loop-passed
+invariant-loop-passed g l = record {
+  bound : l._passed ≤ l.n;
+  ready : goal.F-pre g l.step l.end;
+  rest : (p : Option ℕ) → Repeats (λ place q. goal.F-post g l.step place q) l.end (l.n - l._passed) p → Repeats (λ place q. goal.F-post g l.step place q) l.at l.n p;
+}

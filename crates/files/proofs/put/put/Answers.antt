@@ -1,9 +1,6 @@
 -- Slice by slice; what the bytes say is what each part asks.
-use Rattle.files.proofs.PutTable.{counts_ready, points_ready, planes_ready, elements_ready, table_put}
+use Rattle.files.proofs.PutTable.{points_ready, planes_ready, elements_ready, table_put}
 use Rattle.files.proofs.put.put.Goals as goal
-
-pub put_counts-requires : goal.put_counts-requires
-put_counts-requires c = counts_ready c.requires
 
 pub put_elements-requires : goal.put_elements-requires
 put_elements-requires c = elements_ready c.requires

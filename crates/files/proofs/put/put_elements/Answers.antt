@@ -32,4 +32,4 @@ pub loop-i-preserved : goal.loop-i-preserved
 loop-i-preserved c = element_put c.loop-i.invariant (search rules) c.row_at-row.ensures c.wide.ensures.value c.put_row.ensures
 
 pub returns : goal.returns
-returns c = all_put _ _ _ _ _ _ _ c.loop-i.invariant (search rules) 0 c.clear_numbers.ensures
+returns c = all_put _ _ _ _ _ _ _ c.loop-i.invariant (search rules) 0 _ (c.fill.ensures.after (λ y q. q))

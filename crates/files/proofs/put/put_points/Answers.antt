@@ -1,4 +1,5 @@
 -- The invariant: the rows so far, and the run goes on at the next record.
+use lib.Ieee
 use native.Mathlib.Omega.{arith}
 use borrow.Author.Rules.{rules}
 use Rattle.rules.specs.Floats.{plus_zero}
@@ -32,4 +33,5 @@ pub loop-i-preserved : goal.loop-i-preserved
 loop-i-preserved c = point_put c.loop-i.invariant c.requires.d_le_dimensions (search rules) c.point_at-p.ensures c.put_point.ensures
 
 pub returns : goal.returns
-returns c = all_put _ _ _ _ _ _ _ c.loop-i.invariant (search rules) plus_zero c.clear_floats.ensures
+unfolding lib.Ieee.of_bits
+returns c = all_put _ _ _ _ _ _ _ c.loop-i.invariant (search rules) plus_zero _ (c.fill.ensures.after (λ y q. q))

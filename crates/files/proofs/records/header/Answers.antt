@@ -3,4 +3,4 @@ use Rattle.files.proofs.SavedRecords.{header_put}
 use Rattle.files.proofs.records.header.Goals as goal
 
 pub returns : goal.returns
-returns c = header_put c.args.counts.now c.requires.counts c.mark-end.ensures c.numbers.ensures
+returns c = header_put c.args.counts.now c.requires.counts c.word-end.ensures c.numbers.ensures

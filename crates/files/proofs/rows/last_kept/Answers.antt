@@ -1,5 +1,5 @@
 -- What has been met is what a search from row x on gives, in the rows of the table that the bytes say.
-use Prim.Native.Nat.{ℕ, ◌-◌, ◌<◌, ◌≤◌}
+use Prim.Native.Nat.{ℕ, suc, ◌-◌, ◌<◌, ◌≤◌}
 use mathlib.Core.Bool.{true, false}
 use mathlib.Core.Logic.{inl, inr}
 use mathlib.Core.Path.{◌≡◌, sym, ap, subst, ◌∙◌}
@@ -12,9 +12,9 @@ use Rattle.rules.specs.Held.{Fits, elements_of}
 use Rattle.rules.specs.Limits.{desk}
 use Rattle.rules.specs.Lists.{alike}
 use Rattle.rules.specs.Table.{Table, element_count}
-use Rattle.space.proofs.Indexing.{Met, met_start, met_less, met_on, met_end}
+use Rattle.space.proofs.Indexing.{Met, met_start, met_on, met_end}
 use Rattle.space.specs.Chains.{key_of}
-use Rattle.files.proofs.KeptRows.{one_table, says_fits, says_few, says_room, kept_ready, kept_own}
+use Rattle.files.proofs.KeptRows.{link_of, link_named, one_table, says_fits, says_few, says_room, kept_ready, kept_own}
 use Rattle.files.proofs.rows.last_kept.Goals as goal
 use Rattle.files.proofs.rows.last_kept.Goals.{then-same_as_kept, else-same_as_kept}
 
@@ -26,7 +26,7 @@ loop-x-init c = λ t w.
 
 pub same_as_kept-requires : goal.same_as_kept-requires
 same_as_kept-requires c =
-    let met : Met (elements_of desk c.requires.says.table) c.args.n c.args.row.now c.loop-x.met c.loop-x.x =
+    let met : Met (elements_of desk c.requires.says.table) c.args.n c.args.row.now (link_of c.loop-x.met) c.loop-x.x =
     c.loop-x.invariant c.requires.says.table c.requires.says.whole in
     let m = met.room in
     kept_ready c.args.bytes.now c.args.laid c.requires.says.table (c.requires.keeps c.requires.says.table c.requires.says.whole) (says_fits c.requires.says) (omega (arith, m, c.loop-x-test.true))
@@ -34,7 +34,7 @@ same_as_kept-requires c =
 
 pub overflow_add-x : goal.overflow_add-x
 overflow_add-x c =
-    let met : Met (elements_of desk c.requires.says.table) c.args.n c.args.row.now c.loop-x.met c.loop-x.x =
+    let met : Met (elements_of desk c.requires.says.table) c.args.n c.args.row.now (link_of c.loop-x.met) c.loop-x.x =
     c.loop-x.invariant c.requires.says.table c.requires.says.whole in
     let m = met.room in
     let n = says_room c.requires.says c.requires.few in
@@ -42,7 +42,7 @@ overflow_add-x c =
 
 pub offset_bounds-index-x : goal.offset_bounds-index-x
 offset_bounds-index-x c =
-    let met : Met (elements_of desk c.requires.says.table) c.args.n c.args.row.now c.loop-x.met c.loop-x.x =
+    let met : Met (elements_of desk c.requires.says.table) c.args.n c.args.row.now (link_of c.loop-x.met) c.loop-x.x =
     c.loop-x.invariant c.requires.says.table c.requires.says.whole in
     let m = met.room in
     let n = says_room c.requires.says c.requires.few in
@@ -50,21 +50,14 @@ offset_bounds-index-x c =
 
 pub bounds-index-x : goal.bounds-index-x
 bounds-index-x c =
-    let met : Met (elements_of desk c.requires.says.table) c.args.n c.args.row.now c.loop-x.met c.loop-x.x =
+    let met : Met (elements_of desk c.requires.says.table) c.args.n c.args.row.now (link_of c.loop-x.met) c.loop-x.x =
     c.loop-x.invariant c.requires.says.table c.requires.says.whole in
     let m = met.room in
     let n = says_room c.requires.says c.requires.few in
     omega (arith, m, n, c.loop-x-test.true)
 
-pub loop-x-smaller : goal.loop-x-smaller
-loop-x-smaller c =
-    let met : Met (elements_of desk c.requires.says.table) c.args.n c.args.row.now c.loop-x.met c.loop-x.x =
-    c.loop-x.invariant c.requires.says.table c.requires.says.whole in
-    met_less (elements_of desk c.requires.says.table) c.args.n c.args.row.now c.args.index.now c.loop-x.met c.loop-x.x c.wide-x-in-loop-x.result (c.requires.earlier c.requires.says.table c.requires.says.whole) met c.loop-x-test.true
-    c.wide-x-in-loop-x.ensures.value
-
 pub returns : goal.returns
-returns c = record { found = λ t w. met_end (elements_of desk t) c.args.n c.args.row.now c.loop-x.met c.loop-x.x (c.loop-x.invariant t w) (omega (arith, c.loop-x-test.false)) }
+returns c = record { found = λ t w. link_named c.loop-x.met ∙ met_end (elements_of desk t) c.args.n c.args.row.now (link_of c.loop-x.met) c.loop-x.x (c.loop-x.invariant t w) (omega (arith, c.loop-x-test.false)) }
 
 pub loop-x-preserved : goal.loop-x-preserved
 loop-x-preserved c = λ t w.
@@ -73,9 +66,10 @@ loop-x-preserved c = λ t w.
     let own = kept_own c.args.bytes.now c.args.laid t (c.requires.keeps t w) (subst (Fits desk) (one_table c.requires.says.whole w) (says_fits c.requires.says)) h
     (subst (λ (u : Table). c.args.n ≤ element_count u) (one_table c.requires.says.whole w) (says_few c.requires.says c.requires.few)) in
     let same = c.same_as_kept.ensures ∙ ap (alike eqb c.args.row.now) own in
-    let on = met_on (elements_of desk t) c.args.n c.args.row.now c.args.index.now c.loop-x.met c.loop-x.x c.wide-x-in-loop-x.result (c.requires.earlier t w) m c.loop-x-test.true c.wide-x-in-loop-x.ensures.value
-    {P = c.same_as_kept.result ≡ true} {Q = c.same_as_kept.result ≡ false} c.if-same_as_kept.met in
+    let on = met_on (elements_of desk t) c.args.n c.args.row.now c.args.index.now (link_of c.loop-x.met) c.loop-x.x c.wide-x-in-loop-x.result (c.requires.earlier t w) m c.loop-x-test.true c.wide-x-in-loop-x.ensures.value
+    {P = c.same_as_kept.result ≡ true} {Q = c.same_as_kept.result ≡ false} (link_of c.if-same_as_kept.met) in
+    let one_more : suc (c.loop-x.x - 1) ≡ c.loop-x.x = omega (arith, c.loop-x-test.true) in
     elim c.if-same_as_kept.branch [
-      | then-same_as_kept w ↦ on (inl (w.if-same_as_kept.true, w.met-is)) (λ p. sym same ∙ p) (λ q. sym same ∙ q)
-      | else-same_as_kept w ↦ on (inr (w.if-same_as_kept.false, w.met-is)) (λ p. sym same ∙ p) (λ q. sym same ∙ q)
+      | then-same_as_kept w ↦ on (inl (w.if-same_as_kept.true, ap link_of w.met-is ∙ one_more)) (λ p. sym same ∙ p) (λ q. sym same ∙ q)
+      | else-same_as_kept w ↦ on (inr (w.if-same_as_kept.false, ap link_of w.met-is)) (λ p. sym same ∙ p) (λ q. sym same ∙ q)
     ]

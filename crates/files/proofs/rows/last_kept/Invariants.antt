@@ -4,10 +4,11 @@ use Rattle.rules.specs.Limits.{desk}
 use Rattle.rules.specs.Table.{Table}
 use Rattle.space.proofs.Indexing.{Met}
 use Rattle.files.specs.Laid.{Whole}
+use Rattle.files.proofs.KeptRows.{link_of}
 use Rattle.files.proofs.rows.last_kept.Given as goal
 
 abbrev pub invariant-loop-x : goal.invariant-loop-x
-invariant-loop-x l = (t : Table) → Whole l.bytes l.laid t → Met (elements_of desk t) l.n l.row l.met l.x
+invariant-loop-x l = (t : Table) → Whole l.bytes l.laid t → Met (elements_of desk t) l.n l.row (link_of l.met) l.x
 
 abbrev pub decreases-loop-x : goal.decreases-loop-x
 decreases-loop-x l = l.x

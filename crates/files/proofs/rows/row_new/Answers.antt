@@ -10,18 +10,18 @@ use lib.Seq.{take_all}
 use Rattle.rules.specs.Held.{elements_of}
 use Rattle.rules.specs.Limits.{desk}
 use Rattle.rules.specs.Lists.{alike, find, rows}
-use Rattle.space.specs.Chains.{Indexed, key_of, new_start, number_of}
-use Rattle.space.proofs.Indexing.{index_joined, number_less}
+use Rattle.space.specs.Chains.{Indexed, key_of, new_start}
+use Rattle.space.proofs.Indexing.{index_joined}
 use Rattle.soundness.proofs.Distinct.{row_met, row_unmet}
-use Rattle.files.proofs.KeptRows.{says_room}
+use Rattle.files.proofs.KeptRows.{met_some, met_none, says_room}
 use Rattle.files.proofs.rows.row_new.Goals as goal
 
-pub returns-then-last_kept-ne0 : goal.returns-then-last_kept-ne0
-returns-then-last_kept-ne0 c = record {
+pub returns-then-is_some : goal.returns-then-is_some
+returns-then-is_some c = record {
   told = λ t w.
       let es = elements_of desk t in
       record {
-        told = row_met es c.args.n _ (number_less c.last_kept.result c.if-last_kept-ne0.true ∙ c.last_kept.ensures.found t w ∙ ap (λ (r : List ℕ). find (alike eqb r) (rows c.args.n 36 es)) (c.requires.own t w));
+        told = row_met es c.args.n _ (met_some c.last_kept.result c.if-is_some.ensures ∙ c.last_kept.ensures.found t w ∙ ap (λ (r : List ℕ). find (alike eqb r) (rows c.args.n 36 es)) (c.requires.own t w));
         indexed = λ q. absurd (false≢true q);
         joins = λ q. absurd (false≢true q);
         stays = λ q. refl;
@@ -41,7 +41,7 @@ returns c = let key : c.key_of-key.result ≡ key_of c.args.row.now = c.key_of-k
           let own = key ∙ ap key_of (c.requires.own t w) in
           record {
             told = row_unmet es c.args.n
-                (sym (ap number_of c.if-last_kept-ne0.false) ∙ c.last_kept.ensures.found t w ∙ ap (λ (r : List ℕ). find (alike eqb r) (rows c.args.n 36 es)) (c.requires.own t w));
+                (sym (met_none c.last_kept.result c.if-is_some.ensures) ∙ c.last_kept.ensures.found t w ∙ ap (λ (r : List ℕ). find (alike eqb r) (rows c.args.n 36 es)) (c.requires.own t w));
             indexed = λ q.
                 subst (λ (l : List ℕ). Indexed es (c.args.n + 1) l) (sym c.join.ensures)
                 (index_joined es c.args.n c.args.index.now c.key_of-key.result (c.requires.search.earlier t w) own c.key_of-key.ensures.bound (omega (arith, room)));

@@ -30,10 +30,6 @@ pub keep-requires : goal.keep-requires
 keep-requires c = let low = place_low c.requires c.loop-i.invariant c.loop-i-test.true in
     record { room = in_room_lem c.requires c.loop-i.invariant c.loop-i-test.true; low = omega (arith, low, c.loop-i.invariant.from) }
 
-pub overflow_add-k : goal.overflow_add-k
-overflow_add-k c = let room = in_room_lem c.requires c.loop-i.invariant c.loop-i-test.true in
-    omega (arith, c.loop-i.invariant.few, room, c.one_if_corner-k.ensures.most)
-
 pub overflow_add-at : goal.overflow_add-at
 overflow_add-at c =
     let ready : RowReady c.args.bytes.now c.loop-i.at =

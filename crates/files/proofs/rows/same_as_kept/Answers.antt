@@ -1,25 +1,14 @@
 -- Rows that differ in the first number of a boundary are not equal; otherwise the record is read again, and its row compared.
 use Prim.Native.Nat.{ℕ, ◌+◌}
-use mathlib.Core.List.{List}
-use mathlib.Core.Path.{sym, ap, ap₂, subst, ◌∙◌}
+use mathlib.Core.Path.{ap, ap₂, ◌∙◌}
 use native.Mathlib.Nat.{le_of_eq}
 use lib.Dec.{eqb}
-use lib.ListN.{length, get_or}
+use lib.ListN.{length}
 use lib.Seq.{take_all}
 use Rattle.rules.specs.Lists.{alike, pad}
-use Rattle.rules.proofs.Laws.{refute}
-use Rattle.rules.proofs.Selves.{alike_eq}
-use Rattle.files.specs.Entries.{row_at, RowReady}
-use Rattle.files.specs.Kept.{kept_row}
+use Rattle.files.specs.Entries.{row_at}
 use Rattle.files.proofs.KeptRows.{read_long}
 use Rattle.files.proofs.rows.same_as_kept.Goals as goal
-
-pub returns-then-row-kept : goal.returns-then-row-kept
-returns-then-row-kept c = let old = kept_row c.args.bytes.now c.args.laid c.args.kept.now c.args.x in
-    sym (refute (alike eqb c.args.row.now old) (λ e. c.if-row-kept.true (ap (λ (r : List ℕ). get_or r 4 0) (alike_eq c.args.row.now old e) ∙ sym c.requires.first)))
-
-pub row_at-old-requires : goal.row_at-old-requires
-row_at-old-requires c = subst (λ (k : ℕ). RowReady c.args.bytes.now (c.args.laid.elements_at + k)) (sym c.wide.ensures.value) c.requires.ready
 
 pub returns : goal.returns
 returns c = let read = c.row_at-old.ensures ∙ ap (λ (k : ℕ). pad 0 36 (row_at (c.args.laid.elements_at + k) c.args.bytes.now)) c.wide.ensures.value in

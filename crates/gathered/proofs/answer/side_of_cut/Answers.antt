@@ -1,7 +1,6 @@
 -- A removed side is none; a kept one that is the element's own boundary is the element, and any other is a call of rule 8.
 use Rattle.gathered.proofs.SideAdded.{reads_ask, including_asks, side_asks, own_asks, side_removed, side_own, side_kept}
 use mathlib.Core.Path.{sym, ◌∙◌}
-use native.Mathlib.Omega.{arith}
 use Rattle.gathered.proofs.answer.side_of_cut.Goals as goal
 
 pub returns-then-not-is_kept : goal.returns-then-not-is_kept
@@ -16,18 +15,18 @@ is_primordial-mark-requires c = reads_ask c.requires
 pub include-requires : goal.include-requires
 include-requires c = including_asks c.requires
 
-pub bounds-set-33 : goal.bounds-set-33
-bounds-set-33 c = omega (arith, (c.include.ensures.sized 32 c.requires.fit.sized).long)
+pub as_slice-numbers-requires : goal.as_slice-numbers-requires
+as_slice-numbers-requires c = c.include.ensures.sized 32 c.requires.fit.sized
 
 pub is_own-requires : goal.is_own-requires
 is_own-requires c = own_asks c.requires
 
 pub returns-then-is_own : goal.returns-then-is_own
-returns-then-is_own c = side_own c.requires _ _ c.wide-n.ensures.value (sym c.is_kept.ensures ∙ c.if-not-is_kept.false) c.include.ensures (c.is_own.ensures.only c.if-is_own.true)
+returns-then-is_own c = side_own c.requires _ _ c.as_slice-numbers.ensures (sym c.is_kept.ensures ∙ c.if-not-is_kept.false) c.include.ensures (c.is_own.ensures.only c.if-is_own.true)
 
 pub add_polytope-requires : goal.add_polytope-requires
-add_polytope-requires c = side_asks c.requires _ c.include.ensures _ c.wide-n.ensures.value
+add_polytope-requires c = side_asks c.requires _ c.include.ensures _ c.as_slice-numbers.ensures
 
 pub returns : goal.returns
-returns c = side_kept c.requires _ _ _ _ c.wide-n.ensures.value (sym c.is_kept.ensures ∙ c.if-not-is_kept.false) c.plane_of-plane.ensures c.is_primordial-mark.ensures c.include.ensures
+returns c = side_kept c.requires _ _ _ _ c.as_slice-numbers.ensures (sym c.is_kept.ensures ∙ c.if-not-is_kept.false) c.plane_of-plane.ensures c.is_primordial-mark.ensures c.include.ensures
     c.add_polytope.ensures.added c.add_polytope.ensures.index

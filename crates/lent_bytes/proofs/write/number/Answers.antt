@@ -1,20 +1,21 @@
--- The invariant: the bytes of what is left, put behind those that stand there, make the number.
-use mathlib.Core.Path.{refl}
+-- The bytes of what is left, put behind those that stand in the part, make the number.
 use native.Mathlib.Omega.{arith}
 use lib.ListN.{length-set}
 use borrow.Author.Rules.{rules}
-use Rattle.lent_bytes.proofs.Rests.{lows_left, next_low, no_low}
+use Rattle.rules.proofs.ByteLaws.{bytes_long}
+use Rattle.lent_bytes.proofs.Puts.{put_part, whole_part}
+use Rattle.lent_bytes.proofs.Rests.{next_low, no_low}
 use Rattle.lent_bytes.proofs.write.number.Goals as goal
 
-pub loop-i-init : goal.loop-i-init
-loop-i-init c = record { within = search rules; long = refl; rest = lows_left _ _ c.args.k c.args.n }
-
-pub loop-i-preserved : goal.loop-i-preserved
-loop-i-preserved c = record {
+pub loop-byte-preserved : goal.loop-byte-preserved
+loop-byte-preserved c = record {
   within = search rules;
   long = simp length-set (omega arith);
-  rest = next_low c.args.k c.loop-i.i c.loop-i.left c.loop-i.invariant.rest (search rules);
+  rest = next_low c.args.k c.loop-byte.byte-index c.loop-byte.left c.loop-byte.invariant.rest (search rules);
 }
 
 pub returns : goal.returns
-returns c = no_low c.args.k c.loop-i.i c.loop-i.left c.loop-i.invariant.rest (omega arith)
+returns c =
+    let long = bytes_long c.args.k c.args.n in
+    put_part c.args.room.now c.loop-byte.byte-items _ c.args.at c.args.k _ (search rules) long (omega arith)
+    (whole_part (omega (arith, long)) (no_low c.args.k c.loop-byte.byte-index c.loop-byte.left c.loop-byte.invariant.rest (omega arith)))

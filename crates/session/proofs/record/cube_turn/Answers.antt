@@ -4,20 +4,23 @@ use lib.Dec.{lit≤}
 use Rattle.session.proofs.Turns.{cube_long, cube_counts, cube_made, cube_refused}
 use Rattle.session.proofs.record.cube_turn.Goals as goal
 
-pub one-d-requires : goal.one-d-requires
-one-d-requires c = let l = cube_long c.args.input.now c.requires.asked in
+pub number-d-requires : goal.number-d-requires
+number-d-requires c = let l = cube_long c.args.input.now c.requires.asked in
     omega (arith, l)
 
 pub float-radius-requires : goal.float-radius-requires
 float-radius-requires c = cube_long c.args.input.now c.requires.asked
 
-pub counted-line-requires : goal.counted-line-requires
-counted-line-requires c = record { name = lit≤ tt; counts = cube_counts _ _ _ _ _ c.with_primordial_cube_radius-no.ensures c.if-no-eq0.true; room = c.requires.room }
+pub counted-requires : goal.counted-requires
+counted-requires c = record { name = lit≤ tt; counts = cube_counts _ _ _ _ _ c.with_primordial_cube_radius.ensures c.in-Ok.is; room = c.requires.room }
 
-pub returns-then-no-eq0 : goal.returns-then-no-eq0
-returns-then-no-eq0 c = cube_made c.args.input.now _ _ c.args.stands _ _ _ _ _ c.one-d.ensures.value c.float-radius.ensures c.with_primordial_cube_radius-no.ensures _
-    c.if-no-eq0.true c.counted-line.ensures
+pub refused-requires : goal.refused-requires
+refused-requires c = c.requires.room
 
-pub returns : goal.returns
-returns c = cube_refused c.args.input.now _ _ c.args.stands _ _ _ _ _ c.one-d.ensures.value c.float-radius.ensures c.with_primordial_cube_radius-no.ensures _
-    c.if-no-eq0.false c.numbered-line.ensures
+pub returns-in-Ok : goal.returns-in-Ok
+returns-in-Ok c = cube_made _ _ _ _ _ c.with_primordial_cube_radius.ensures c.args.input.now _ _ c.args.stands c.number-d.ensures.value c.float-radius.ensures _
+    c.in-Ok.is c.counted.ensures
+
+pub returns-in-Err : goal.returns-in-Err
+returns-in-Err c = cube_refused _ _ _ _ _ c.with_primordial_cube_radius.ensures c.args.input.now _ _ c.args.stands c.number-d.ensures.value c.float-radius.ensures _
+    _ c.in-Err.is c.refused.ensures

@@ -3,14 +3,14 @@ use mathlib.Core.Path.{◌≡◌, sym, ◌∙◌}
 use mathlib.Core.Bool.{Bool, true, false≢true}
 use Rattle.rules.specs.Limits.{desk}
 use Rattle.rules.specs.Memory.{sound_memory}
-use Rattle.rules.specs.Held.{memory_of}
+use Rattle.space.specs.Lent.{lent}
 use Rattle.soundness.proofs.AskedOnce.{counts_long, asked_three, asked_sound}
 use Rattle.soundness.proofs.asked.divider_asked.Goals as goal
 
 pub returns-then-not-memory_indexed : goal.returns-then-not-memory_indexed
 returns-then-not-memory_indexed c =
     let isSound : Bool =
-    sound_memory desk (memory_of c.args.counts.now c.args.points.now c.args.planes.now c.args.elements.now) in
+    sound_memory desk (lent c.args.memory) in
     let told : c.memory_indexed.result ≡ isSound =
     c.memory_indexed.ensures.told in
     let no = sym told ∙ c.if-not-memory_indexed.true in
@@ -19,7 +19,7 @@ returns-then-not-memory_indexed c =
 pub sound_asked-requires : goal.sound_asked-requires
 sound_asked-requires c =
     let isSound : Bool =
-    sound_memory desk (memory_of c.args.counts.now c.args.points.now c.args.planes.now c.args.elements.now) in
+    sound_memory desk (lent c.args.memory) in
     let told : c.memory_indexed.result ≡ isSound =
     c.memory_indexed.ensures.told in
     let is_sound : isSound ≡ true =
@@ -29,7 +29,7 @@ sound_asked-requires c =
 pub returns : goal.returns
 returns c =
     let isSound : Bool =
-    sound_memory desk (memory_of c.args.counts.now c.args.points.now c.args.planes.now c.args.elements.now) in
+    sound_memory desk (lent c.args.memory) in
     let told : c.memory_indexed.result ≡ isSound =
     c.memory_indexed.ensures.told in
     let is_sound : isSound ≡ true =

@@ -1,11 +1,15 @@
 -- The answer is read off the tests that were taken: of the count, and of the numbers and the whole as the rank asks.
-use Prim.Native.Nat.{ℕ, ◌≤◌, ◌<◌}
+use Prim.Native.Nat.{ℕ, ◌+◌, ◌≤◌, ◌<◌}
 use mathlib.Core.Bool.{false, false≢true}
 use mathlib.Core.List.{List}
-use mathlib.Core.Path.{refl}
+use mathlib.Core.Path.{refl, ap, ◌∙◌}
 use native.Mathlib.Omega.{arith}
 use borrow.Author.Tests.{le-ltb, lt-ltb}
+use Rattle.std.proofs.lemmas.Slice.{between_is}
+use Rattle.std.proofs.lemmas.List.Edits.{length-between}
+use Rattle.rules.specs.Limits.{desk}
 use Rattle.space.specs.Closed.{few}
+use Rattle.soundness.specs.Words.{few_words, face_words}
 use Rattle.soundness.specs.Known.{known_rows}
 use Rattle.soundness.proofs.BoundaryLoops.{boundary_by, boundary_few, boundary_face, boundary_body}
 use Rattle.soundness.proofs.FaceLoops.{unmet_next}
@@ -34,8 +38,7 @@ returns-then-rank-ne2 c =
 
 pub few_fits-requires : goal.few_fits-requires
 few_fits-requires c = record {
-  part = record { order = omega arith; end = c.requires.end };
-  size = omega (arith, c.requires.size);
+  size = let l = length-between c.args.words.now c.args.at (c.args.at + c.args.n) c.requires.end in omega (arith, l, c.requires.size);
   spaced = c.requires.spaced;
   in_room = c.requires.in_room;
   edges = c.requires.edges;
@@ -48,14 +51,14 @@ returns-then-n-few_edges c =
     known_rows c.args.earlier.now c.args.spacing in
     record {
       told = boundary_few known c.args.words.now c.args.at c.args.n c.args.d c.args.e.0 c.args.rank c.requires.end c.if-rank-ne2.false (lt-ltb _ _ c.if-n-rank.false)
-          (let z : c.args.n ≤ few c.args.d = omega (arith, c.if-n-few_edges.true, c.few_edges.ensures) in z) c.few_fits.ensures.told;
+          (let z : c.args.n ≤ few c.args.d = omega (arith, c.if-n-few_edges.true, c.few_edges.ensures) in z)
+          (c.few_fits.ensures.told ∙ ap (few_words desk known c.args.e.0) (between_is c.args.words.now c.args.at (c.args.at + c.args.n)));
       unmet = c.few_fits.ensures.unmet;
     }
 
 pub face_fits-requires : goal.face_fits-requires
 face_fits-requires c = record {
-  part = record { order = omega arith; end = c.requires.end };
-  size = omega (arith, c.requires.size);
+  size = let l = length-between c.args.words.now c.args.at (c.args.at + c.args.n) c.requires.end in omega (arith, l, c.requires.size);
   spaced = c.requires.spaced;
   in_room = c.requires.in_room;
   edges = c.requires.edges;
@@ -68,6 +71,7 @@ returns c =
     known_rows c.args.earlier.now c.args.spacing in
     record {
       told = boundary_face known c.args.words.now c.args.at c.args.n c.args.d c.args.e.0 c.args.rank c.requires.end c.if-rank-ne2.false (lt-ltb _ _ c.if-n-rank.false)
-          (let z : few c.args.d < c.args.n = omega (arith, c.if-n-few_edges.false, c.few_edges.ensures) in z) c.face_fits.ensures.told;
+          (let z : few c.args.d < c.args.n = omega (arith, c.if-n-few_edges.false, c.few_edges.ensures) in z)
+          (c.face_fits.ensures.told ∙ ap (face_words desk known c.args.e.0) (between_is c.args.words.now c.args.at (c.args.at + c.args.n)));
       unmet = c.face_fits.ensures.unmet;
     }

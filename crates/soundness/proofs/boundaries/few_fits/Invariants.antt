@@ -1,7 +1,6 @@
 -- The numbers that are left fit exactly when all do, until one does not; the ends of those before are met.
 use Prim.Native.Nat.{ℕ, ◌-◌}
 use mathlib.Core.List.{List}
-use lib.ListN.{drop, take}
 use Rattle.space.proofs.EndsCounted.{Round}
 use Rattle.soundness.specs.Known.{known_rows}
 use Rattle.soundness.specs.Words.{stamp_of}
@@ -9,12 +8,12 @@ use Rattle.soundness.proofs.EdgesRead.{Numbers}
 use Rattle.soundness.proofs.boundaries.few_fits.Given as goal
 
 -- up to place i the numbers fit, and the ends of their edges are met
-pub record SoFar (es ws : List ℕ) (from to e : ℕ) (met : List ℕ) (stamp low twice i : ℕ) : Type 0 where
-  pub numbers : Numbers es ws from to e stamp low i
-  pub round : Round es (drop from (take to ws)) (stamp_of e) met twice (i - from)
+pub record SoFar (es edges : List ℕ) (e : ℕ) (met : List ℕ) (stamp low twice i : ℕ) : Type 0 where
+  pub numbers : Numbers es edges e stamp low i
+  pub round : Round es edges (stamp_of e) met twice i
 
-abbrev pub invariant-loop-i : goal.invariant-loop-i
-invariant-loop-i l = SoFar (known_rows l.earlier l.spacing) l.words l.from l.to l.e.0 l.met l.stamp l.low l.twice l.i
+abbrev pub invariant-loop-word : goal.invariant-loop-word
+invariant-loop-word l = SoFar (known_rows l.earlier l.spacing) l.edges l.e.0 l.met l.stamp l.low l.twice l.word-index
 
-abbrev pub decreases-loop-i : goal.decreases-loop-i
-decreases-loop-i l = l.to - l.i
+abbrev pub decreases-loop-word : goal.decreases-loop-word
+decreases-loop-word l = l.word-index-end - l.word-index

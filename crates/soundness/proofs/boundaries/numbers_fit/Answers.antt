@@ -1,24 +1,31 @@
 -- The numbers that are left fit, from the least that the next may be, exactly when all do, until one does not.
 use Rattle.soundness.proofs.BoundaryFits.{fits_start, fits_go, fits_no, fits_end}
 use Rattle.soundness.specs.Known.{known_rows}
-use mathlib.Core.Path.{sym, ◌∙◌}
+use Rattle.soundness.specs.Words.{numbers_fit}
+use Rattle.rules.specs.Limits.{desk}
+use Rattle.std.specs.List.{between}
+use Rattle.std.proofs.lemmas.Slice.{between_is}
+use mathlib.Core.Path.{sym, ap, ◌∙◌}
 use borrow.Author.Rules.{rules}
 use Rattle.soundness.proofs.boundaries.numbers_fit.Goals as goal
 
-pub loop-i-init : goal.loop-i-init
-loop-i-init c = record { bound = search rules; rest = fits_start (known_rows c.args.earlier.now c.args.spacing) c.args.words.now c.args.to c.args.e.0 c.args.rank c.args.from }
+pub loop-word-init : goal.loop-word-init
+loop-word-init c = record { bound = search rules; rest = fits_start (known_rows c.args.earlier.now c.args.spacing) (between c.args.from c.args.to c.args.words.now) c.args.e.0 c.args.rank }
 
 pub returns-then-not-number_fits : goal.returns-then-not-number_fits
-returns-then-not-number_fits c = fits_no (known_rows c.args.earlier.now c.args.spacing) c.args.words.now c.args.to c.args.e.0 c.args.rank c.requires.part.end c.loop-i.low c.loop-i.i _ c.loop-i.invariant.rest
-    c.wide-x.ensures.value c.loop-i-test.true
-    (sym c.number_fits.ensures ∙ c.if-not-number_fits.true)
+returns-then-not-number_fits c =
+    fits_no (known_rows c.args.earlier.now c.args.spacing) _ c.args.e.0 c.args.rank c.loop-word.low c.loop-word.word-index _ c.loop-word.invariant.rest
+    c.wide-x.ensures.value c.loop-word-test.true (sym c.number_fits.ensures ∙ c.if-not-number_fits.true)
+    ∙ ap (numbers_fit desk (known_rows c.args.earlier.now c.args.spacing) c.args.e.0 c.args.rank) (between_is c.args.words.now c.args.from c.args.to)
 
-pub loop-i-preserved : goal.loop-i-preserved
-loop-i-preserved c = record {
+pub loop-word-preserved : goal.loop-word-preserved
+loop-word-preserved c = record {
   bound = search rules;
-  rest = fits_go (known_rows c.args.earlier.now c.args.spacing) c.args.words.now c.args.to c.args.e.0 c.args.rank c.requires.part.end c.loop-i.low c.loop-i.i _ c.loop-i.invariant.rest c.wide-x.ensures.value c.loop-i-test.true
-      (sym c.number_fits.ensures ∙ c.if-not-number_fits.false);
+  rest = fits_go (known_rows c.args.earlier.now c.args.spacing) _ c.args.e.0 c.args.rank c.loop-word.low c.loop-word.word-index _ c.loop-word.invariant.rest
+      c.wide-x.ensures.value c.loop-word-test.true (sym c.number_fits.ensures ∙ c.if-not-number_fits.false);
 }
 
 pub returns : goal.returns
-returns c = fits_end (known_rows c.args.earlier.now c.args.spacing) c.args.words.now c.args.to c.args.e.0 c.args.rank c.requires.part.end c.loop-i.low c.loop-i.i c.loop-i.invariant.rest c.loop-i-test.false
+returns c =
+    fits_end (known_rows c.args.earlier.now c.args.spacing) _ c.args.e.0 c.args.rank c.loop-word.low c.loop-word.word-index c.loop-word.invariant.rest c.loop-word-test.false
+    ∙ ap (numbers_fit desk (known_rows c.args.earlier.now c.args.spacing) c.args.e.0 c.args.rank) (between_is c.args.words.now c.args.from c.args.to)

@@ -3,19 +3,19 @@ use Rattle.soundness.proofs.BoundaryFits.{left}
 use Rattle.soundness.specs.Known.{known_rows}
 use Rattle.soundness.specs.Words.{numbers_fit}
 use Rattle.rules.specs.Limits.{desk}
-use lib.ListN.{drop, take}
+use lib.ListN.{length}
 use mathlib.Core.Path.{◌≡◌}
 use Prim.Native.Nat.{ℕ, ◌-◌, ◌≤◌}
 use mathlib.Core.List.{List}
 use Rattle.soundness.proofs.boundaries.numbers_fit.Given as goal
 
--- from place i on they fit exactly when all do
-pub record SoFar (es ws : List ℕ) (from to e rank low i : ℕ) : Type 0 where
-  pub bound : i ≤ to
-  pub rest : numbers_fit desk es e rank (drop from (take to ws)) ≡ left es ws to e rank low i
+-- from place i of a boundary on they fit exactly when all do
+pub record SoFar (es b : List ℕ) (e rank low i : ℕ) : Type 0 where
+  pub bound : i ≤ length b
+  pub rest : numbers_fit desk es e rank b ≡ left es b e rank low i
 
-abbrev pub invariant-loop-i : goal.invariant-loop-i
-invariant-loop-i l = SoFar (known_rows l.earlier l.spacing) l.words l.from l.to l.e.0 l.rank l.low l.i
+abbrev pub invariant-loop-word : goal.invariant-loop-word
+invariant-loop-word l = SoFar (known_rows l.earlier l.spacing) l.word-items l.e.0 l.rank l.low l.word-index
 
-abbrev pub decreases-loop-i : goal.decreases-loop-i
-decreases-loop-i l = l.to - l.i
+abbrev pub decreases-loop-word : goal.decreases-loop-word
+decreases-loop-word l = l.word-index-end - l.word-index

@@ -5,16 +5,16 @@ use mathlib.Core.Bool.{◌&&◌}
 use mathlib.Core.List.{List}
 use lib.Dec.{eqb}
 use lib.Ieee.{Float}
-use lib.ListN.{drop, take}
+use lib.ListN.{length, drop}
 use Rattle.soundness.specs.Words.{blank_floats}
 use Rattle.soundness.proofs.floats.blank_floats.Given as goal
 
-pub record Seen (list : List Float) (from to seen i : ℕ) : Type 0 where
-  pub within : i ≤ to
-  pub same : blank_floats (drop from (take to list)) ≡ (eqb seen 0 && blank_floats (drop i (take to list)))
+pub record Seen (list : List Float) (seen i : ℕ) : Type 0 where
+  pub within : i ≤ length list
+  pub same : blank_floats list ≡ (eqb seen 0 && blank_floats (drop i list))
 
-abbrev pub invariant-loop-i : goal.invariant-loop-i
-invariant-loop-i l = Seen l.list l.from l.to l.seen l.i
+abbrev pub invariant-loop-x : goal.invariant-loop-x
+invariant-loop-x l = Seen l.x-items l.seen l.x-index
 
-abbrev pub decreases-loop-i : goal.decreases-loop-i
-decreases-loop-i l = l.to - l.i
+abbrev pub decreases-loop-x : goal.decreases-loop-x
+decreases-loop-x l = l.x-index-end - l.x-index

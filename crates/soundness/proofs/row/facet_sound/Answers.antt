@@ -1,7 +1,7 @@
 -- The answer is read off the tests that were taken.
 use Prim.Native.Nat.{suc}
 use mathlib.Core.Bool.{true, false}
-use mathlib.Core.Path.{refl}
+use mathlib.Core.Path.{refl, ◌∙◌}
 use native.Mathlib.Omega.{arith}
 use Rattle.rules.proofs.Laws.{test_eq, not_eq}
 use Rattle.soundness.proofs.BoundaryLoops.{facet_are}
@@ -15,6 +15,6 @@ pub returns-then-plane : goal.returns-then-plane
 returns-then-plane c = facet_are c.args.d c.args.h c.args.rank c.args.plane c.args.mark false _ true _
     (not_eq (suc c.args.rank) c.args.d (λ q. c.if-d-rank-eq1.false (omega (arith, q, c.requires)))) refl (test_eq c.args.plane 65535 c.if-plane.true) refl
 
-pub returns : goal.returns
-returns c = facet_are c.args.d c.args.h c.args.rank c.args.plane c.args.mark false _ false _
+pub returns-else-plane : goal.returns-else-plane
+returns-else-plane c = not_eq c.args.plane 65535 c.if-plane.false ∙ facet_are c.args.d c.args.h c.args.rank c.args.plane c.args.mark false _ false _
     (not_eq (suc c.args.rank) c.args.d (λ q. c.if-d-rank-eq1.false (omega (arith, q, c.requires)))) refl (not_eq c.args.plane 65535 c.if-plane.false) refl

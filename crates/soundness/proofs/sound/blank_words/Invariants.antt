@@ -4,16 +4,16 @@ use mathlib.Core.Path.{◌≡◌}
 use mathlib.Core.Bool.{◌&&◌}
 use mathlib.Core.List.{List}
 use lib.Dec.{eqb}
-use lib.ListN.{drop, take}
+use lib.ListN.{length, drop}
 use Rattle.soundness.specs.Words.{blank_words}
 use Rattle.soundness.proofs.sound.blank_words.Given as goal
 
-pub record Seen (list : List ℕ) (from to seen i : ℕ) : Type 0 where
-  pub within : i ≤ to
-  pub same : blank_words (drop from (take to list)) ≡ (eqb seen 0 && blank_words (drop i (take to list)))
+pub record Seen (list : List ℕ) (seen i : ℕ) : Type 0 where
+  pub within : i ≤ length list
+  pub same : blank_words list ≡ (eqb seen 0 && blank_words (drop i list))
 
-abbrev pub invariant-loop-i : goal.invariant-loop-i
-invariant-loop-i l = Seen l.list l.from l.to l.seen l.i
+abbrev pub invariant-loop-word : goal.invariant-loop-word
+invariant-loop-word l = Seen l.word-items l.seen l.word-index
 
-abbrev pub decreases-loop-i : goal.decreases-loop-i
-decreases-loop-i l = l.to - l.i
+abbrev pub decreases-loop-word : goal.decreases-loop-word
+decreases-loop-word l = l.word-index-end - l.word-index

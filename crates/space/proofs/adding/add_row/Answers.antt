@@ -9,8 +9,8 @@ use Rattle.space.proofs.Indexing.{index_count}
 use Rattle.space.proofs.RowAdds.{row_whole, row_found, row_full, row_new_lem}
 use Rattle.space.proofs.adding.add_row.Goals as goal
 
-pub find_row-found-requires : goal.find_row-found-requires
-find_row-found-requires c = record {
+pub find_row-requires : goal.find_row-requires
+find_row-requires c = record {
   elements = c.requires.elements;
   room = omega (arith, c.wide-n.ensures.value, c.requires.room);
   row = omega (arith, c.requires.row);
@@ -19,26 +19,26 @@ find_row-found-requires c = record {
 }
 
 pub returns-then-n-ge-ELEMENTS : goal.returns-then-n-ge-ELEMENTS
-returns-then-n-ge-ELEMENTS c = let q = row_whole c.args.elements.now c.args.row.now c.wide-n.result c.requires.row c.find_row-found.ensures in
+returns-then-n-ge-ELEMENTS c = let q = row_whole c.args.elements.now c.args.row.now c.wide-n.result c.requires.row c.find_row.ensures in
     record {
-      added = row_full c.args.counts.now c.args.elements.now c.args.row.now c.wide-n.result c.find_row-found.result c.wide-n.ensures.value q c.in-None.is c.if-n-ge-ELEMENTS.true;
+      added = row_full c.args.counts.now c.args.elements.now c.args.row.now c.wide-n.result c.find_row.result c.wide-n.ensures.value q c.in_default.is c.if-n-ge-ELEMENTS.true;
       index = c.requires.index;
     }
 
 pub append_row-requires : goal.append_row-requires
 append_row-requires c = record { counts = c.requires.counts; elements = c.requires.elements; room = omega (arith, c.if-n-ge-ELEMENTS.false); row = c.requires.row; index = index_count _ _ _ _ (sym c.wide-n.ensures.value) c.requires.index }
 
-pub returns-in-At : goal.returns-in-At
-returns-in-At c = let q = row_whole c.args.elements.now c.args.row.now c.wide-n.result c.requires.row c.find_row-found.ensures in
+pub returns-in-Some : goal.returns-in-Some
+returns-in-Some c = let q = row_whole c.args.elements.now c.args.row.now c.wide-n.result c.requires.row c.find_row.ensures in
     record {
-      added = row_found c.args.counts.now c.args.elements.now c.args.row.now c.wide-n.result c.find_row-found.result c.wide-n.ensures.value q _ c.in-At.is;
+      added = row_found c.args.counts.now c.args.elements.now c.args.row.now c.wide-n.result c.find_row.result c.wide-n.ensures.value q _ c.in-Some.is;
       index = c.requires.index;
     }
 
-pub returns-else-n-ge-ELEMENTS : goal.returns-else-n-ge-ELEMENTS
-returns-else-n-ge-ELEMENTS c = let q = row_whole c.args.elements.now c.args.row.now c.wide-n.result c.requires.row c.find_row-found.ensures in
+pub returns : goal.returns
+returns c = let q = row_whole c.args.elements.now c.args.row.now c.wide-n.result c.requires.row c.find_row.ensures in
     record {
-      added = row_new_lem c.args.counts.now c.args.elements.now c.args.row.now c.wide-n.result c.find_row-found.result c.wide-n.ensures.value q _ _ c.in-None.is (omega (arith, c.if-n-ge-ELEMENTS.false)) c.append_row.ensures.count
+      added = row_new_lem c.args.counts.now c.args.elements.now c.args.row.now c.wide-n.result c.find_row.result c.wide-n.ensures.value q _ _ c.in_default.is (omega (arith, c.if-n-ge-ELEMENTS.false)) c.append_row.ensures.count
           c.append_row.ensures.stored;
       index = index_count _ _ _ _ (sym (ap (λ (cs : List ℕ). get_or cs 1 0) c.append_row.ensures.count ∙ get_or-set_same c.args.counts.now 1 (c.wide-n.result + 1) 0 (omega (arith, c.requires.counts)))) c.append_row.ensures.index;
     }

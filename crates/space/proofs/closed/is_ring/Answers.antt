@@ -2,14 +2,15 @@
 use Prim.Native.Nat.{ℕ, ◌+◌, ◌<◌, ◌≤◌}
 use mathlib.Core.Bool.{false}
 use mathlib.Core.List.{List}
-use mathlib.Core.Path.{◌≡◌, ap, sym, ◌∙◌}
+use mathlib.Core.Path.{◌≡◌, refl, sym}
 use native.Mathlib.Omega.{arith}
 use lib.Dec.{eqb}
-use lib.ListN.{take, length, get_or, replicate}
+use lib.ListN.{length, get_or, replicate}
 use borrow.Author.Rules.{rules}
 use Rattle.rules.specs.Limits.{desk}
+use Rattle.space.specs.declared.closed.Joined.TheVariants.{Met, Closes, Thrice}
 use Rattle.space.specs.Closed.{EndsLow, FaceReady, Stamped, joining, joined, ring_raw}
-use Rattle.space.proofs.TwiceMet.{edges_long, edges_fine, TakenUp, taken_there, taken_here, taken_ends, taken_ready}
+use Rattle.space.proofs.TwiceMet.{edges_up, edges_fine, TakenUp, taken_ends, taken_ready}
 use Rattle.space.proofs.PathsJoined.{paths_start, paths_stamped, paths_few, paths_go}
 use Rattle.space.proofs.Meetings.{unmet_new}
 use Rattle.space.proofs.Rings.{no_edges, answers_thrice, answers_early, answers_last}
@@ -19,23 +20,20 @@ use Rattle.space.proofs.closed.is_ring.Goals as goal
 -- ---- the edge that is taken up
 
 -- the paths so far, and x as edge k of the face
-record Taken (es list : List ℕ) (n : ℕ) (paths : List ℕ) (twice k x : ℕ) : Type 0 where
-  edge : TakenUp es list n k x
-  so : SoFar es list n paths twice k
+record Taken (es list : List ℕ) (paths : List ℕ) (twice k x : ℕ) : Type 0 where
+  edge : TakenUp es list k x
+  so : SoFar es list paths twice k
 
-taken : {es list : List ℕ} {n : ℕ} {paths : List ℕ} {twice k x : ℕ} → FaceReady es list n → k < n → x ≡ get_or list k 0 → SoFar es list n paths twice k
-    → Taken es list n paths twice k x
+taken : {es list : List ℕ} {paths : List ℕ} {twice k x : ℕ} → FaceReady es list → k < length list → x ≡ get_or list k 0 → SoFar es list paths twice k
+    → Taken es list paths twice k x
 taken ready more read so = record { edge = record { ready = ready; more = more; read = read }; so = so }
 
-module _ {es list : List ℕ} {n : ℕ} {paths : List ℕ} {twice k x : ℕ} (T : Taken es list n paths twice k x) where
+module _ {es list : List ℕ} {paths : List ℕ} {twice k x : ℕ} (T : Taken es list paths twice k x) where
   abbrev edges : List ℕ
-  edges = take n list
+  edges = list
 
-  abbrev ready : FaceReady es list n
+  abbrev ready : FaceReady es list
   ready = T.edge.ready
-
-  long : length edges ≡ n
-  long = edges_long list n ready.long
 
   stamped : Stamped 1 paths
   stamped = paths_stamped es edges 1 paths twice k T.so.paths_so
@@ -44,67 +42,63 @@ module _ {es list : List ℕ} {n : ℕ} {paths : List ℕ} {twice k x : ℕ} (T 
   few = paths_few es edges 1 paths twice k T.so.paths_so
 
   fine : (j : ℕ) → j < length edges → (get_or edges j 0 < desk.elements) × EndsLow es (get_or edges j 0)
-  fine = edges_fine list n ready.long es ready.low ready.ends
+  fine = edges_fine es list ready.low ready.ends
 
-  module _ {r : ℕ} (c : r ≡ joining 1 es paths x) where
-    thrice : r ≡ 4 → false ≡ ring_raw es edges
-    thrice four = sym (answers_thrice es edges ready.ends.rising fine 1 paths twice k T.so.paths_so x (taken_there T.edge) (taken_here T.edge) r c four)
+  thrice : Thrice ≡ joining 1 es paths x → false ≡ ring_raw es edges
+  thrice c = sym (answers_thrice es edges (edges_up ready.ends) fine 1 paths twice k T.so.paths_so x T.edge.more T.edge.read c)
 
-    early : r ≡ 3 → k + 1 < n → false ≡ ring_raw es edges
-    early three h =
-        sym (answers_early es edges ready.ends.rising fine 1 paths twice k T.so.paths_so x (taken_there T.edge) (taken_here T.edge) r c three
-        (let l = long in omega (arith, l, h)))
+  early : Closes ≡ joining 1 es paths x → k + 1 < length list → false ≡ ring_raw es edges
+  early c h =
+      sym (answers_early es edges (edges_up ready.ends) fine 1 paths twice k T.so.paths_so x T.edge.more T.edge.read c
+      h)
 
-    last : r ≡ 3 → n ≤ k + 1 → eqb (twice + 2) n ≡ ring_raw es edges
-    last three h =
-        ap (eqb (twice + 2)) (sym long)
-        ∙ answers_last es edges ready.ends.rising fine 1 paths twice k T.so.paths_so x (taken_there T.edge) (taken_here T.edge) r c three
-        (let l = long in let m = T.edge.more in omega (arith, l, h, m))
+  last : Closes ≡ joining 1 es paths x → length list ≤ k + 1 → eqb (twice + 2) (length list) ≡ ring_raw es edges
+  last c h =
+      answers_last es edges (edges_up ready.ends) fine 1 paths twice k T.so.paths_so x T.edge.more T.edge.read c
+      (let m = T.edge.more in omega (arith, h, m))
 
-    goes_on : r < 3 → (paths' : List ℕ) → paths' ≡ joined 1 es paths x → SoFar es list n paths' (twice + r) (k + 1)
-    goes_on small paths' q = record {
-      bound = let m = T.edge.more in omega (arith, m);
-      paths_so = paths_go es edges 1 paths twice k T.so.paths_so x (taken_there T.edge) (taken_here T.edge) (taken_ends T.edge) r paths' c small q;
-    }
+  goes_on : (r : ℕ) → Met r ≡ joining 1 es paths x → (paths' : List ℕ) → paths' ≡ joined 1 es paths x → SoFar es list paths' (twice + r) (k + 1)
+  goes_on r c paths' q = record {
+    bound = let m = T.edge.more in omega (arith, m);
+    paths_so = paths_go es edges 1 paths twice k T.so.paths_so x T.edge.more T.edge.read (taken_ends T.edge) r paths' c q;
+  }
 
 -- ---- the places of the function
 
 pub loop-k-init : goal.loop-k-init
-loop-k-init c = record { bound = search rules; paths_so = paths_start c.args.elements.now (take c.args.n c.args.list.now) 1 (replicate desk.elements 0) unmet_new }
+loop-k-init c = record { bound = search rules; paths_so = paths_start c.args.elements.now c.args.list.now 1 (replicate desk.elements 0) unmet_new }
 
-pub join_ends_in_face-met-requires : goal.join_ends_in_face-met-requires
-join_ends_in_face-met-requires c = let T = taken c.requires c.loop-k-test.true c.wide.ensures.value c.loop-k.invariant in
+pub join_ends_in_face-requires : goal.join_ends_in_face-requires
+join_ends_in_face-requires c = let T = taken c.requires c.loop-k-test.true c.wide.ensures.value c.loop-k.invariant in
     record { edge = taken_ready T.edge; stamped = stamped T }
 
-pub returns-then-met-eq-THRICE : goal.returns-then-met-eq-THRICE
-returns-then-met-eq-THRICE c = let T = taken c.requires c.loop-k-test.true c.wide.ensures.value c.loop-k.invariant in
-    thrice T c.join_ends_in_face-met.ensures.code c.if-met-eq-THRICE.true
+pub returns-in-Thrice : goal.returns-in-Thrice
+returns-in-Thrice c = let T = taken c.requires c.loop-k-test.true c.wide.ensures.value c.loop-k.invariant in
+    thrice T c.in-Thrice.ensures.code
 
 pub returns-then-k-n : goal.returns-then-k-n
 returns-then-k-n c = let T = taken c.requires c.loop-k-test.true c.wide.ensures.value c.loop-k.invariant in
-    early T c.join_ends_in_face-met.ensures.code c.if-met-eq-CLOSES.true c.if-k-n.true
+    early T c.in-Closes.ensures.code c.if-k-n.true
 
 pub overflow_add-result : goal.overflow_add-result
 overflow_add-result c = let T = taken c.requires c.loop-k-test.true c.wide.ensures.value c.loop-k.invariant in
     let most = few T in
     omega (arith, most, T.edge.ready.size, T.so.bound)
 
-pub returns-then-met-eq-CLOSES : goal.returns-then-met-eq-CLOSES
-returns-then-met-eq-CLOSES c = let T = taken c.requires c.loop-k-test.true c.wide.ensures.value c.loop-k.invariant in
-    last T c.join_ends_in_face-met.ensures.code c.if-met-eq-CLOSES.true c.if-k-n.false
+pub returns-in-Closes : goal.returns-in-Closes
+returns-in-Closes c = let T = taken c.requires c.loop-k-test.true c.wide.ensures.value c.loop-k.invariant in
+    last T c.in-Closes.ensures.code c.if-k-n.false
 
 pub overflow_add-twice : goal.overflow_add-twice
 overflow_add-twice c = let T = taken c.requires c.loop-k-test.true c.wide.ensures.value c.loop-k.invariant in
     let most = few T in
-    omega (arith, most, c.join_ends_in_face-met.ensures.most, T.edge.ready.size, T.so.bound)
+    omega (arith, most, c.in-Met.ensures.most, T.edge.ready.size, T.so.bound)
 
 pub loop-k-preserved : goal.loop-k-preserved
 loop-k-preserved c = let T = taken c.requires c.loop-k-test.true c.wide.ensures.value c.loop-k.invariant in
-    let small : c.join_ends_in_face-met.result < 3 = omega (arith, c.join_ends_in_face-met.ensures.most, c.if-met-eq-THRICE.false, c.if-met-eq-CLOSES.false) in
-    goes_on T c.join_ends_in_face-met.ensures.code small _ (c.join_ends_in_face-met.ensures.words small)
+    goes_on T _ c.in-Met.ensures.code _ c.in-Met.ensures.words
 
 pub returns : goal.returns
-returns c = let l = edges_long c.args.list.now c.args.n c.requires.long in
-    no_edges c.args.elements.now (take c.args.n c.args.list.now) c.requires.ends.rising (edges_fine c.args.list.now c.args.n c.requires.long c.args.elements.now c.requires.low c.requires.ends)
-    1 c.loop-k.paths c.loop-k.twice c.loop-k.k c.loop-k.invariant.paths_so c.args.n l
-    (let z : c.loop-k.k ≡ length (take c.args.n c.args.list.now) = omega (arith, l, c.loop-k.invariant.bound, c.loop-k-test.false) in z)
+returns c = no_edges c.args.elements.now c.args.list.now (edges_up c.requires.ends) (edges_fine c.args.elements.now c.args.list.now c.requires.low c.requires.ends)
+    1 c.loop-k.paths c.loop-k.twice c.loop-k.k c.loop-k.invariant.paths_so (length c.args.list.now) refl
+    (let z : c.loop-k.k ≡ length c.args.list.now = omega (arith, c.loop-k.invariant.bound, c.loop-k-test.false) in z)

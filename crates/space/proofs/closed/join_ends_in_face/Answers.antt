@@ -3,8 +3,9 @@ use mathlib.Core.Path.{◌∙◌}
 use Rattle.space.proofs.PathsJoined.{edge_joined, edge_paths}
 use Rattle.space.proofs.closed.join_ends_in_face.Goals as goal
 
-pub join_in_face-requires : goal.join_in_face-requires
-join_in_face-requires c = edge_paths (c.wide-a.ensures.value ∙ c.boundary_at.ensures) (c.wide-b.ensures.value ∙ c.boundary_at-2.ensures) c.requires.edge.ends c.requires.edge.stamp c.requires.stamped
+pub join_paths-requires-clause-ready : goal.join_paths-requires-clause-ready
+join_paths-requires-clause-ready c =
+    edge_paths (c.wide-a.ensures.value ∙ c.boundary_at.ensures) (c.wide-b.ensures.value ∙ c.boundary_at-2.ensures) c.requires.edge.ends c.requires.edge.stamp c.requires.stamped
 
 pub returns : goal.returns
-returns c = edge_joined (c.wide-a.ensures.value ∙ c.boundary_at.ensures) (c.wide-b.ensures.value ∙ c.boundary_at-2.ensures) c.join_in_face.ensures
+returns c = edge_joined (c.wide-a.ensures.value ∙ c.boundary_at.ensures) (c.wide-b.ensures.value ∙ c.boundary_at-2.ensures) c.join_paths.ensures

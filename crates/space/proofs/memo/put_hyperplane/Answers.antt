@@ -1,21 +1,13 @@
--- Five stores are a run of stores.
+-- A part is replaced, which is a run of stores.
+use mathlib.Core.Path.{◌≡◌, sym, ◌∙◌}
 use native.Mathlib.Omega.{arith}
-use lib.Ieee.{nan}
-use lib.ListN.{get_or, length-set}
-use Rattle.space.proofs.HyperplaneMemo.{five_stores}
+use lib.ListN.{length}
+use borrow.Author.Rules.{rules}
+use Rattle.space.specs.Shared.{five}
+use Rattle.space.proofs.RowWords.{part_stored}
+use Rattle.space.proofs.HyperplaneMemo.{five_is}
 use Rattle.space.proofs.memo.put_hyperplane.Goals as goal
 
-pub bounds-planes-at-2 : goal.bounds-planes-at-2
-bounds-planes-at-2 c = simp length-set (omega arith)
-
-pub bounds-planes-at-3 : goal.bounds-planes-at-3
-bounds-planes-at-3 c = simp length-set (omega arith)
-
-pub bounds-planes-at-4 : goal.bounds-planes-at-4
-bounds-planes-at-4 c = simp length-set (omega arith)
-
-pub bounds-planes-at-5 : goal.bounds-planes-at-5
-bounds-planes-at-5 c = simp length-set (omega arith)
-
 pub returns : goal.returns
-returns c = five_stores c.args.planes.now c.args.at (get_or c.args.p 0 nan) (get_or c.args.p 1 nan) (get_or c.args.p 2 nan) (get_or c.args.p 3 nan) (get_or c.args.p 4 nan)
+returns c = let l : length c.args.p ≡ 5 = search rules in
+    part_stored c.args.planes.now c.copy_from_slice.new.self (five c.args.p) c.args.at _ (omega (arith, c.requires)) (omega arith) (c.copy_from_slice.ensures.after ∙ sym (five_is c.args.p l))

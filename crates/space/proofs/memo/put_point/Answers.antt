@@ -1,18 +1,13 @@
--- Four stores are a run of stores.
+-- A part is replaced, which is a run of stores.
+use mathlib.Core.Path.{◌≡◌, sym, ◌∙◌}
 use native.Mathlib.Omega.{arith}
-use lib.Ieee.{nan}
-use lib.ListN.{get_or, length-set}
-use Rattle.space.proofs.VertexMemo.{four_stores}
+use lib.ListN.{length}
+use borrow.Author.Rules.{rules}
+use Rattle.space.specs.Shared.{four}
+use Rattle.space.proofs.RowWords.{part_stored}
+use Rattle.space.proofs.VertexMemo.{four_is}
 use Rattle.space.proofs.memo.put_point.Goals as goal
 
-pub bounds-points-at-2 : goal.bounds-points-at-2
-bounds-points-at-2 c = simp length-set (omega arith)
-
-pub bounds-points-at-3 : goal.bounds-points-at-3
-bounds-points-at-3 c = simp length-set (omega arith)
-
-pub bounds-points-at-4 : goal.bounds-points-at-4
-bounds-points-at-4 c = simp length-set (omega arith)
-
 pub returns : goal.returns
-returns c = four_stores c.args.points.now c.args.at (get_or c.args.p 0 nan) (get_or c.args.p 1 nan) (get_or c.args.p 2 nan) (get_or c.args.p 3 nan)
+returns c = let l : length c.args.p ≡ 4 = search rules in
+    part_stored c.args.points.now c.copy_from_slice.new.self (four c.args.p) c.args.at _ (omega (arith, c.requires)) (omega arith) (c.copy_from_slice.ensures.after ∙ sym (four_is c.args.p l))

@@ -3,10 +3,10 @@ use Rattle.space.proofs.HyperplaneMemo.{shared_full, shared_old, shared_new}
 use Rattle.space.proofs.memo.share_hyperplane.Goals as goal
 
 pub returns-then-n-ge-HYPERPLANES : goal.returns-then-n-ge-HYPERPLANES
-returns-then-n-ge-HYPERPLANES c = shared_full _ c.wide-n.ensures.value c.in-None.is c.if-n-ge-HYPERPLANES.true
+returns-then-n-ge-HYPERPLANES c = shared_full _ c.wide-n.ensures.value c.in_default.is c.if-n-ge-HYPERPLANES.true
 
-pub returns-in-At : goal.returns-in-At
-returns-in-At c = shared_old _ c.in-At.is
+pub returns-in-Some : goal.returns-in-Some
+returns-in-Some c = shared_old _ c.in-Some.is
 
-pub returns-else-n-ge-HYPERPLANES : goal.returns-else-n-ge-HYPERPLANES
-returns-else-n-ge-HYPERPLANES c = shared_new _ c.wide-n.ensures.value c.in-None.is c.if-n-ge-HYPERPLANES.false c.put_hyperplane.ensures
+pub returns : goal.returns
+returns c = shared_new _ c.wide-n.ensures.value c.in_default.is c.if-n-ge-HYPERPLANES.false c.put_hyperplane.ensures

@@ -10,7 +10,7 @@ use borrow.Author.Rules.{rules}
 use Rattle.space.proofs.memo.share_vertex.Goals as goal
 
 pub corner_row-row-requires : goal.corner_row-row-requires
-corner_row-row-requires c = in_room_lem _ _ c.in-At.is c.requires.found
+corner_row-row-requires c = in_room_lem _ _ c.in-Some.is c.requires.found
 
 pub add_row-requires : goal.add_row-requires
 add_row-requires c = record { counts = c.requires.counts; elements = c.requires.elements; room = c.requires.room; row = search rules; index = c.requires.index }
@@ -28,8 +28,8 @@ add_row-requires-in-None c = let kept = get_or-set_other c.args.counts.now 2 1 (
       index = index_count _ _ _ _ (sym kept) c.requires.index;
     }
 
-pub returns-in-At : goal.returns-in-At
-returns-in-At c = record { shared = shared_old _ c.in-At.is c.corner_row-row.ensures c.add_row.ensures.added; index = c.add_row.ensures.index }
+pub returns-in-Some : goal.returns-in-Some
+returns-in-Some c = record { shared = shared_old _ c.in-Some.is c.corner_row-row.ensures c.add_row.ensures.added; index = c.add_row.ensures.index }
 
 pub returns-else-n-ge-VERTICES : goal.returns-else-n-ge-VERTICES
 returns-else-n-ge-VERTICES c = record {

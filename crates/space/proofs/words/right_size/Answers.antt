@@ -1,18 +1,14 @@
 -- Four lengths.
-use mathlib.Core.Path.{refl}
-use mathlib.Core.Bool.{true, false}
-use Rattle.rules.proofs.Laws.{not_eq, test_eq}
-use Rattle.space.proofs.Sizes.{size_of}
+use mathlib.Core.Bool.{true}
+use mathlib.Core.Path.{refl, ◌∙◌}
+use borrow.Author.Rules.{rules}
+use Rattle.rules.proofs.Laws.{test_eq}
+use Rattle.space.proofs.Sizes.{size_of, size_not}
 use Rattle.space.proofs.words.right_size.Goals as goal
 
-pub returns-then-counts-ne-COUNTS : goal.returns-then-counts-ne-COUNTS
-returns-then-counts-ne-COUNTS c = size_of _ _ _ _ false _ _ _ (not_eq _ 4 c.if-counts-ne-COUNTS.true) refl refl refl
+pub returns-then-planes-eq-PLANE_FLOATS : goal.returns-then-planes-eq-PLANE_FLOATS
+returns-then-planes-eq-PLANE_FLOATS c = let p = c.if-planes-eq-PLANE_FLOATS.true in
+    size_of _ _ _ _ true true true _ (test_eq _ 4 p.0) (test_eq _ 1024 p.1) (test_eq _ 320 p.2) refl
 
-pub returns-then-points-ne-POINT_FLOATS : goal.returns-then-points-ne-POINT_FLOATS
-returns-then-points-ne-POINT_FLOATS c = size_of _ _ _ _ true false _ _ (test_eq _ 4 c.if-counts-ne-COUNTS.false) (not_eq _ 1024 c.if-points-ne-POINT_FLOATS.true) refl refl
-
-pub returns-then-planes-ne-PLANE_FLOATS : goal.returns-then-planes-ne-PLANE_FLOATS
-returns-then-planes-ne-PLANE_FLOATS c = size_of _ _ _ _ true true false _ (test_eq _ 4 c.if-counts-ne-COUNTS.false) (test_eq _ 1024 c.if-points-ne-POINT_FLOATS.false) (not_eq _ 320 c.if-planes-ne-PLANE_FLOATS.true) refl
-
-pub returns : goal.returns
-returns c = size_of _ _ _ _ true true true _ (test_eq _ 4 c.if-counts-ne-COUNTS.false) (test_eq _ 1024 c.if-points-ne-POINT_FLOATS.false) (test_eq _ 320 c.if-planes-ne-PLANE_FLOATS.false) refl
+pub returns-else-planes-eq-PLANE_FLOATS : goal.returns-else-planes-eq-PLANE_FLOATS
+returns-else-planes-eq-PLANE_FLOATS c = search rules ∙ size_not _ _ _ _ c.if-planes-eq-PLANE_FLOATS.either

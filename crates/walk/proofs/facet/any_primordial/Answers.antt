@@ -1,30 +1,25 @@
--- Some of what is left has the mark exactly when some of the whole has.
-use mathlib.Core.Path.{sym, ◌∙◌}
-use borrow.Author.Rules.{rules}
+-- Each test is the rule's own.
+use Rattle.std.proofs.Common.{◌<◌, ◌≡◌, ap, ◌∙◌, length, rules, tests}
+use Rattle.std.proofs.lemmas.Iterator.{YieldsList-from_slice}
+use Rattle.std.proofs.lemmas.Iterator.Search.{any_from_yields_List}
+use Rattle.std.proofs.lemmas.Iterator.Adapters.{serves_from_places}
+use Rattle.std.proofs.lemmas.Grind.{get_or_default_zero}
+use Rattle.rules.specs.Lists.{any}
+use Rattle.soundness.proofs.Every.{some}
 use Rattle.walk.specs.Facets.{row_primordial}
-use Rattle.walk.proofs.Boundaries.{number_low}
-use Rattle.walk.proofs.Facets.{any_here, any_go, any_end}
+use Rattle.walk.proofs.Boundaries.{row_long, number_at, number_low}
 use Rattle.walk.proofs.facet.any_primordial.Goals as goal
 
-pub is_primordial-requires : goal.is_primordial-requires
-is_primordial-requires c = record {
-  elements = c.requires.long;
-  room = number_low c.args.elements.now c.args.e.0 _ c.requires c.loop-i.invariant.size c.loop-i.i _ (search rules) (c.wide.ensures.value ∙ c.boundary_at.ensures);
-}
-
-pub returns-then-is_primordial : goal.returns-then-is_primordial
-returns-then-is_primordial c = any_here c.args.elements.now c.args.e.0 _ c.requires c.loop-i.invariant.size (row_primordial c.args.elements.now) _ c.loop-i.i _
-    (c.wide.ensures.value ∙ c.boundary_at.ensures) (search rules) c.loop-i.invariant.same
-    (sym c.is_primordial.ensures ∙ c.if-is_primordial.true)
-
-pub loop-i-preserved : goal.loop-i-preserved
-loop-i-preserved c = record {
-  low = search rules;
-  size = c.loop-i.invariant.size;
-  same = any_go c.args.elements.now c.args.e.0 _ c.requires c.loop-i.invariant.size (row_primordial c.args.elements.now) _ c.loop-i.i _
-      (c.wide.ensures.value ∙ c.boundary_at.ensures) (search rules) c.loop-i.invariant.same
-      (sym c.is_primordial.ensures ∙ c.if-is_primordial.false);
-}
+pub any-requires-clause-callable : goal.any-requires-clause-callable
+any-requires-clause-callable c = serves_from_places (YieldsList-from_slice c.boundary.result.now cc) (λ x q k. search rules) (λ x k l e.
+    let low : x.now < 512 =
+    number_low c.args.elements.now c.args.e.0 (length c.boundary.result.now) c.requires (row_long c.args.elements.now c.args.e.0 c.requires _ c.boundary.ensures) k _ l
+    (number_at c.args.elements.now c.args.e.0 c.requires _ c.boundary.ensures k _ l (e ∙ get_or_default_zero _ _ _ l)) in
+    let long : length c.args.elements.now ≡ 18432 = c.requires.long in
+    search (rules, low, long))
 
 pub returns : goal.returns
-returns c = any_end c.args.elements.now c.args.e.0 _ c.requires c.loop-i.invariant.size (row_primordial c.args.elements.now) _ c.loop-i.i (search rules) c.loop-i.invariant.same
+returns c =
+    any_from_yields_List (row_primordial c.args.elements.now) _ _ _ c.any.ensures.ran (YieldsList-from_slice c.boundary.result.now cc) (λ x b q k. search (rules, tests))
+    ∙ some (row_primordial c.args.elements.now) c.boundary.result.now
+    ∙ ap (any (row_primordial c.args.elements.now)) c.boundary.ensures
