@@ -3,8 +3,6 @@
 import { readFileSync, readSync } from "node:fs";
 
 const GUARD = 0x5a, STACK_MARK = 0xa5;
-// bindings/wasm has the stack lie first; behind it, before what is lent, lies what the module only reads
-const STACK = 65536;
 const ENTRY_BYTES = [2, 8, 8, 2];
 const ARGUMENT_BYTES = { w: 2, b: 1, d: 8, a: 8 }; // words, bytes, floats, answers or areas
 
@@ -44,8 +42,7 @@ const memory = Buffer.from(exports.memory.buffer);
 const held = Buffer.alloc(memory.length - start, GUARD);
 let tableEnd = 0, end = 0;
 let slices = [];
-memory.fill(STACK_MARK, 0, STACK);
-const onlyRead = Buffer.from(memory.subarray(STACK, start));
+memory.fill(STACK_MARK, 0, start); // also over what the module might keep there: it has no data of its own
 
 // a place for so many bytes, behind a guard
 function place(count) {
@@ -124,9 +121,9 @@ function replay() {
 let isAlike = true;
 while (isAlike && has(1)) isAlike = replay();
 if (isAlike) {
-    const stack = STACK - memory.subarray(0, STACK).findIndex(mark => mark !== STACK_MARK);
+    const stack = start - memory.subarray(0, start).findIndex(mark => mark !== STACK_MARK);
     console.log(`${[...counts].map(([name, count]) => `${count} ${name}`).join(", ")}: alike; ${stack} bytes of stack`);
 }
-const isKept = onlyRead.equals(memory.subarray(STACK, start));
-if (!isKept) console.log("the module wrote into what it only reads");
-process.exit(isAlike && isKept && counts.size === 15 ? 0 : 1);
+const lentFrom = exports.__heap_base.value;
+if (lentFrom !== 65536) console.log(`what a host lends begins at ${lentFrom}`);
+process.exit(isAlike && lentFrom === 65536 && counts.size === 15 ? 0 : 1);

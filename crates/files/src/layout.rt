@@ -26,12 +26,12 @@ pub struct Laid {
 }
 
 // Whether a mark is there, with so many bytes behind it.
-fn begins_with(bytes: &[u8], at: usize, mark: &[u8; 2], rest: usize) -> bool
+fn begins_with(bytes: &[u8], at: usize, mark: [u8; 2], rest: usize) -> bool
     requires { at ≤ length bytes.now }
-    ensures { result ≡ begins (slice_index mark.now 0) (slice_index mark.now 1) rest (drop at bytes.now) }
+    ensures { result ≡ begins (slice_index mark 0) (slice_index mark 1) rest (drop at bytes.now) }
 {
     let here = &bytes[at..];
-    here.starts_with(mark) && rest <= here.len() - 2
+    here.starts_with(&mark) && rest <= here.len() - 2
 }
 
 fn point(bytes: &[u8], at: usize, d: usize) -> Option<usize>
@@ -39,7 +39,7 @@ fn point(bytes: &[u8], at: usize, d: usize) -> Option<usize>
     ensures { Ends (point_in d) bytes.now at result }
 {
     let rest = 8 * d;
-    if !begins_with(bytes, at, b"VX", rest) {
+    if !begins_with(bytes, at, [b'V', b'X'], rest) {
         return None;
     }
     Some(at + 2 + rest)
@@ -50,7 +50,7 @@ fn plane(bytes: &[u8], at: usize, d: usize) -> Option<usize>
     ensures { Ends (plane_in d) bytes.now at result }
 {
     let rest = 8 * d + 8;
-    if !begins_with(bytes, at, b"HP", rest) {
+    if !begins_with(bytes, at, [b'H', b'P'], rest) {
         return None;
     }
     Some(at + 2 + rest)
@@ -68,7 +68,7 @@ fn element(bytes: &[u8], at: usize) -> Option<usize>
     requires { at ≤ length bytes.now }
     ensures { Ends element_in bytes.now at result }
 {
-    if !begins_with(bytes, at, b"EL", ELEMENT_NUMBERS) {
+    if !begins_with(bytes, at, [b'E', b'L'], ELEMENT_NUMBERS) {
         return None;
     }
     let rank = read::number::<1>(bytes, at + 2);
@@ -102,7 +102,7 @@ fn many_of<F: Fn(usize) -> Option<usize>>(step: F, at: usize, n: usize) -> Optio
 pub fn laid_out(bytes: &[u8]) -> Option<Laid>
     ensures { LayoutTold bytes.now result }
 {
-    if !begins_with(bytes, 0, b"HD", HEADER_NUMBERS) {
+    if !begins_with(bytes, 0, [b'H', b'D'], HEADER_NUMBERS) {
         return None;
     }
     let dimension = read::number::<2>(bytes, 2) as usize;

@@ -14,7 +14,8 @@ pub fn header(counts: &[u16], room: &mut [u8], at: usize) -> usize
     requires { HeaderReady counts.now room.old at }
     ensures { Put room.old at (header_saved counts.now) result room.new }
 {
-    let end = write::word(b"HD", room, at);
+    let mark = [b'H', b'D'];
+    let end = write::word(&mark, room, at);
     write::numbers(2, counts, 0, COUNTS, room, end)
 }
 
@@ -24,7 +25,8 @@ fn vertex_record(points: &[f64], i: usize, d: usize, room: &mut [u8], at: usize)
     ensures { Put room.old at (point_saved d (row_at desk.dimensions i points.now)) result room.new }
 {
     let from = i * AXES;
-    let end = write::word(b"VX", room, at);
+    let mark = [b'V', b'X'];
+    let end = write::word(&mark, room, at);
     write::floats(points, from, from + d, room, end)
 }
 
@@ -48,7 +50,8 @@ fn hyperplane_record(planes: &[f64], i: usize, d: usize, room: &mut [u8], at: us
     ensures { Put room.old at (plane_saved d (row_at (plane_width desk) i planes.now)) result room.new }
 {
     let from = i * PLANE_WIDTH;
-    let end = write::word(b"HP", room, at);
+    let mark = [b'H', b'P'];
+    let end = write::word(&mark, room, at);
     let last = write::floats(planes, from, from + d, room, end);
     write::float(planes[from + AXES], room, last)
 }
@@ -72,7 +75,8 @@ fn element_record(elements: &[u16], e: usize, room: &mut [u8], at: usize) -> usi
 {
     let row = e * WIDTH;
     let n = wide(elements[row + 3]);
-    let end = write::word(b"EL", room, at);
+    let mark = [b'E', b'L'];
+    let end = write::word(&mark, room, at);
     let middle = write::numbers(1, elements, row, row + 2, room, end);
     write::numbers(2, elements, row + 2, row + HEAD + n, room, middle)
 }
