@@ -1,5 +1,5 @@
 // The block that was read, and what is left of it.
-ghost use Rattle.std.specs.Prelude.{◌≤◌};
+ghost use Rattle.std.specs.Prelude.{◌≡◌, ◌≤◌};
 ghost use Rattle.cutlist.specs.declared.input.TheConstants.{BLOCK};
 
 use std::io::{self, Read};
@@ -62,8 +62,11 @@ impl Input {
         Ok(())
     }
 
-    // A record was taken: the library reads no more than it was lent.
-    pub fn take(&mut self, record: usize) {
+    // A record was taken: the library reads no more than it was lent, and what was read stays.
+    pub fn take(&mut self, record: usize)
+        ensures end_stays { self.new.end ≡ self.old.end }
+        ensures bytes_stay { self.new.bytes ≡ self.old.bytes }
+    {
         let read = record.min(self.end - self.from);
         self.from += read;
         self.offset = self.offset.wrapping_add(read as u64);

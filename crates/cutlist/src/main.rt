@@ -40,7 +40,11 @@ impl Program {
         !self.is_stopped && self.output.has_room() && self.input.has_record()
     }
 
-    fn one(&mut self) {
+    // What was read stays, and where it ends.
+    fn one(&mut self)
+        ensures end_stays { self.new.input.end ≡ self.old.input.end }
+        ensures bytes_stay { self.new.input.bytes ≡ self.old.input.bytes }
+    {
         match self.output.turn(&self.input, &mut self.table) {
             Err(Untaken::NoRoom) => {},
             Err(Untaken::Bad) => {
@@ -56,7 +60,10 @@ impl Program {
     }
 
     // Record after record, as long as there is one.
-    fn records(&mut self) {
+    fn records(&mut self)
+        ensures end_stays { self.new.input.end ≡ self.old.input.end }
+        ensures bytes_stay { self.new.input.bytes ≡ self.old.input.bytes }
+    {
         for _ in 0..BLOCK {
             if !self.is_ready() {
                 return;
