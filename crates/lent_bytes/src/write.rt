@@ -88,7 +88,7 @@ pub fn narrowed(x: f64, room: &mut [u8], at: usize) -> usize
     requires fits_room { at + 4 ≤ length room.old }
     ensures { Put room.old at (narrowed_bytes x) result room.new }
 {
-    number(4, narrowed_bits(x), room, at)
+    corner(&[x], 0, 1, room, at)
 }
 
 // The coordinates of a point, from one index up to another.
