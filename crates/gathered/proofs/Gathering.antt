@@ -37,6 +37,7 @@ cleared s r n b w i o x = record {
     sized = record { flushes = le_of_eq n; inside = le_of_eq (ap size_in i); outside = le_of_eq (ap size_in o); intersections = le_of_eq (ap size_in x) };
   };
   warning = w;
+  whole = λ j. record { flushes = n j; flush = record { 0 = b j }; warning = w j; inside = i j; outside = o j; intersections = x j };
 }
 
 -- ---- an answer

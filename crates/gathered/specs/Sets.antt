@@ -72,14 +72,24 @@ pub record NothingYet (s : Room) : Type 0 where
 
 -- ---- a room used again
 
+-- the room with nothing gathered, and its warning
+abbrev pub cleared_room : Room → Room
+cleared_room s = record { flushes = 0; flush = record { 0 = 0 }; warning = s.warning; inside = emptied s.inside; outside = emptied s.outside; intersections = emptied s.intersections }
+
 -- whatever was gathered is gone, and the warning stays
 pub record Cleared (s r : Room) : Type 0 where
   pub nothing : NothingYet r
   pub warning : warning_in r ≡ warning_in s
+  pub whole : r ≡ cleared_room s
 
--- a test's warning is the cut's
+-- the room with another warning
+abbrev pub with_warning : Room → Bool → Room
+with_warning s w = record { flushes = s.flushes; flush = s.flush; warning = w; inside = s.inside; outside = s.outside; intersections = s.intersections }
+
+-- a test's warning is the cut's, and what is gathered stays
 pub record Noted (s : Room) (w : Bool) (r : Room) : Type 0 where
   pub warning : warning_in r ≡ (warning_in s || w)
+  pub whole : r ≡ with_warning s (warning_in s || w)
 
 -- whatever the sets are, the warning stays
 pub record Used (s r : Room) : Type 0 where
