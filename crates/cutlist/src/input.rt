@@ -1,6 +1,7 @@
 // The block that was read, and what is left of it.
-ghost use Rattle.std.specs.Prelude.{◌≡◌, ◌≤◌};
+ghost use Rattle.std.specs.Prelude.{◌≤◌};
 ghost use Rattle.cutlist.specs.declared.input.TheConstants.{BLOCK};
+ghost use Rattle.cutlist.specs.Kept.{Kept};
 
 use std::io::{self, Read};
 
@@ -64,8 +65,7 @@ impl Input {
 
     // A record was taken: the library reads no more than it was lent, and what was read stays.
     pub fn take(&mut self, record: usize)
-        ensures end_stays { self.new.end ≡ self.old.end }
-        ensures bytes_stay { self.new.bytes ≡ self.old.bytes }
+        ensures { Kept self.old.bytes self.old.end self.new.bytes self.new.end }
     {
         let read = record.min(self.end - self.from);
         self.from += read;

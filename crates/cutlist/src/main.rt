@@ -7,6 +7,7 @@ mod output;
 mod table;
 
 ghost use Rattle.std.specs.Prelude.{◌≡◌, IfOk};
+ghost use Rattle.cutlist.specs.Kept.{Kept};
 
 use input::{BLOCK, Input};
 use output::Output;
@@ -40,10 +41,8 @@ impl Program {
         !self.is_stopped && self.output.has_room() && self.input.has_record()
     }
 
-    // What was read stays, and where it ends.
     fn one(&mut self)
-        ensures end_stays { self.new.input.end ≡ self.old.input.end }
-        ensures bytes_stay { self.new.input.bytes ≡ self.old.input.bytes }
+        ensures { Kept self.old.input.bytes self.old.input.end self.new.input.bytes self.new.input.end }
     {
         match self.output.turn(&self.input, &mut self.table) {
             Err(Untaken::NoRoom) => {},
@@ -61,8 +60,7 @@ impl Program {
 
     // Record after record, as long as there is one.
     fn records(&mut self)
-        ensures end_stays { self.new.input.end ≡ self.old.input.end }
-        ensures bytes_stay { self.new.input.bytes ≡ self.old.input.bytes }
+        ensures { Kept self.old.input.bytes self.old.input.end self.new.input.bytes self.new.input.end }
     {
         for _ in 0..BLOCK {
             if !self.is_ready() {

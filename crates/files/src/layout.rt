@@ -25,7 +25,7 @@ pub struct Laid {
     pub elements_at: usize,
 }
 
-// Whether a mark is there, with so many bytes behind it.
+// Whether a mark is there, with so many bytes behind it. By value: behind a reference it would be data of the module for browsers, which has none.
 fn begins_with(bytes: &[u8], at: usize, mark: [u8; 2], rest: usize) -> bool
     requires { at ≤ length bytes.now }
     ensures { result ≡ begins (slice_index mark 0) (slice_index mark 1) rest (drop at bytes.now) }

@@ -10,6 +10,7 @@ use lent_bytes::write;
 use soundness::row::HEAD;
 use space::words::{AXES, COUNTS, PLANE_WIDTH, WIDTH, wide};
 
+// A mark is an array in each function, for the same reason as in `layout`: no text lies in memory.
 pub fn header(counts: &[u16], room: &mut [u8], at: usize) -> usize
     requires { HeaderReady counts.now room.old at }
     ensures { Put room.old at (header_saved counts.now) result room.new }
